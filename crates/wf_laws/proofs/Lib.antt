@@ -1,0 +1,14 @@
+pub mod Track
+pub mod OwnRun
+pub mod Parts
+pub mod Root
+pub mod Safe
+pub mod Bodies
+pub mod Reach
+pub mod Growth
+pub mod Safety
+pub mod Address
+pub mod Depends
+pub mod Routes
+pub mod Splits
+pub mod Rows

@@ -1,0 +1,6 @@
+pub mod Lists
+pub mod Walks
+pub mod Runs
+pub mod Differ
+pub mod Level
+pub mod Taking
