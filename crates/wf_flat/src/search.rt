@@ -1,0 +1,60 @@
+// Search in a graph of numbered vertices.
+ghost use Rattle.std.specs.Prelude.{◌≡◌, ◌<◌, ◌≤◌, ◌+◌, ◌*◌, ◌++◌, ◌∷◌, ◌↔◌, [], List, ℕ, true, false, length, get_or, IfOk, OnOk, IsTrue, count_by, not, replicate};
+ghost use Rattle.wf_flat.specs.Search.{HasEdge, InRange, IsReached, IsSearch, nexts, Met, MetAll};
+ghost use Rattle.wf_model.specs.Lists.{IsIn};
+
+use std::alloc::{AllocError, Global};
+
+/// Adds a vertex to the queue, if it is not marked.
+fn meet(marks: &mut Vec<bool>, queue: &mut Vec<u32>, v: u32) -> Result<(), AllocError>
+    requires { v < length marks.old.items }
+    ensures { OnOk result (Met marks.old.items queue.old.items v marks.new.items queue.new.items) }
+{
+    if marks[v as usize] {
+        return Ok(());
+    }
+    marks[v as usize] = true;
+    queue.push(v)?;
+    Ok(())
+}
+
+/// Adds the vertices to which a vertex leads.
+fn meet_all(marks: &mut Vec<bool>, queue: &mut Vec<u32>, list: &[u32]) -> Result<(), AllocError>
+    requires { (w : ℕ) → IsIn w list.now → w < length marks.old.items }
+    ensures { OnOk result (MetAll marks.old.items queue.old.items list.now marks.new.items queue.new.items) }
+{
+    for v in list {
+        meet(marks, queue, *v)?;
+    }
+    Ok(())
+}
+
+/// So many flags that are not set.
+fn unmarked(alloc: Global, count: usize) -> Result<Vec<bool>, AllocError>
+    ensures { IfOk result (λ v. v.items ≡ replicate count false) }
+{
+    let mut flags = Vec::new(alloc);
+    for k in 0..count {
+        flags.push(false)?;
+    }
+    Ok(flags)
+}
+
+/// Whether a walk leads from one vertex to another. Each edge is looked at once.
+pub fn reaches(alloc: Global, graph: &[Vec<u32>], from: u32, to: u32) -> Result<bool, AllocError>
+    requires in_range { InRange graph.now }
+    requires from { from < length graph.now }
+    requires to { to < length graph.now }
+    ensures { IfOk result (λ b. IsTrue b ↔ IsReached graph.now from to) }
+{
+    let mut marks = unmarked(alloc, graph.len())?;
+    let mut queue = Vec::new(alloc);
+    meet(&mut marks, &mut queue, from)?;
+    let mut done = 0;
+    while done < queue.len() {
+        let v = queue[done] as usize;
+        meet_all(&mut marks, &mut queue, &graph[v])?;
+        done += 1;
+    }
+    Ok(marks[to as usize])
+}

@@ -1,0 +1,379 @@
+// A run as a table of numbered instances.
+ghost use Rattle.std.specs.Prelude.{◌≡◌, ◌<◌, ◌≤◌, ◌+◌, ◌^◌, ◌++◌, ◌∷◌, [], List, ℕ, Option, Some, None, false, length, take, drop, map, position, set, get_or, IfOk, IfErr, OnOk, OnErr, IfSome, bytes_eq, ◌⊎◌};
+ghost use Rattle.std.specs.List.{list_all};
+ghost use Rattle.std.specs.Result.{MatchResult};
+ghost use Rattle.wf_model.specs.declared.event.Event.TheVariants.{Start, Expand};
+ghost use Rattle.wf_model.specs.declared.event.RunFault.TheVariants.{NoMemory};
+ghost use Rattle.wf_model.specs.Faults.{is_name_byte, is_short_name, some_twice, fault_of, is_one_of};
+ghost use Rattle.wf_model.specs.Grammar.{body_of};
+ghost use Rattle.wf_flat.specs.Table.{Table, IsRunOf, events_of, names_in, children, with_children, root_instance, started_table, opened_table};
+
+use crate::names::Names;
+use std::alloc::{AllocError, Global};
+use std::marker::Model;
+use wf_spec::{Event, Grammar, ModNo, Name, Position, ProdNo, RunFault};
+
+/// An instance. The children of one that is expanded are consecutive.
+#[derive(Drop)]
+pub struct Inst {
+    pub name: Name,
+    pub module: ModNo,
+    pub parent: Option<u32>,
+    pub production: Option<ProdNo>,
+    pub first_child: u32,
+}
+
+/// An expansion: of which instance, by what, and where its children stand.
+#[derive(Clone, Copy, Drop)]
+pub struct Opened {
+    pub instance: u32,
+    pub production: ProdNo,
+    pub first: u32,
+    pub count: u32,
+}
+
+/// A run, as a table of numbered instances.
+#[derive(Drop)]
+pub struct PlainRun {
+    alloc: Global,
+    most: u32,
+    names: Names,
+    instances: Vec<Inst>,
+    order: Vec<Opened>,
+}
+
+impl Model for PlainRun {
+    ghost use Rattle.wf_flat.specs.Table.{Table, IsKept};
+
+    ghost Value = { Table };
+
+    ghost view = { λ r. record { most = r.most; instances = r.instances.items; order = r.order.items } };
+
+    ghost invariant = { λ r. IsKept r.most r.names r.instances.items r.order.items };
+}
+
+/// Whether a name is one of at most 64 bytes.
+fn is_short(name: &[u8]) -> bool
+    ensures { result ≡ is_short_name name.now }
+{
+    if name.is_empty() {
+        return false;
+    }
+    if name.len() > 64 {
+        return false;
+    }
+    are_of_names(name)
+}
+
+fn are_of_names(bytes: &[u8]) -> bool
+    ensures { result ≡ list_all is_name_byte bytes.now }
+{
+    bytes.iter().all(|b| is_of_name(*b))
+}
+
+fn is_of_name(b: u8) -> bool
+    ensures { result ≡ is_name_byte b }
+{
+    (97 <= b && b <= 122) || (65 <= b && b <= 90) || (48 <= b && b <= 57) || b == 95 || b == 45
+}
+
+fn are_short(names: &[Name]) -> bool
+    ensures { result ≡ list_all is_short_name names.now }
+{
+    for name in names {
+        if !is_short(name.bytes()) {
+            return false;
+        }
+    }
+    true
+}
+
+fn is_among(names: &[Name], name: &[u8]) -> bool
+    ensures { result ≡ is_one_of names.now name.now }
+{
+    for one in names {
+        if name == one.bytes() {
+            return true;
+        }
+    }
+    false
+}
+
+/// Whether a name of the list is taken, or stands twice in it.
+fn repeats(taken: &Names, names: &[Name]) -> bool
+    ensures { result ≡ some_twice taken.now names.now }
+{
+    for k in 0..names.len() {
+        let name = names[k].bytes();
+        if taken.holds(name) || is_among(&names[..k], name) {
+            return true;
+        }
+    }
+    false
+}
+
+/// Appends the instances that an expansion makes. After an error some of them may be there.
+fn append_children(alloc: Global, instances: &mut Vec<Inst>, parent: u32, names: &[Name], body: &[Position]) -> Result<(), AllocError>
+    requires { length names.now ≡ length body.now }
+    ensures added { OnOk result (instances.new.items ≡ instances.old.items ++ children parent names.now body.now) }
+    ensures begins { OnErr result (take (length instances.old.items) instances.new.items ≡ instances.old.items) }
+{
+    for k in 0..names.len() {
+        let bytes = Vec::from_slice(alloc, names[k].bytes())?;
+        let module = body[k].module;
+        instances.push(Inst {
+            name: Name::from_vec(bytes),
+            module,
+            parent: Some(parent),
+            production: None,
+            first_child: 0,
+        })?;
+    }
+    Ok(())
+}
+
+/// Adds an expansion and its children, or leaves all as it was.
+fn grow(alloc: Global, taken: &mut Names, instances: &mut Vec<Inst>, order: &mut Vec<Opened>, opened: Opened, names: &[Name], body: &[Position]) -> Result<(), AllocError>
+    requires there { opened.instance < length instances.old.items }
+    requires one_each { length names.now ≡ length body.now }
+    requires same_names { taken.old ≡ names_in instances.old.items }
+    requires fresh { some_twice taken.old names.now ≡ false }
+    ensures names { OnOk result (taken.new ≡ taken.old ++ names.now) }
+    ensures instances { OnOk result (instances.new.items ≡ with_children instances.old.items opened names.now body.now) }
+    ensures order { OnOk result (order.new.items ≡ order.old.items ++ opened ∷ []) }
+    ensures same_taken { OnErr result (taken.new ≡ taken.old) }
+    ensures same_instances { OnErr result (instances.new.items ≡ instances.old.items) }
+    ensures same_order { OnErr result (order.new.items ≡ order.old.items) }
+{
+    let before = instances.len();
+    if let Err(fault) = append_children(alloc, instances, opened.instance, names, body) {
+        instances.truncate(before);
+        return Err(fault);
+    }
+    if let Err(fault) = taken.add_all(names) {
+        instances.truncate(before);
+        return Err(fault);
+    }
+    if order.push(opened).is_err() {
+        instances.truncate(before);
+        taken.cut(before);
+        return Err(AllocError);
+    }
+    let x = &mut instances[opened.instance as usize];
+    x.production = Some(opened.production);
+    x.first_child = opened.first;
+    Ok(())
+}
+
+/// Adds the root, or leaves all as it was.
+fn plant(alloc: Global, taken: &mut Names, instances: &mut Vec<Inst>, module: ModNo, name: &[u8]) -> Result<(), AllocError>
+    requires no_names { taken.old ≡ [] }
+    requires no_instances { instances.old.items ≡ [] }
+    ensures names { OnOk result (taken.new ≡ name.now ∷ []) }
+    ensures instances { OnOk result (instances.new.items ≡ root_instance «module» name.now ∷ []) }
+    ensures same_taken { OnErr result (taken.new ≡ taken.old) }
+    ensures same_instances { OnErr result (instances.new.items ≡ instances.old.items) }
+{
+    let bytes = Vec::from_slice(alloc, name)?;
+    instances.push(Inst {
+        name: Name::from_vec(bytes),
+        module,
+        parent: None,
+        production: None,
+        first_child: 0,
+    })?;
+    if let Err(fault) = taken.add(name) {
+        instances.truncate(0);
+        return Err(fault);
+    }
+    Ok(())
+}
+
+impl PlainRun {
+    ghost use Rattle.wf_flat.specs.Table.{IsOpenedIn};
+    ghost use Rattle.wf_model.specs.Lists.{IsIn};
+    ghost use Rattle.wf_flat.specs.declared.table.Opened.{Opened};
+
+    /// A run before its start.
+    pub fn new(alloc: Global, most: u32) -> PlainRun
+        ensures { result ≡ record { most = most; instances = []; order = [] } }
+    {
+        PlainRun {
+            alloc,
+            most,
+            names: Names::new(alloc),
+            instances: Vec::new(alloc),
+            order: Vec::new(alloc),
+        }
+    }
+
+    /// The instances, in order of making.
+    pub fn instances(&self) -> &[Inst]
+        ensures instances { result.now ≡ self.now.instances }
+        ensures few { length result.now ≤ self.now.most }
+        ensures small { length result.now < 2 ^ 32 }
+        ensures opened { (o : Opened) → IsIn o self.now.order → IsOpenedIn (length self.now.instances) o }
+    {
+        let _most = self.most;
+        &self.instances
+    }
+
+    /// The expansions, in their order.
+    pub(crate) fn order(&self) -> &[Opened]
+        ensures { result.now ≡ self.now.order }
+    {
+        &self.order
+    }
+
+    /// The number of the instance of a name.
+    pub fn find(&self, name: &[u8]) -> Option<u32>
+        ensures place { result ≡ position (bytes_eq name.now) (names_in self.now.instances) }
+        ensures within { IfSome result (λ i. i < length self.now.instances) }
+    {
+        let most = self.most;
+        let _all = self.instances.len();
+        let i = self.names.find(name)?;
+        prove!(i < most as usize);
+        Some(i as u32)
+    }
+
+    /// Takes an event, if it extends the run.
+    pub fn take(&mut self, g: &Grammar, e: &Event) -> Result<(), RunFault>
+        requires { IsRunOf g.now self.old }
+        ensures taken { OnOk result (events_of self.new ≡ events_of self.old ++ e.now ∷ []) }
+        ensures extends { OnOk result (fault_of g.now self.old.most (events_of self.old) e.now ≡ None) }
+        ensures refused { IfErr result (λ f. (f ≡ NoMemory) ⊎ (fault_of g.now self.old.most (events_of self.old) e.now ≡ Some f)) }
+        ensures unchanged { OnErr result (self.new ≡ self.old) }
+        ensures run { IsRunOf g.now self.new }
+        ensures most { self.new.most ≡ self.old.most }
+    {
+        match e {
+            Event::Start { name } => self.take_start(g, name.bytes()),
+            Event::Expand {
+                instance,
+                production,
+                names,
+            } => self.take_expand(g, instance.bytes(), *production, names.items()),
+        }
+    }
+
+    fn take_start(&mut self, g: &Grammar, name: &[u8]) -> Result<(), RunFault>
+        requires { IsRunOf g.now self.old }
+        ensures taken { OnOk result (events_of self.new ≡ events_of self.old ++ Start name.now ∷ []) }
+        ensures extends { OnOk result (fault_of g.now self.old.most (events_of self.old) (Start name.now) ≡ None) }
+        ensures refused { IfErr result (λ f. (f ≡ NoMemory) ⊎ (fault_of g.now self.old.most (events_of self.old) (Start name.now) ≡ Some f)) }
+        ensures unchanged { OnErr result (self.new ≡ self.old) }
+        ensures run { IsRunOf g.now self.new }
+        ensures most { self.new.most ≡ self.old.most }
+    {
+        if let Some(fault) = self.start_fault(g, name) {
+            return Err(fault);
+        }
+        self.start(g.start(), name)?;
+        Ok(())
+    }
+
+    fn start_fault(&self, g: &Grammar, name: &[u8]) -> Option<RunFault>
+        requires { IsRunOf g.now self.now }
+        ensures { result ≡ fault_of g.now self.now.most (events_of self.now) (Start name.now) }
+    {
+        if !self.instances.is_empty() {
+            return Some(RunFault::StartedTwice);
+        }
+        if !is_short(name) {
+            return Some(RunFault::NameBad);
+        }
+        if self.most < 1 {
+            return Some(RunFault::TooManyInstances);
+        }
+        None
+    }
+
+    fn take_expand(&mut self, g: &Grammar, instance: &[u8], production: u64, names: &[Name]) -> Result<(), RunFault>
+        requires { IsRunOf g.now self.old }
+        ensures taken { OnOk result (events_of self.new ≡ events_of self.old ++ Expand instance.now production names.now ∷ []) }
+        ensures extends { OnOk result (fault_of g.now self.old.most (events_of self.old) (Expand instance.now production names.now) ≡ None) }
+        ensures refused { IfErr result (λ f. (f ≡ NoMemory) ⊎ (fault_of g.now self.old.most (events_of self.old) (Expand instance.now production names.now) ≡ Some f)) }
+        ensures unchanged { OnErr result (self.new ≡ self.old) }
+        ensures run { IsRunOf g.now self.new }
+        ensures most { self.new.most ≡ self.old.most }
+    {
+        let _all = self.instances.len();
+        let k = self.place(g, instance, production, names)?;
+        let body = g.productions()[production as usize].positions();
+        self.expand(k, ProdNo(production as u16), names, body)?;
+        Ok(())
+    }
+
+    /// The number of the instance that an event may expand.
+    fn place(&self, g: &Grammar, instance: &[u8], production: u64, names: &[Name]) -> Result<u32, RunFault>
+        requires { IsRunOf g.now self.now }
+        ensures refused { IfErr result (λ f. fault_of g.now self.now.most (events_of self.now) (Expand instance.now production names.now) ≡ Some f) }
+        ensures extends { OnOk result (fault_of g.now self.now.most (events_of self.now) (Expand instance.now production names.now) ≡ None) }
+        ensures place { IfOk result (λ k. position (bytes_eq instance.now) (names_in self.now.instances) ≡ Some k) }
+    {
+        if self.instances.is_empty() {
+            return Err(RunFault::NotStarted);
+        }
+        let Some(k) = self.find(instance) else {
+            return Err(RunFault::UnknownInstance);
+        };
+        let productions = g.productions();
+        if productions.len() as u64 <= production {
+            return Err(RunFault::UnknownProduction);
+        }
+        let rule = &productions[production as usize];
+        let x = &self.instances[k as usize];
+        if x.module != rule.head() {
+            return Err(RunFault::WrongHead);
+        }
+        if x.production.is_some() {
+            return Err(RunFault::AlreadyExpanded);
+        }
+        if names.len() != rule.positions().len() {
+            return Err(RunFault::PositionsWrong);
+        }
+        if !are_short(names) {
+            return Err(RunFault::NameBad);
+        }
+        if repeats(&self.names, names) {
+            return Err(RunFault::NameTwice);
+        }
+        if (self.most as usize) < self.instances.len() + names.len() {
+            return Err(RunFault::TooManyInstances);
+        }
+        Ok(k)
+    }
+
+    fn start(&mut self, module: ModNo, name: &[u8]) -> Result<(), AllocError>
+        requires no_instances { self.old.instances ≡ [] }
+        requires no_order { self.old.order ≡ [] }
+        requires room { 0 < self.old.most }
+        ensures started { OnOk result (self.new ≡ started_table self.old.most «module» name.now) }
+        ensures unchanged { OnErr result (self.new ≡ self.old) }
+    {
+        plant(self.alloc, &mut self.names, &mut self.instances, module, name)?;
+        Ok(())
+    }
+
+    fn expand(&mut self, k: u32, production: ProdNo, names: &[Name], body: &[Position]) -> Result<(), AllocError>
+        requires there { k < length self.old.instances }
+        requires one_each { length names.now ≡ length body.now }
+        requires fresh { some_twice (names_in self.old.instances) names.now ≡ false }
+        requires room { length self.old.instances + length names.now ≤ self.old.most }
+        ensures opened { OnOk result (self.new ≡ opened_table self.old k production names.now body.now) }
+        ensures unchanged { OnErr result (self.new ≡ self.old) }
+    {
+        let most = self.most as usize;
+        let before = self.instances.len();
+        prove!(before + names.len() <= most);
+        let opened = Opened {
+            instance: k,
+            production,
+            first: before as u32,
+            count: names.len() as u32,
+        };
+        grow(self.alloc, &mut self.names, &mut self.instances, &mut self.order, opened, names, body)?;
+        Ok(())
+    }
+}
