@@ -1,4 +1,3 @@
-pub mod Named
 pub mod Table
 pub mod Graph
 pub mod Search

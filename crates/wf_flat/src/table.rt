@@ -8,9 +8,10 @@ ghost use Rattle.wf_model.specs.Faults.{is_name_byte, is_short_name, some_twice,
 ghost use Rattle.wf_model.specs.Grammar.{body_of};
 ghost use Rattle.wf_flat.specs.Table.{Table, IsRunOf, events_of, names_in, children, with_children, root_instance, started_table, opened_table};
 
-use crate::names::Names;
+
 use std::alloc::{AllocError, Global};
 use std::marker::Model;
+use wf_names::Names;
 use wf_spec::{Event, Grammar, ModNo, Name, Position, ProdNo, RunFault};
 
 /// An instance. The children of one that is expanded are consecutive.

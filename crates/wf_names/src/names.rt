@@ -1,12 +1,12 @@
 // Names and their numbers.
 ghost use Rattle.std.specs.Prelude.{◌≡◌, ◌<◌, ◌++◌, ◌∷◌, [], List, ℕ, Option, Some, None, false, length, take, map, position, IfOk, OnOk, OnErr, IfSome, bytes_eq};
 ghost use Rattle.wf_model.specs.Faults.{is_one_of, some_twice};
-ghost use Rattle.wf_flat.specs.Named.{bytes_of};
+ghost use Rattle.wf_names.specs.Names.{bytes_of};
 
 use indexmap::IndexSet;
 use std::alloc::{AllocError, Global};
 use std::marker::Model;
-use wf_spec::Name;
+use wf_model::Name;
 
 fn holds(names: &IndexSet<Vec<u8>>, name: &[u8]) -> bool
     ensures { result ≡ is_one_of (bytes_of names.now.keys) name.now }
