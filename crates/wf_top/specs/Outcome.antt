@@ -1,0 +1,126 @@
+-- What the program does, by its words and the files that they name: how it ends, and the text that it writes to out.
+use Rattle.std.specs.Prelude.{◌≡◌, ◌⊎◌, ◌<◌, ◌≤◌, ℕ, Bool, true, false, cond, List, [], ◌∷◌, ◌++◌, length, IsTrue, Option, Some, None, Ok, bytes_eq, codes}
+use Rattle.serde_json.specs.Data.{Data}
+use Rattle.wf_model.specs.declared.parts.Parts.{Parts}
+use Rattle.wf_model.specs.declared.event.Event.{Event}
+use Rattle.wf_model.specs.Grammar.{Grammar}
+use Rattle.wf_model.specs.View.{View as ViewOf}
+use Rattle.wf_model.specs.DefaultView.{default_view}
+use Rattle.wf_model.specs.Run.{IsAccepted, IsFinished}
+use Rattle.wf_io.specs.Told.{File}
+use Rattle.wf_io.specs.Lines.{Line, is_too_long, text_of, lines_of}
+use Rattle.wf_json.specs.Reading.{IsReading}
+use Rattle.wf_json.specs.SpecForm.{spec_of}
+use Rattle.wf_events.specs.EventForm.{event_of}
+use Rattle.wf_query.specs.Line.{IsQuery}
+use Rattle.wf_spec.specs.Forming.{grammar_of, IsFormed, IsPlain}
+use Rattle.wf_top.specs.declared.ending.Ending.{Ending}
+use Rattle.wf_top.specs.declared.ending.Ending.TheVariants.{Done, Usage, Refused, ReadFault}
+use Rattle.wf_top.specs.declared.ending.Place.{Place}
+use Rattle.wf_top.specs.declared.ending.Place.TheVariants.{Spec, View, Events, Queries}
+use Rattle.wf_top.specs.Answers.{IsAnswer}
+
+-- A stage reads a whole file of at most so many bytes, takes from it a value that the bytes tell, and goes on with it.
+-- It ends the program where the file is longer, is broken, or tells no value.
+pub data Stage {A : Type 0} (most : ℕ) (place : Place) (file : File) (Tells : List ℕ → A → Type 0) (Next : A → Ending → List ℕ → Type 0) (ending : Ending) (text : List ℕ) : Type 0 where
+  too_long : most < length file.bytes → ending ≡ Refused place → text ≡ [] → Stage most place file Tells Next ending text
+  broken : length file.bytes ≤ most → file.broken ≡ true → ending ≡ ReadFault place → text ≡ [] → Stage most place file Tells Next ending text
+  refused : length file.bytes ≤ most → file.broken ≡ false → ((a : A) → Tells file.bytes a → ⊥) → ending ≡ Refused place → text ≡ [] → Stage most place file Tells Next ending text
+  goes_on : length file.bytes ≤ most → file.broken ≡ false → (a : A) → Tells file.bytes a → Next a ending text → Stage most place file Tells Next ending text
+
+-- the bytes are a specification in JSON
+abbrev pub IsSpecText : List ℕ → Parts → Type 0
+IsSpecText bytes parts = (d : Data) × IsReading bytes d × (spec_of d ≡ Ok parts)
+
+-- the bytes are the specification of this grammar
+pub record TellsGrammar (bytes : List ℕ) (g : Grammar) : Type 0 where
+  pub parts : Parts
+  pub read : IsSpecText bytes parts
+  pub formed : IsFormed parts
+  pub plain : IsPlain (grammar_of parts)
+  pub is : g ≡ grammar_of parts
+
+-- the bytes are the default view's: `{}`, with or without a newline
+abbrev pub TellsView : Grammar → List ℕ → ViewOf → Type 0
+TellsView g bytes u = ((bytes ≡ codes "{}") ⊎ (bytes ≡ codes "{}\n")) × (u ≡ default_view g)
+
+-- the line is not too long and tells this event
+abbrev pub IsEventLine : Line → Event → Type 0
+IsEventLine l e = (is_too_long l.raw ≡ false) × ((d : Data) × IsReading (text_of l.raw) d × (event_of d ≡ Some e))
+
+-- each line tells its event
+abbrev pub AreEvents : List Line → List Event → Type 0
+AreEvents [] [] = Unit {0}
+AreEvents [] (e ∷ es) = ⊥
+AreEvents (l ∷ ls) [] = ⊥
+AreEvents (l ∷ ls) (e ∷ es) = IsEventLine l e × AreEvents ls es
+
+-- the bytes tell a run that is accepted with this limit on its instances, and finished under the view
+pub record TellsRun (g : Grammar) (u : ViewOf) (limit : ℕ) (bytes : List ℕ) (events : List Event) : Type 0 where
+  pub read : AreEvents (lines_of bytes) events
+  pub accepted : IsAccepted g limit events
+  pub finished : IsFinished g u g.start events
+
+-- the line is not too long, and asks whether the second item depends on the first
+abbrev pub IsQueryLine : Line → List ℕ → List ℕ → Type 0
+IsQueryLine l first second = (is_too_long l.raw ≡ false) × IsQuery (text_of l.raw) first second
+
+-- a line of query and its line of answer
+pub record IsAnswered (g : Grammar) (u : ViewOf) (e : List Event) (l : Line) (written : List ℕ) : Type 0 where
+  pub first : List ℕ
+  pub second : List ℕ
+  pub query : IsQueryLine l first second
+  pub answer : List ℕ
+  pub is : IsAnswer g u e first second answer
+  pub line : written ≡ answer ++ codes "\n"
+
+-- Lines of queries are answered one by one, up to the first that is none
+abbrev pub AreAnswered : Grammar → ViewOf → List Event → List Line → Ending → List ℕ → Type 0
+AreAnswered g u e [] ending text = (ending ≡ Done) × (text ≡ [])
+AreAnswered g u e (l ∷ ls) ending text =
+    (((first second : List ℕ) → IsQueryLine l first second → ⊥) × (ending ≡ Refused Queries) × (text ≡ [])) ⊎
+    ((written : List ℕ) × (rest : List ℕ) × IsAnswered g u e l written × (text ≡ written ++ rest) × AreAnswered g u e ls ending rest)
+
+-- the bytes hold these lines
+abbrev pub TellsLines : List ℕ → List Line → Type 0
+TellsLines bytes ls = ls ≡ lines_of bytes
+
+-- the greatest lengths of files, in bytes, and the greatest number of instances of a run
+abbrev pub short_most : ℕ
+short_most = 16777216
+abbrev pub long_most : ℕ
+long_most = 1073741824
+abbrev pub instance_most : ℕ
+instance_most = 16777216
+
+-- `trace` over the four files
+abbrev pub Traces : File → File → File → File → Ending → List ℕ → Type 0
+Traces spec view events queries =
+    Stage short_most Spec spec TellsGrammar (λ g.
+    Stage short_most View view (TellsView g) (λ u.
+    Stage long_most Events events (TellsRun g u instance_most) (λ e.
+    Stage long_most Queries queries TellsLines (λ ls.
+    AreAnswered g u e ls))))
+
+-- the words of a command, by the names of its files
+pub data Command : Type 0 where
+  Trace : List ℕ → List ℕ → List ℕ → List ℕ → Command
+
+-- the command that the words are
+abbrev pub command_of : List (List ℕ) → Option Command
+command_of [] = None
+command_of (c ∷ []) = None
+command_of (c ∷ s ∷ []) = None
+command_of (c ∷ s ∷ v ∷ []) = None
+command_of (c ∷ s ∷ v ∷ e ∷ []) = None
+command_of (c ∷ s ∷ v ∷ e ∷ q ∷ []) = cond (bytes_eq c (codes "trace")) (Some (Trace s v e q)) None
+command_of (c ∷ s ∷ v ∷ e ∷ q ∷ w ∷ ws) = None
+
+-- what a command does over files
+abbrev pub Does : (List ℕ → File) → Option Command → Ending → List ℕ → Type 0
+Does files None ending text = (ending ≡ Usage) × (text ≡ [])
+Does files (Some (Trace s v e q)) ending text = Traces (files s) (files v) (files e) (files q) ending text
+
+-- how the program ends over files, and the text that it writes to out
+abbrev pub IsOutcome : (List ℕ → File) → List (List ℕ) → Ending → List ℕ → Type 0
+IsOutcome files words ending text = Does files (command_of words) ending text
