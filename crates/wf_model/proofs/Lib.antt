@@ -4,3 +4,4 @@ pub mod Runs
 pub mod Differ
 pub mod Level
 pub mod Taking
+pub mod Whole
