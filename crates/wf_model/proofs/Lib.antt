@@ -5,3 +5,4 @@ pub mod Differ
 pub mod Level
 pub mod Taking
 pub mod Whole
+pub mod ItemNames
