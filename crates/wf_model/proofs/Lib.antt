@@ -6,3 +6,4 @@ pub mod Level
 pub mod Taking
 pub mod Whole
 pub mod ItemNames
+pub mod Idle
