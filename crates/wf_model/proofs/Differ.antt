@@ -35,4 +35,3 @@ one_of_name (x ∷ is) d i j (inl h) (inl k) e = h ∙ sym k
 one_of_name (x ∷ is) d i j (inl h) (inr k) e = absurd (d.0 (subst (λ z. IsIn z (names_of is)) (sym e ∙ ap (λ (z : Instance). z.name) h) (name_in j is k)))
 one_of_name (x ∷ is) d i j (inr h) (inl k) e = absurd (d.0 (subst (λ z. IsIn z (names_of is)) (e ∙ ap (λ (z : Instance). z.name) k) (name_in i is h)))
 one_of_name (x ∷ is) d i j (inr h) (inr k) e = one_of_name is d.1 i j h k e
-

@@ -4,3 +4,6 @@ pub mod Runs
 pub mod Differ
 pub mod Level
 pub mod Taking
+pub mod Whole
+pub mod ItemNames
+pub mod Idle

@@ -108,9 +108,10 @@ pub twice_gives : (taken ns : List (List ℕ)) → some_twice taken ns ≡ false
 twice_gives taken [] e = (tt, λ n h k. h)
 twice_gives taken (x ∷ ns) e =
     let o = or_none (is_one_of taken x) (some_twice (taken ++ x ∷ []) ns) e in
-    let r = twice_gives (taken ++ x ∷ []) ns o.1 in
-    (((λ h. r.1 x h (in_append_right x taken (x ∷ []) (inl refl))), r.0),
-    λ n h k. ⊎_elim (λ (d : n ≡ x). among_not x taken o.0 (subst (λ z. IsIn z taken) d k)) (λ i. r.1 n i (in_append_left n taken (x ∷ []) k)) h)
+    let r = twice_gives (taken ++ x ∷ []) ns o.1 in (
+      ((λ h. r.1 x h (in_append_right x taken (x ∷ []) (inl refl))), r.0),
+      λ n h k. ⊎_elim (λ (d : n ≡ x). among_not x taken o.0 (subst (λ z. IsIn z taken) d k)) (λ i. r.1 n i (in_append_left n taken (x ∷ []) k)) h,
+    )
 
 pub twice_from : (taken ns : List (List ℕ)) → AllDiffer ns → ((n : List ℕ) → IsIn n ns → IsIn n taken → ⊥) → some_twice taken ns ≡ false
 twice_from taken [] d h = refl
@@ -198,8 +199,7 @@ module _ (g : Grammar) (most : ℕ) (before : List Event) (acc : IsAccepted g mo
         differ = twice.0;
         new = twice.1;
       } in
-      let room : length is + length names ≤ most = let t : nat_lt most (length is + length names) ≡ false = t9.0 in grind (arith, nat_tests) in
-      (
+      let room : length is + length names ≤ most = let t : nat_lt most (length is + length names) ≡ false = t9.0 in grind (arith, nat_tests) in (
         extended g g.start [] before (Expand i p names) acc.0 can,
         subst (λ n. n ≤ most) (sym (made_count i p names each)) room,
         λ n k. ⊎_elim (λ a. acc.2 n a) (λ a. (short n a).1) (name_cases g g.start before i p names n k),

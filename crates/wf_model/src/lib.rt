@@ -11,4 +11,7 @@ pub use body::{Edge, Inner, Position, Step};
 pub use event::{Event, RunFault};
 pub use name::{Name, Seq};
 pub use numbers::{EdgeNo, ModNo, PortNo, PosNo, ProdNo, Side};
-pub use parts::{DepsPart, EdgePart, EntryPart, ExitPart, ModulePart, PairPart, Parts, PortPart, PosPart, ProdPart, ViewParts};
+pub use parts::{
+    DepsPart, EdgePart, EntryPart, ExitPart, ModulePart, PairPart, Parts, PortPart, PosPart,
+    ProdPart, ViewParts,
+};
