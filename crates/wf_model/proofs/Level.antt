@@ -60,7 +60,7 @@ wiring_to g p wf l h =
     (in_append_cases l (entry_links 0 r.entries) (exit_links 0 r.exits) b))
     (in_append_cases l (map edge_link r.edges) (entry_links 0 r.entries ++ exit_links 0 r.exits) h)
 
-in_numbers : (i k n : ℕ) → IsIn i (numbers_from k n) → i < k + n
+pub in_numbers : (i k n : ℕ) → IsIn i (numbers_from k n) → i < k + n
 in_numbers i k zero h = absurd h
 in_numbers i k (suc n) (inl e) = omega arith
 in_numbers i k (suc n) (inr h) = let r : i < suc k + n = in_numbers i (suc k) n h in omega arith

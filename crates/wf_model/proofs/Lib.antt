@@ -7,3 +7,4 @@ pub mod Taking
 pub mod Whole
 pub mod ItemNames
 pub mod Idle
+pub mod SameLinks
