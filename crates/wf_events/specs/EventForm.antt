@@ -1,0 +1,43 @@
+-- The form of an event line.
+use Rattle.std.specs.Prelude.{◌≡◌, ℕ, List, Option, Some, None, option_map, option_and_then, codes}
+use Rattle.serde_json.specs.Data.{Data}
+use Rattle.serde_json.specs.Find.{as_number, as_u64, get}
+use Rattle.wf_model.specs.declared.event.Event.{Event}
+use Rattle.wf_model.specs.declared.event.Event.TheVariants.{Start, Expand}
+use Rattle.wf_json.specs.Reading.{IsReading, HasNoReading}
+use Rattle.wf_json.specs.Forms.{text_form, list_form, member_form}
+use Rattle.wf_events.specs.declared.fault.EventFault.{EventFault}
+use Rattle.wf_events.specs.declared.fault.EventFault.TheVariants.{NotJson, WrongShape, NoMemory}
+
+-- a whole number below 2^64: a JSON number without sign, fraction and exponent
+abbrev pub whole_form : Data → Option ℕ
+whole_form d = option_and_then as_u64 (as_number d)
+
+-- a start event, by what stands in `start`
+abbrev pub start_form : Data → Option Event
+start_form s = option_map (λ n. Start n) (text_form s)
+
+-- an expand event, by what stands in `expand` and by the value
+abbrev pub expand_form : Data → Data → Option Event
+expand_form i d =
+    option_and_then (λ n. option_and_then (λ p. option_map (λ ns. Expand n p ns)
+    (member_form (codes "names") (list_form text_form) d))
+    (member_form (codes "production") whole_form d))
+    (text_form i)
+
+-- by what stands in `start` and in `expand`, of which one is there
+abbrev pub event_by : Option Data → Option Data → Data → Option Event
+event_by None None d = None
+event_by (Some s) None d = start_form s
+event_by None (Some i) d = expand_form i d
+event_by (Some s) (Some i) d = None
+
+-- the event that a value is
+abbrev pub event_of : Data → Option Event
+event_of d = event_by (get (codes "start") d) (get (codes "expand") d) d
+
+-- what a refusal of an event line says of the line
+abbrev pub IsRefusal : List ℕ → EventFault → Type 0
+IsRefusal line NotJson = HasNoReading line
+IsRefusal line WrongShape = (d : Data) × IsReading line d × (event_of d ≡ None)
+IsRefusal line NoMemory = Unit {0}
