@@ -85,3 +85,10 @@ abbrev pub IsRefusal : List ℕ → JsonFault → Type 0
 IsRefusal bytes NotJson = HasNoReading bytes
 IsRefusal bytes (WrongShape m) = (d : Data) × IsReading bytes d × (spec_of d ≡ Err m)
 IsRefusal bytes NoMemory = Unit {0}
+
+-- a result says what the value is; want of memory says nothing
+abbrev pub IsToldBy : Data → Result Parts JsonFault → Type 0
+IsToldBy d (Ok p) = spec_of d ≡ Ok p
+IsToldBy d (Err NotJson) = ⊥
+IsToldBy d (Err (WrongShape m)) = spec_of d ≡ Err m
+IsToldBy d (Err NoMemory) = Unit {0}

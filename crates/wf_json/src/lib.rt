@@ -2,7 +2,12 @@
 #![tactic(auto)]
 
 mod fault;
+mod form;
+mod parts;
+mod reading;
 mod spec;
 
 pub use fault::{JsonFault, Member};
+pub use form::{FromJson, list, member, pair};
+pub use reading::{TextFault, read_value};
 pub use spec::read_spec;

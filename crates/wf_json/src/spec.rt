@@ -1,12 +1,16 @@
 // Reading a specification.
 ghost use Rattle.std.specs.Prelude.{◌≡◌, IfOk, IfErr};
 ghost use Rattle.serde_json.specs.Data.{Data};
+ghost use Rattle.serde_json.specs.View.{view};
 ghost use Rattle.wf_json.specs.Reading.{IsReading};
-ghost use Rattle.wf_json.specs.SpecForm.{spec_of, IsRefusal};
+ghost use Rattle.wf_json.specs.SpecForm.{spec_of, IsRefusal, IsToldBy};
 
-use crate::fault::JsonFault;
+use crate::fault::{JsonFault, Member};
+use crate::form::{list, member};
+use crate::reading::{TextFault, read_value};
+use serde_json::Value;
 use std::alloc::Global;
-use wf_model::Parts;
+use wf_model::{DepsPart, ModulePart, Name, Parts, ProdPart, Seq};
 
 /// Reads a specification from a JSON text.
 ///
@@ -17,7 +21,46 @@ pub fn read_spec(alloc: Global, bytes: &[u8]) -> Result<Parts, JsonFault>
     ensures ok { IfOk result (λ p. (d : Data) × IsReading bytes.now d × (spec_of d ≡ Ok p)) }
     ensures refused { IfErr result (λ f. IsRefusal bytes.now f) }
 {
-    let _ = alloc;
-    let _ = bytes;
-    Err(JsonFault::NoMemory)
+    match read_value(alloc, bytes) {
+        Ok(value) => spec_in(alloc, &value),
+        Err(TextFault::NotJson) => Err(JsonFault::NotJson),
+        Err(TextFault::NoMemory) => Err(JsonFault::NoMemory),
+    }
+}
+
+/// Reads a specification from a value.
+fn spec_in(alloc: Global, value: &Value) -> Result<Parts, JsonFault>
+    ensures { IsToldBy (view value.now) result }
+{
+    if !value.is_object() {
+        return Err(JsonFault::WrongShape {
+            member: Member::Top,
+        });
+    }
+    let Some(start) = member::<Name>(alloc, value, "start")? else {
+        return Err(JsonFault::WrongShape {
+            member: Member::Start,
+        });
+    };
+    let Some(modules) = member::<Seq<ModulePart>>(alloc, value, "modules")? else {
+        return Err(JsonFault::WrongShape {
+            member: Member::Modules,
+        });
+    };
+    let Some(productions) = list::<ProdPart>(alloc, value, "productions")? else {
+        return Err(JsonFault::WrongShape {
+            member: Member::Productions,
+        });
+    };
+    let Some(deps) = list::<DepsPart>(alloc, value, "deps")? else {
+        return Err(JsonFault::WrongShape {
+            member: Member::DepsList,
+        });
+    };
+    Ok(Parts {
+        start,
+        modules,
+        productions,
+        deps,
+    })
 }

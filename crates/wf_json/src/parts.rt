@@ -1,0 +1,164 @@
+// The parts of a specification, by their forms.
+ghost use Rattle.std.specs.Prelude.{◌≡◌, ◌==◌, ℕ, List, Option, position, IfOk};
+ghost use Rattle.wf_json.specs.Forms.{port_of, port_form};
+ghost use Rattle.wf_json.specs.SpecForm.{module_form, position_form, edge_form, entry_form, exit_form, production_form, ports_form, deps_form};
+
+use crate::form::{FromJson, list, member, pair};
+use serde_json::Value;
+use std::alloc::{AllocError, Global};
+use wf_model::{
+    DepsPart, EdgePart, EntryPart, ExitPart, ModulePart, Name, PairPart, PortPart, PosPart,
+    ProdPart, Seq,
+};
+
+/// The place of the first dot.
+fn dot_in(text: &[u8]) -> Option<usize>
+    ensures { result ≡ position (λ b. b == 46) text.now }
+{
+    text.iter().position(|b| *b == b'.')
+}
+
+/// The position before the first dot and the port after it.
+fn port(alloc: Global, text: &[u8]) -> Result<Option<PortPart>, AllocError>
+    ensures { IfOk result (λ o. o ≡ port_of text.now) }
+{
+    let Some(i) = dot_in(text) else {
+        return Ok(None);
+    };
+    let before = Vec::from_slice(alloc, &text[..i])?;
+    let after = Vec::from_slice(alloc, &text[i + 1..])?;
+    Ok(Some(PortPart {
+        pos: Name::from_vec(before),
+        port: Name::from_vec(after),
+    }))
+}
+
+impl FromJson for PortPart {
+    ghost form = { port_form };
+
+    fn from_json(alloc: Global, value: &Value) -> Result<Option<PortPart>, AllocError> {
+        match value.as_str() {
+            Some(text) => port(alloc, text.as_bytes()),
+            None => Ok(None),
+        }
+    }
+}
+
+impl FromJson for PosPart {
+    ghost form = { position_form };
+
+    fn from_json(alloc: Global, value: &Value) -> Result<Option<PosPart>, AllocError> {
+        let Some((name, module)) = pair::<Name, Name>(alloc, value)? else {
+            return Ok(None);
+        };
+        Ok(Some(PosPart { name, module }))
+    }
+}
+
+impl FromJson for EdgePart {
+    ghost form = { edge_form };
+
+    fn from_json(alloc: Global, value: &Value) -> Result<Option<EdgePart>, AllocError> {
+        let Some((from, to)) = pair::<PortPart, PortPart>(alloc, value)? else {
+            return Ok(None);
+        };
+        Ok(Some(EdgePart { from, to }))
+    }
+}
+
+impl FromJson for EntryPart {
+    ghost form = { entry_form };
+
+    fn from_json(alloc: Global, value: &Value) -> Result<Option<EntryPart>, AllocError> {
+        let Some((port, to)) = pair::<Name, PortPart>(alloc, value)? else {
+            return Ok(None);
+        };
+        Ok(Some(EntryPart { port, to }))
+    }
+}
+
+impl FromJson for ExitPart {
+    ghost form = { exit_form };
+
+    fn from_json(alloc: Global, value: &Value) -> Result<Option<ExitPart>, AllocError> {
+        let Some((from, port)) = pair::<PortPart, Name>(alloc, value)? else {
+            return Ok(None);
+        };
+        Ok(Some(ExitPart { from, port }))
+    }
+}
+
+impl FromJson for PairPart {
+    ghost form = { ports_form };
+
+    fn from_json(alloc: Global, value: &Value) -> Result<Option<PairPart>, AllocError> {
+        let Some((input, output)) = pair::<Name, Name>(alloc, value)? else {
+            return Ok(None);
+        };
+        Ok(Some(PairPart { input, output }))
+    }
+}
+
+impl FromJson for ModulePart {
+    ghost form = { module_form };
+
+    fn from_json(alloc: Global, value: &Value) -> Result<Option<ModulePart>, AllocError> {
+        let Some(name) = member::<Name>(alloc, value, "name")? else {
+            return Ok(None);
+        };
+        let Some(inputs) = list::<Name>(alloc, value, "in")? else {
+            return Ok(None);
+        };
+        let Some(outputs) = list::<Name>(alloc, value, "out")? else {
+            return Ok(None);
+        };
+        Ok(Some(ModulePart {
+            name,
+            inputs,
+            outputs,
+        }))
+    }
+}
+
+impl FromJson for ProdPart {
+    ghost form = { production_form };
+
+    fn from_json(alloc: Global, value: &Value) -> Result<Option<ProdPart>, AllocError> {
+        let Some(head) = member::<Name>(alloc, value, "head")? else {
+            return Ok(None);
+        };
+        let Some(body) = member::<Seq<PosPart>>(alloc, value, "body")? else {
+            return Ok(None);
+        };
+        let Some(edges) = list::<EdgePart>(alloc, value, "edges")? else {
+            return Ok(None);
+        };
+        let Some(entries) = list::<EntryPart>(alloc, value, "in")? else {
+            return Ok(None);
+        };
+        let Some(exits) = list::<ExitPart>(alloc, value, "out")? else {
+            return Ok(None);
+        };
+        Ok(Some(ProdPart {
+            head,
+            body,
+            edges,
+            entries,
+            exits,
+        }))
+    }
+}
+
+impl FromJson for DepsPart {
+    ghost form = { deps_form };
+
+    fn from_json(alloc: Global, value: &Value) -> Result<Option<DepsPart>, AllocError> {
+        let Some(module) = member::<Name>(alloc, value, "module")? else {
+            return Ok(None);
+        };
+        let Some(pairs) = member::<Seq<PairPart>>(alloc, value, "pairs")? else {
+            return Ok(None);
+        };
+        Ok(Some(DepsPart { module, pairs }))
+    }
+}
