@@ -1,0 +1,19 @@
+//! The outside: files that are read in pieces, a sink for text, and the lines of bytes.
+#![tactic(auto)]
+
+mod lines;
+mod mem_shelf;
+mod mem_sink;
+mod outside;
+mod piece;
+mod plain_shelf;
+mod plain_sink;
+mod whole;
+
+pub use lines::{LineFault, WholeLines};
+pub use mem_shelf::{MemFile, MemShelf};
+pub use mem_sink::MemSink;
+pub use outside::{Failed, Shelf, Sink};
+pub use plain_shelf::{PlainFile, PlainShelf};
+pub use plain_sink::PlainSink;
+pub use whole::{ReadFault, read_all};
