@@ -1,5 +1,7 @@
 -- The form of an event line.
 use Rattle.std.specs.Prelude.{◌≡◌, ℕ, List, Option, Some, None, option_map, option_and_then, codes}
+use Rattle.std.specs.declared.result.Result.{Result}
+use Rattle.std.specs.declared.result.Result.TheVariants.{Ok, Err}
 use Rattle.serde_json.specs.Data.{Data}
 use Rattle.serde_json.specs.Find.{as_number, as_u64, get}
 use Rattle.wf_model.specs.declared.event.Event.{Event}
@@ -41,3 +43,10 @@ abbrev pub IsRefusal : List ℕ → EventFault → Type 0
 IsRefusal line NotJson = HasNoReading line
 IsRefusal line WrongShape = (d : Data) × IsReading line d × (event_of d ≡ None)
 IsRefusal line NoMemory = Unit {0}
+
+-- a result says what the value is; want of memory says nothing
+abbrev pub IsToldAs : Option Event → Result Event EventFault → Type 0
+IsToldAs o (Ok e) = o ≡ Some e
+IsToldAs o (Err NotJson) = ⊥
+IsToldAs o (Err WrongShape) = o ≡ None
+IsToldAs o (Err NoMemory) = Unit {0}

@@ -1,0 +1,35 @@
+// Query lines.
+ghost use Rattle.std.specs.Prelude.{◌≡◌, ℕ, List, IfOk, IsErr};
+ghost use Rattle.wf_query.specs.Line.{IsQuery};
+
+use crate::item::{cut, split_item};
+
+/// A question: whether the second item depends on the first.
+#[derive(Clone, Copy)]
+pub struct Query<'a> {
+    pub first: &'a [u8],
+    pub second: &'a [u8],
+}
+
+/// The line is no query.
+#[derive(Clone, Copy, Debug, PartialEq, Eq)]
+pub struct LineWrong;
+
+/// Reads a query from a line without its newline: two item names with one space between.
+///
+/// Both names are parts of the line. Cost: linear in the line. Takes no memory.
+pub fn read_query(line: &[u8]) -> Result<Query<'_>, LineWrong>
+    ensures ok { IfOk result (λ q. IsQuery line.now q.first.now q.second.now) }
+    ensures wrong { IsErr result → (first second : List ℕ) → IsQuery line.now first second → ⊥ }
+{
+    let Some((first, second)) = cut(line, b' ') else {
+        return Err(LineWrong);
+    };
+    let Some(_) = split_item(first) else {
+        return Err(LineWrong);
+    };
+    let Some(_) = split_item(second) else {
+        return Err(LineWrong);
+    };
+    Ok(Query { first, second })
+}
