@@ -19,6 +19,7 @@ use Rattle.wf_top.specs.declared.ending.Ending.TheVariants.{Done, Usage, Refused
 use Rattle.wf_top.specs.declared.ending.Place.{Place}
 use Rattle.wf_top.specs.declared.ending.Place.TheVariants.{Spec, View, Events, Queries}
 use Rattle.wf_top.specs.Answers.{IsAnswer}
+use Rattle.wf_top.specs.Words.{Command, Trace, command_of}
 
 -- A stage reads a whole file of at most so many bytes, takes from it a value that the bytes tell, and goes on with it.
 -- It ends the program where the file is longer, is broken, or tells no value.
@@ -40,9 +41,13 @@ pub record TellsGrammar (bytes : List ℕ) (g : Grammar) : Type 0 where
   pub plain : IsPlain (grammar_of parts)
   pub is : g ≡ grammar_of parts
 
--- the bytes are the default view's: `{}`, with or without a newline
+-- the text of the default view: `{}`, with or without a newline
+abbrev pub IsDefaultText : List ℕ → Type 0
+IsDefaultText bytes = (bytes ≡ codes "{}") ⊎ (bytes ≡ codes "{}\n")
+
+-- the bytes are the text of this view, which is the default view
 abbrev pub TellsView : Grammar → List ℕ → ViewOf → Type 0
-TellsView g bytes u = ((bytes ≡ codes "{}") ⊎ (bytes ≡ codes "{}\n")) × (u ≡ default_view g)
+TellsView g bytes u = IsDefaultText bytes × (u ≡ default_view g)
 
 -- the line is not too long and tells this event
 abbrev pub IsEventLine : Line → Event → Type 0
@@ -101,20 +106,6 @@ Traces spec view events queries =
     Stage long_most Events events (TellsRun g u instance_most) (λ e.
     Stage long_most Queries queries TellsLines (λ ls.
     AreAnswered g u e ls))))
-
--- the words of a command, by the names of its files
-pub data Command : Type 0 where
-  Trace : List ℕ → List ℕ → List ℕ → List ℕ → Command
-
--- the command that the words are
-abbrev pub command_of : List (List ℕ) → Option Command
-command_of [] = None
-command_of (c ∷ []) = None
-command_of (c ∷ s ∷ []) = None
-command_of (c ∷ s ∷ v ∷ []) = None
-command_of (c ∷ s ∷ v ∷ e ∷ []) = None
-command_of (c ∷ s ∷ v ∷ e ∷ q ∷ []) = cond (bytes_eq c (codes "trace")) (Some (Trace s v e q)) None
-command_of (c ∷ s ∷ v ∷ e ∷ q ∷ w ∷ ws) = None
 
 -- what a command does over files
 abbrev pub Does : (List ℕ → File) → Option Command → Ending → List ℕ → Type 0

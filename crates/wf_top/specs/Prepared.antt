@@ -1,0 +1,27 @@
+-- What queries are answered from.
+use Rattle.std.specs.Prelude.{◌≡◌, ◌++◌, ℕ, List, length, codes}
+use Rattle.wf_model.specs.declared.event.Event.{Event}
+use Rattle.wf_model.specs.Grammar.{Grammar}
+use Rattle.wf_model.specs.WellFormed.{IsWellFormed}
+use Rattle.wf_model.specs.View.{View}
+use Rattle.wf_model.specs.DefaultView.{default_view}
+use Rattle.wf_model.specs.Run.{IsFinished}
+use Rattle.wf_model.specs.Links.{links}
+use Rattle.wf_flat.specs.Table.{Table, IsRunOf, events_of, names_in}
+use Rattle.wf_flat.specs.Graph.{named_links}
+use Rattle.wf_flat.specs.Flat.{FlatSeen, AreWithin}
+use Rattle.wf_top.specs.Answers.{IsAnswer}
+
+-- a finished run of a grammar, with its links under the default view
+pub record IsPrepared (g : Grammar) (t : Table) (flat : FlatSeen) : Type 0 where
+  pub formed : IsWellFormed g
+  pub run : IsRunOf g t
+  pub finished : IsFinished g (default_view g) g.start (events_of t)
+  pub links : named_links (names_in t.instances) flat.links ≡ links g (default_view g) g.start (events_of t)
+  pub within : AreWithin (length t.instances) flat.links
+
+-- a line is an answer and a newline
+pub record IsAnswerLine (g : Grammar) (u : View) (e : List Event) (first second line : List ℕ) : Type 0 where
+  pub answer : List ℕ
+  pub is : IsAnswer g u e first second answer
+  pub ends : line ≡ answer ++ codes "\n"

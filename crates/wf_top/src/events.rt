@@ -1,0 +1,78 @@
+// EVENTS: from bytes to a finished run.
+ghost use Rattle.std.specs.Prelude.{◌≡◌, IfOk, IfErr, List};
+ghost use Rattle.wf_model.specs.View.{View as ViewOf};
+ghost use Rattle.wf_model.specs.declared.event.Event.{Event};
+ghost use Rattle.wf_flat.specs.Table.{IsRunOf, events_of};
+ghost use Rattle.wf_flat.specs.Graph.{Marks};
+ghost use Rattle.wf_top.specs.Outcome.{TellsRun, AreEvents, instance_most};
+ghost use Rattle.wf_top.specs.Stages.{Declines};
+ghost use Rattle.wf_top.specs.declared.ending.Place.TheVariants.{Events};
+
+use crate::ending::{Ending, Place};
+use std::alloc::Global;
+use wf_events::{EventFault, read_event};
+use wf_flat::{PlainRun, is_finished};
+use wf_io::{LineFault, WholeLines};
+use wf_spec::{Event, Grammar, RunFault};
+
+/// The greatest number of instances of a run.
+const INSTANCES: u32 = 16777216;
+
+const REFUSED: Ending = Ending::Refused { place: Place::Events };
+
+/// The event of a line.
+fn event_of_line(alloc: Global, line: &[u8]) -> Result<Event, Ending>
+{
+    match read_event(alloc, line) {
+        Ok(event) => Ok(event),
+        Err(EventFault::NotJson) => Err(REFUSED),
+        Err(EventFault::WrongShape) => Err(REFUSED),
+        Err(EventFault::NoMemory) => Err(Ending::NoMemory),
+    }
+}
+
+/// Takes the event of a line into a run.
+fn take_line(alloc: Global, g: &Grammar, run: &mut PlainRun, line: &[u8]) -> Result<(), Ending>
+{
+    let event = event_of_line(alloc, line)?;
+    match run.take(g, &event) {
+        Ok(()) => Ok(()),
+        Err(RunFault::NoMemory) => Err(Ending::NoMemory),
+        Err(_) => Err(REFUSED),
+    }
+}
+
+fn next_line<'b>(lines: &mut WholeLines<'b>) -> Result<Option<&'b [u8]>, Ending>
+{
+    match lines.next() {
+        Ok(line) => Ok(line),
+        Err(_) => Err(REFUSED),
+    }
+}
+
+/// Takes all lines.
+fn take_lines(alloc: Global, g: &Grammar, bytes: &[u8]) -> Result<PlainRun, Ending>
+{
+    let mut run = PlainRun::new(alloc, INSTANCES);
+    let mut lines = WholeLines::open(bytes);
+    while let Some(line) = next_line(&mut lines)? {
+        take_line(alloc, g, &mut run, line)?;
+    }
+    Ok(run)
+}
+
+/// The run that events tell, which is finished under the view of the marks.
+pub fn run_of_bytes(alloc: Global, g: &Grammar, marks: &[bool], bytes: &[u8]) -> Result<PlainRun, Ending>
+    ensures run { IfOk result (λ r. IsRunOf g.now r) }
+    ensures ok { IfOk result (λ r. (u : ViewOf) → Marks marks.now u → TellsRun g.now u instance_most bytes.now (events_of r)) }
+    ensures declines { IfErr result (λ e. (u : ViewOf) → Marks marks.now u → Declines Events (TellsRun g.now u instance_most bytes.now) e) }
+{
+    let run = take_lines(alloc, g, bytes)?;
+    let Ok(finished) = is_finished(alloc, g, &run, marks) else {
+        return Err(Ending::NoMemory);
+    };
+    if !finished {
+        return Err(REFUSED);
+    }
+    Ok(run)
+}

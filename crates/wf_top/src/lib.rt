@@ -1,0 +1,19 @@
+//! The program, over any shelf of files and any sinks.
+#![tactic(auto)]
+
+mod answer;
+mod command;
+mod ending;
+mod events;
+mod file;
+mod prepared;
+mod program;
+mod queries;
+mod spec;
+mod status;
+mod tell;
+mod trace;
+mod view;
+
+pub use program::run;
+pub use status::Status;
