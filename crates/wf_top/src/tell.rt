@@ -31,17 +31,24 @@ fn word_of(place: Place) -> &'static [u8]
     }
 }
 
+/// Puts two pieces, and not the second after the first failed.
+fn put_two<E: Sink>(err: &mut E, first: &[u8], second: &[u8])
+    ensures { IsPut (first.now ++ second.now) (E.put_bytes err.old) (E.put_bytes err.new) (E.faults err.old) (E.faults err.new) (E.at_last err.new) }
+{
+    let Ok(()) = err.put(first) else {
+        return;
+    };
+    put_one(err, second);
+}
+
 /// Puts three pieces, and none after one that failed.
 fn put_three<E: Sink>(err: &mut E, first: &[u8], second: &[u8], third: &[u8])
     ensures { IsPut (first.now ++ (second.now ++ third.now)) (E.put_bytes err.old) (E.put_bytes err.new) (E.faults err.old) (E.faults err.new) (E.at_last err.new) }
 {
-    if err.put(first).is_err() {
+    let Ok(()) = err.put(first) else {
         return;
-    }
-    if err.put(second).is_err() {
-        return;
-    }
-    let _ = err.put(third);
+    };
+    put_two(err, second, third);
 }
 
 /// Puts the line of an ending, and nothing at Done. It needs no memory.
