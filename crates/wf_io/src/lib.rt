@@ -17,3 +17,6 @@ pub use outside::{Failed, Shelf, Sink};
 pub use plain_shelf::{PlainFile, PlainShelf};
 pub use plain_sink::PlainSink;
 pub use whole::{ReadFault, read_all};
+
+#[cfg(test)]
+mod tests;

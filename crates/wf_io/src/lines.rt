@@ -48,9 +48,8 @@ fn cut_first<'b>(bytes: &'b [u8]) -> Option<(&'b [u8], &'b [u8])>
 fn text<'b>(raw: &'b [u8]) -> &'b [u8]
     ensures { result.now ≡ text_of raw.now }
 {
-    let most = raw.len();
-    if most > 0 && raw[most - 1] == b'\r' {
-        return &raw[..most - 1];
+    if let [front @ .., b'\r'] = raw {
+        return front;
     }
     raw
 }
