@@ -6,3 +6,6 @@ mod fault;
 
 pub use event::read_event;
 pub use fault::EventFault;
+
+#[cfg(test)]
+mod tests;

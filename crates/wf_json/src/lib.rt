@@ -11,3 +11,6 @@ pub use fault::{JsonFault, Member};
 pub use form::{FromJson, list, member, pair};
 pub use reading::{TextFault, read_value};
 pub use spec::read_spec;
+
+#[cfg(test)]
+mod tests;

@@ -1,10 +1,12 @@
--- The bytes that no name has.
-use Rattle.std.proofs.Common.{◌≡◌, ℕ, List, ◌∷◌, ◌++◌, sym, ◌∙◌, subst, inl, inr, arith}
+-- The bytes that no name has, and how names and lines are split.
+use Rattle.std.proofs.Common.{◌≡◌, ℕ, List, ◌∷◌, ◌++◌, sym, ◌∙◌, subst, inl, inr, arith, append_assoc}
+use Rattle.std.specs.Prelude.{codes}
 use Rattle.wf_model.specs.Lists.{IsIn}
 use Rattle.wf_model.specs.Run.{IsNameByte}
 use Rattle.wf_model.specs.WellFormed.{IsShortName}
+use Rattle.wf_model.specs.Items.{dotted}
 use Rattle.wf_model.proofs.Lists.{in_append_cases}
-use Rattle.wf_query.specs.Line.{IsItemName, IsNameOf, IsQuery}
+use Rattle.wf_query.specs.Line.{IsItemName, IsNameOf, IsQuery, NameLaw, QueryLaw}
 use Rattle.wf_query.proofs.Cuts.{one_cut}
 
 dot_no_byte : IsNameByte 46 → ⊥
@@ -19,20 +21,29 @@ no_dot n s h = dot_no_byte (s.0.1 46 h)
 pub no_space : (n : List ℕ) → IsShortName n → IsIn 32 n → ⊥
 no_space n s h = space_no_byte (s.0.1 32 h)
 
+pub dotted_at : (a b : List ℕ) → dotted a b ≡ a ++ 46 ∷ b
+dotted_at a b = append_assoc a (codes ".") b
+
 -- an item name has no space
 pub item_no_space : (n : List ℕ) → IsItemName n → IsIn 32 n → ⊥
 item_no_space n h i =
     let a = h.0 in
     let b = h.1 in
-    elim (in_append_cases 32 a (46 ∷ b) (subst (λ z. IsIn 32 z) h.2.0 i)) [
+    elim (in_append_cases 32 a (46 ∷ b) (subst (λ z. IsIn 32 z) (h.2.0 ∙ dotted_at a b) i)) [
       | inl k ↦ no_space a h.2.1 k
       | inr k ↦ elim k [ inl e ↦ grind (arith, e) | inr j ↦ no_space b h.2.2 j ]
     ]
 
 -- an item name is split in one way
 pub one_name : (n a b c d : List ℕ) → IsNameOf n a b → n ≡ c ++ 46 ∷ d → (IsIn 46 c → ⊥) → (a ≡ c) × (b ≡ d)
-one_name n a b c d h e k = one_cut 46 a b c d (no_dot a h.1) k (sym h.0 ∙ e)
+one_name n a b c d h e k = one_cut 46 a b c d (no_dot a h.1) k (sym (dotted_at a b) ∙ sym h.0 ∙ e)
 
 -- a line is split in one way
 pub one_query : (l a b c d : List ℕ) → IsQuery l a b → l ≡ c ++ 32 ∷ d → (IsIn 32 c → ⊥) → (a ≡ c) × (b ≡ d)
 one_query l a b c d h e k = one_cut 32 a b c d (item_no_space a h.1) k (sym h.0 ∙ e)
+
+pub name_law : NameLaw
+name_law n a b c d h k = one_name n a b c d h (k.0 ∙ dotted_at c d) (no_dot c k.1)
+
+pub query_law : QueryLaw
+query_law l a b c d h k = one_query l a b c d h k.0 (item_no_space c k.1)

@@ -1,5 +1,5 @@
 // Item names.
-ghost use Rattle.std.specs.Prelude.{◌≡◌, ◌==◌, ◌++◌, ◌∷◌, ℕ, List, None, Option, option_map, take, drop, position, ◌+◌, IfSome};
+ghost use Rattle.std.specs.Prelude.{◌≡◌, ◌==◌, ◌++◌, ◌∷◌, ℕ, List, None, Option, option_map, take, drop, position, ◌+◌, IfSome, IfNone};
 ghost use Rattle.std.specs.List.{list_all};
 ghost use Rattle.wf_model.specs.Lists.{IsIn};
 ghost use Rattle.wf_model.specs.Faults.{is_name_byte, is_short_name};
@@ -16,7 +16,7 @@ fn place_of(bytes: &[u8], at: u8) -> Option<usize>
 pub(crate) fn cut(bytes: &[u8], at: u8) -> Option<(&[u8], &[u8])>
     ensures whole { IfSome result (λ p. bytes.now ≡ p.0.now ++ at ∷ p.1.now) }
     ensures first { IfSome result (λ p. IsIn at p.0.now → ⊥) }
-    ensures none { result ≡ None → IsIn at bytes.now → ⊥ }
+    ensures none { IfNone result (IsIn at bytes.now → ⊥) }
 {
     let Some(i) = place_of(bytes, at) else {
         return None;
@@ -54,7 +54,7 @@ fn is_of_name(b: u8) -> bool
 /// None where the bytes are no item name. Cost: linear in the name. Takes no memory.
 pub fn split_item(name: &[u8]) -> Option<(&[u8], &[u8])>
     ensures some { IfSome result (λ p. IsNameOf name.now p.0.now p.1.now) }
-    ensures none { result ≡ None → IsItemName name.now → ⊥ }
+    ensures none { IfNone result (IsItemName name.now → ⊥) }
 {
     let Some((instance, port)) = cut(name, b'.') else {
         return None;

@@ -1,6 +1,6 @@
 // Query lines.
-ghost use Rattle.std.specs.Prelude.{◌≡◌, ℕ, List, IfOk, IsErr};
-ghost use Rattle.wf_query.specs.Line.{IsQuery};
+ghost use Rattle.std.specs.Prelude.{◌≡◌, ℕ, List, IfOk, IfErr};
+ghost use Rattle.wf_query.specs.Line.{IsQuery, IsNoQuery};
 
 use crate::item::{cut, split_item};
 
@@ -20,7 +20,7 @@ pub struct LineWrong;
 /// Both names are parts of the line. Cost: linear in the line. Takes no memory.
 pub fn read_query(line: &[u8]) -> Result<Query<'_>, LineWrong>
     ensures ok { IfOk result (λ q. IsQuery line.now q.first.now q.second.now) }
-    ensures wrong { IsErr result → (first second : List ℕ) → IsQuery line.now first second → ⊥ }
+    ensures wrong { IfErr result (λ _. IsNoQuery line.now) }
 {
     let Some((first, second)) = cut(line, b' ') else {
         return Err(LineWrong);

@@ -3,7 +3,7 @@ use Rattle.wf_query.proofs.Cuts.{none_passes, none_before, whole_cut, same_numbe
 use Rattle.wf_query.proofs.item.cut.Goals as goal
 
 pub returns-in_default-clause-none : goal.returns-in_default-clause-none
-returns-in_default-clause-none c = λ _ h. none_passes (λ b. b == c.args.at) c.args.at c.args.bytes.now (sym c.place_of.ensures ∙ c.in_default.is) (same_number c.args.at) h
+returns-in_default-clause-none c = λ h. none_passes (λ b. b == c.args.at) c.args.at c.args.bytes.now (sym c.place_of.ensures ∙ c.in_default.is) (same_number c.args.at) h
 
 pub returns-clause-whole : goal.returns-clause-whole
 returns-clause-whole c = whole_cut c.args.at c.args.bytes.now c.in-Some.i (sym c.place_of.ensures ∙ c.in-Some.is)

@@ -1,0 +1,205 @@
+// Texts that are specifications, and texts that are not.
+use super::*;
+use std::test::Fail;
+use wf_model::{EdgePart, EntryPart, ExitPart, Parts, ProdPart};
+
+const LINE: &[u8] =
+    b"{\"start\":\"S\",\"modules\":[{\"name\":\"S\",\"in\":[\"a\"],\"out\":[\"b\"]},{\"name\":\"P\",\"in\":[\"x\"],\"out\":[\"y\"]},{\"name\":\"Q\",\"in\":[\"x\"],\"out\":[\"y\"]}],\"productions\":[{\"head\":\"S\",\"body\":[[\"u\",\"P\"],[\"v\",\"Q\"]],\"edges\":[[\"u.y\",\"v.x\"]],\"in\":[[\"a\",\"u.x\"]],\"out\":[[\"v.y\",\"b\"]]}]}";
+
+const PHYLO: &[u8] = b"{\"start\":\"Main\",
+\"modules\":[
+{\"name\":\"Main\",\"in\":[\"seqs\",\"cfg\"],\"out\":[\"tree\",\"report\"]},
+{\"name\":\"Align\",\"in\":[\"s\"],\"out\":[\"m\",\"log\"]},
+{\"name\":\"Refine\",\"in\":[\"m\",\"c\"],\"out\":[\"r\",\"q\"]},
+{\"name\":\"Realign\",\"in\":[\"m\",\"c\"],\"out\":[\"m2\",\"c2\"]},
+{\"name\":\"Score\",\"in\":[\"m\",\"c\"],\"out\":[\"r\",\"q\"]},
+{\"name\":\"Build\",\"in\":[\"m\"],\"out\":[\"t\",\"n\"]},
+{\"name\":\"Split\",\"in\":[\"m\"],\"out\":[\"a\",\"n\"]},
+{\"name\":\"Infer\",\"in\":[\"m\"],\"out\":[\"t\"]},
+{\"name\":\"Report\",\"in\":[\"log\",\"q\",\"n\"],\"out\":[\"out\"]}],
+\"productions\":[
+{\"head\":\"Main\",\"body\":[[\"al\",\"Align\"],[\"re\",\"Refine\"],[\"bu\",\"Build\"],[\"rp\",\"Report\"]],
+ \"edges\":[[\"al.m\",\"re.m\"],[\"al.log\",\"rp.log\"],[\"re.r\",\"bu.m\"],[\"re.q\",\"rp.q\"],[\"bu.n\",\"rp.n\"]],
+ \"in\":[[\"seqs\",\"al.s\"],[\"cfg\",\"re.c\"]],\"out\":[[\"bu.t\",\"tree\"],[\"rp.out\",\"report\"]]},
+{\"head\":\"Refine\",\"body\":[[\"rl\",\"Realign\"],[\"nx\",\"Refine\"]],
+ \"edges\":[[\"rl.m2\",\"nx.m\"],[\"rl.c2\",\"nx.c\"]],
+ \"in\":[[\"m\",\"rl.m\"],[\"c\",\"rl.c\"]],\"out\":[[\"nx.r\",\"r\"],[\"nx.q\",\"q\"]]},
+{\"head\":\"Refine\",\"body\":[[\"sc\",\"Score\"]],
+ \"in\":[[\"m\",\"sc.m\"],[\"c\",\"sc.c\"]],\"out\":[[\"sc.r\",\"r\"],[\"sc.q\",\"q\"]]},
+{\"head\":\"Build\",\"body\":[[\"sp\",\"Split\"],[\"inf\",\"Infer\"]],
+ \"edges\":[[\"sp.a\",\"inf.m\"]],
+ \"in\":[[\"m\",\"sp.m\"]],\"out\":[[\"inf.t\",\"t\"],[\"sp.n\",\"n\"]]}],
+\"deps\":[
+{\"module\":\"Realign\",\"pairs\":[[\"m\",\"m2\"],[\"c\",\"c2\"]]},
+{\"module\":\"Score\",\"pairs\":[[\"m\",\"r\"],[\"m\",\"q\"],[\"c\",\"q\"]]}]}";
+
+#[test]
+fn line_is_read(rt: HostRuntime) -> Result<(), Fail> {
+    let parts = read_spec(rt.alloc(), LINE)?;
+    assert_eq!(rt; parts.start.bytes(), b"S".as_slice());
+    assert!(rt; parts.deps.items().is_empty());
+    let [_, _, third] = parts.modules.items() else {
+        return Err(Fail::new("three modules"));
+    };
+    assert_eq!(rt; third.name.bytes(), b"Q".as_slice());
+    let [production] = parts.productions.items() else {
+        return Err(Fail::new("one production"));
+    };
+    let [first, second] = production.body.items() else {
+        return Err(Fail::new("two positions"));
+    };
+    assert_eq!(rt; first.name.bytes(), b"u".as_slice());
+    assert_eq!(rt; second.module.bytes(), b"Q".as_slice());
+    Ok(())
+}
+
+#[test]
+fn the_links_of_line_are_read(rt: HostRuntime) -> Result<(), Fail> {
+    let parts = read_spec(rt.alloc(), LINE)?;
+    let [production] = parts.productions.items() else {
+        return Err(Fail::new("one production"));
+    };
+    let ([edge], [entry], [exit]) = links_of(production) else {
+        return Err(Fail::new("one edge, entry and exit"));
+    };
+    assert_eq!(rt; edge.from.pos.bytes(), b"u".as_slice());
+    assert_eq!(rt; edge.to.port.bytes(), b"x".as_slice());
+    assert_eq!(rt; entry.port.bytes(), b"a".as_slice());
+    assert_eq!(rt; exit.from.port.bytes(), b"y".as_slice());
+    Ok(())
+}
+
+fn links_of(production: &ProdPart) -> (&[EdgePart], &[EntryPart], &[ExitPart]) {
+    (
+        production.edges.items(),
+        production.entries.items(),
+        production.exits.items(),
+    )
+}
+
+#[test]
+fn phylo_is_read(rt: HostRuntime) -> Result<(), Fail> {
+    let parts = read_spec(rt.alloc(), PHYLO)?;
+    assert_eq!(rt; parts.modules.items().len(), 9);
+    let [first, _, third, _] = parts.productions.items() else {
+        return Err(Fail::new("four productions"));
+    };
+    assert_eq!(rt; first.body.items().len(), 4);
+    assert_eq!(rt; first.edges.items().len(), 5);
+    assert!(rt; third.edges.items().is_empty());
+    let [_, second] = parts.deps.items() else {
+        return Err(Fail::new("two parts of dependencies"));
+    };
+    assert_eq!(rt; second.pairs.items().len(), 3);
+    Ok(())
+}
+
+/// The port that the one entry of the one production leads to.
+fn entry_port(parts: &Parts) -> &[u8] {
+    for production in parts.productions.items() {
+        for entry in production.entries.items() {
+            return entry.to.port.bytes();
+        }
+    }
+    b""
+}
+
+#[test]
+fn small_texts_are_read(rt: HostRuntime) -> Result<(), Fail> {
+    for text in [
+        b"{\"start\":\"S\",\"modules\":[]}".as_slice(),
+        b"{\"start\":\"S\",\"modules\":[{\"name\":\"S\",\"in\":[\"a\"]}]}",
+        b"{\"start\":\"\",\"modules\":[{\"name\":\"S\",\"color\":null}],\"expand\":1}",
+        b"{\"start\":\"S\",\"modules\":[],\"deps\":[{\"module\":\"P\",\"pairs\":[]}]}",
+        b"{\"start\":\"S\",\"modules\":[],\"productions\":[{\"head\":\"S\",\"body\":[]}]}",
+    ] {
+        assert!(rt; read_spec(rt.alloc(), text).is_ok());
+    }
+    let text =
+        b"{\"start\":\"S\",\"modules\":[],\"productions\":[{\"head\":\"S\",\"body\":[],\"in\":[[\"a\",\"u.x.y\"]]}]}";
+    let parts = read_spec(rt.alloc(), text)?;
+    assert_eq!(rt; entry_port(&parts), b"x.y".as_slice());
+    Ok(())
+}
+
+#[test]
+fn the_first_wrong_member_is_told(rt: HostRuntime) -> Result<(), Fail> {
+    for (text, member) in [
+        (b"[]".as_slice(), Member::Top),
+        (b"null", Member::Top),
+        (b"{\"modules\":null}", Member::Start),
+        (b"{\"start\":null,\"modules\":[]}", Member::Start),
+        (b"{\"start\":\"S\"}", Member::Modules),
+        (b"{\"start\":\"S\",\"modules\":null}", Member::Modules),
+        (b"{\"start\":\"S\",\"modules\":{}}", Member::Modules),
+        (b"{\"start\":\"S\",\"modules\":[\"S\"]}", Member::Modules),
+        (
+            b"{\"start\":\"S\",\"modules\":[{}],\"productions\":3}",
+            Member::Modules,
+        ),
+        (
+            b"{\"start\":\"S\",\"modules\":[{\"name\":\"S\",\"out\":null}]}",
+            Member::Modules,
+        ),
+        (
+            b"{\"start\":\"S\",\"modules\":[{\"name\":\"S\",\"in\":[1]}]}",
+            Member::Modules,
+        ),
+        (
+            b"{\"start\":\"S\",\"modules\":[],\"productions\":null}",
+            Member::Productions,
+        ),
+        (
+            b"{\"start\":\"S\",\"modules\":[],\"productions\":[{\"head\":\"S\"}]}",
+            Member::Productions,
+        ),
+        (
+            b"{\"start\":\"S\",\"modules\":[],\"productions\":[{\"head\":\"S\",\"body\":[[\"u\"]]}]}",
+            Member::Productions,
+        ),
+        (
+            b"{\"start\":\"S\",\"modules\":[],\"productions\":[{\"head\":\"S\",\"body\":[[\"u\",\"P\",\"x\"]]}]}",
+            Member::Productions,
+        ),
+        (
+            b"{\"start\":\"S\",\"modules\":[],\"productions\":[{\"head\":\"S\",\"body\":[],\"edges\":[[\"uy\",\"v.x\"]]}]}",
+            Member::Productions,
+        ),
+        (
+            b"{\"start\":\"S\",\"modules\":[],\"productions\":[{\"head\":\"S\",\"body\":[],\"edges\":null}],\"deps\":0}",
+            Member::Productions,
+        ),
+        (
+            b"{\"start\":\"S\",\"modules\":[],\"deps\":null}",
+            Member::DepsList,
+        ),
+        (
+            b"{\"start\":\"S\",\"modules\":[],\"deps\":[{\"module\":\"P\"}]}",
+            Member::DepsList,
+        ),
+        (
+            b"{\"start\":\"S\",\"modules\":[],\"deps\":[{\"module\":\"P\",\"pairs\":[[\"a\",1]]}]}",
+            Member::DepsList,
+        ),
+    ] {
+        match read_spec(rt.alloc(), text) {
+            Ok(_) => assert!(rt; false),
+            Err(fault) => assert_eq!(rt; fault, JsonFault::WrongShape { member }),
+        }
+    }
+    Ok(())
+}
+
+#[test]
+fn other_bytes_are_no_json(rt: HostRuntime) -> Result<(), Fail> {
+    for text in [
+        b"".as_slice(),
+        b"{\"start\":\"S\",\"modules\":[]} x",
+        b"{\"start\":\"S\",\"modules\":[],}",
+        b"{\"start\":\"\xff\",\"modules\":[]}",
+        b"{\"start\":\"S\",\"modules\":[],\"a\":1e999}",
+    ] {
+        assert!(rt; matches!(read_spec(rt.alloc(), text), Err(JsonFault::NotJson)));
+    }
+    Ok(())
+}
