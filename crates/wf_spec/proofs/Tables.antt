@@ -1,13 +1,17 @@
 -- The tables of a grammar.
-use Rattle.std.proofs.Common.{◌≡◌, ◌≢◌, ℕ, zero, suc, ◌+◌, ◌<◌, ◌⊎◌, Bool, true, false, cond, ◌==◌, add-one, zero-add, List, [], ◌∷◌, ◌++◌, Vec, Global, map, length, get_or, set, filter, refl, sym, ap, subst, ◌∙◌, arith, inl, inr, ⊎_elim}
+use Rattle.std.proofs.Common.{◌≡◌, ◌≢◌, ℕ, zero, suc, ◌+◌, ◌-◌, ◌^◌, ◌<◌, ◌≤◌, nat_lt, Bool, true, false, cond, ◌==◌, add-one, zero-add, List, [], ◌∷◌, ◌++◌, Vec, Global, map, length, get_or, set, filter, refl, sym, ap, subst, ◌∙◌, arith}
 use Rattle.std.proofs.lemmas.Bool.{eqb-true, eqb-false, eq-eqb}
-use Rattle.std.proofs.lemmas.List.{length-set, get_or-set_same, get_or-set_other, append-nil, length-map, map-set, map-append, get_or-map}
+use Rattle.std.proofs.lemmas.List.{length-set, get_or-set_same, get_or-set_other, append-nil, length-map, map-set, map-append, get_or-map, get_or_past, get_or-replicate, length-replicate}
 use Rattle.std.proofs.lemmas.List.Elements.{filter-append}
 use Rattle.wf_model.specs.declared.numbers.ProdNo.{ProdNo}
 use Rattle.wf_model.specs.Lists.{IsIn, numbers_from}
-use Rattle.wf_model.specs.Grammar.{Production}
-use Rattle.wf_model.proofs.Lists.{at_in, is_at}
-use Rattle.wf_spec.specs.Tables.{headed, AreByHead, numbers_in}
+use Rattle.std.proofs.lemmas.Nat.Bits.{bit_at_ones, bit_at_ones_above, bit_at-zero}
+use Rattle.std.specs.Int.{bit_at}
+use borrow.Author.Tests.{ltb-true, ltb-false}
+use Rattle.wf_model.specs.Grammar.{Grammar, Module, Production, inputs_of, outputs_of, module_at, is_given}
+use Rattle.wf_model.specs.WellFormed.{IsWellFormed}
+use Rattle.wf_model.proofs.Lists.{at_in, is_at, in_at, at_is, at_below}
+use Rattle.wf_spec.specs.Tables.{headed, AreByHead, AreRowsOf, full_rows, numbers_in}
 
 pub get_in : {A : Type 0} (k : ℕ) (xs : List A) (d : A) → k < length xs → IsIn (get_or xs k d) xs
 get_in k xs d h = at_in (get_or xs k d) k xs (is_at k xs d h)
@@ -30,9 +34,9 @@ headed-next ps n m =
 pub by_head_more : (modules : ℕ) (ps : List Production) (n h : ℕ) (lists : List (List ℕ)) (list : List ℕ) → AreByHead modules ps n lists → head_at ps n ≡ h
     → list ≡ get_or lists h [] ++ n ∷ [] → AreByHead modules ps (n + 1) (set lists h list)
 by_head_more modules ps n h lists list known head is = record {
-    one_each = length-set lists h list ∙ known.one_each;
-    each = λ m within. by (h == m) m within refl
-  }
+  one_each = length-set lists h list ∙ known.one_each;
+  each = λ m within. by (h == m) m within refl;
+}
   where
     step : (m : ℕ) → headed ps (n + 1) m ≡ headed ps n m ++ cond (h == m) (n ∷ []) []
     step m = ap (λ k. headed ps k m) (add-one n) ∙ headed-next ps n m ∙ ap (λ k. headed ps n m ++ cond (k == m) (n ∷ []) []) head
@@ -49,6 +53,10 @@ by_head_more modules ps n h lists list known head is = record {
         let ne : m ≢ h = λ e. eqb-false h m same (sym e) in
         get_or-set_other lists h m list [] ne ∙ known.each m within
         ∙ sym (step m ∙ ap (λ b. headed ps n m ++ cond b (n ∷ []) []) same ∙ append-nil (headed ps n m))
+
+-- a module with no ports
+abbrev pub no_module : Module
+no_module = record { name = []; inputs = []; outputs = [] }
 
 -- the numbers in a list as it is kept
 abbrev pub numbers : Vec ProdNo Global → List ℕ
@@ -71,3 +79,50 @@ head_within modules ps n r all was inside = all r (subst (λ q. IsIn q ps) (sym 
 
 pub list_within : (modules : ℕ) (ps : List Production) (n h : ℕ) (lists : List (Vec ProdNo Global)) → AreByHead modules ps n (numbers_in lists) → h < modules → h < length lists
 list_within modules ps n h lists known below = omega (arith, known.one_each, length-map lists numbers)
+
+-- the heads of a well-formed grammar, production by production
+pub heads_within : (g : Grammar) → IsWellFormed g → (r : Production) → IsIn r g.productions → r.head < length g.modules
+heads_within g formed r here =
+    let at = in_at r g.productions here in
+    subst (λ (q : Production). q.head < length g.modules) (at_is r at.0 g.productions _ at.1) (formed.heads at.0 (at_below r at.0 g.productions at.1))
+
+-- the list of a module, as it is kept
+pub listed : (modules : ℕ) (ps : List Production) (n m : ℕ) (lists : List (Vec ProdNo Global)) (v : Vec ProdNo Global) → AreByHead modules ps n (numbers_in lists)
+    → m < modules → v ≡ get_or lists m v → numbers v ≡ headed ps n m
+listed modules ps n m lists v known below was =
+    ap numbers was ∙ sym (get_or-map numbers lists m v [] (list_within modules ps n m lists known below)) ∙ known.each m below
+
+-- the rows of a module, as they are kept
+pub rowed : (ms : List Module) (m : ℕ) (lists : List (Vec ℕ Global)) (v : Vec ℕ Global) → map (λ (r : Vec ℕ Global). r.items) lists ≡ map full_rows ms
+    → m < length ms → v ≡ get_or lists m v → v.items ≡ full_rows (get_or ms m no_module)
+rowed ms m lists v known below was =
+    ap items was ∙ sym (get_or-map items lists m v [] inside) ∙ ap (λ rs. get_or rs m []) known ∙ get_or-map full_rows ms m no_module [] below
+  where
+    items : Vec ℕ Global → List ℕ
+    items r = r.items
+
+    inside : m < length lists
+    inside = omega (arith, length-map lists items, ap length known, length-map ms full_rows)
+
+-- full rows are those of a module to which no pairs are given
+pub full_are : (g : Grammar) (m : ℕ) → g.given ≡ [] → outputs_of g m ≤ 64 → AreRowsOf g m (full_rows (module_at g m))
+full_are g m none few = record {
+  one_each = length-replicate (inputs_of g m) (2 ^ outputs_of g m - 1);
+  bits = λ i o a b.
+      ap (λ r. bit_at r o == 1) (get_or-replicate (inputs_of g m) i (2 ^ outputs_of g m - 1) 0 a)
+      ∙ ap (λ k. k == 1) (bit_at_ones (outputs_of g m) o b)
+      ∙ sym (ap (λ given. is_given given m i o) none);
+  no_more = λ i o above. past i o above (nat_lt i (inputs_of g m)) refl;
+}
+  where
+    past : (i o : ℕ) → outputs_of g m ≤ o → (b : Bool) → nat_lt i (inputs_of g m) ≡ b → bit_at (get_or (full_rows (module_at g m)) i 0) o ≡ 0
+    past i o above true is =
+        let a : i < inputs_of g m = ltb-true i (inputs_of g m) is in
+        ap (λ r. bit_at r o) (get_or-replicate (inputs_of g m) i (2 ^ outputs_of g m - 1) 0 a) ∙ bit_at_ones_above (outputs_of g m) o above
+    past i o above false is =
+        let a : inputs_of g m ≤ i = ltb-false i (inputs_of g m) is in
+        let l : length (full_rows (module_at g m)) ≤ i = omega (arith, length-replicate (inputs_of g m) (2 ^ outputs_of g m - 1)) in
+        ap (λ r. bit_at r o) (get_or_past (full_rows (module_at g m)) i 0 l) ∙ bit_at-zero o
+
+pub outputs_within : (g : Grammar) (m : ℕ) → IsWellFormed g → m < length g.modules → outputs_of g m ≤ 64
+outputs_within g m formed below = (formed.modules (module_at g m) (get_in m g.modules no_module below)).few_outputs

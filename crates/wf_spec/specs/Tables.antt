@@ -6,6 +6,7 @@ use Rattle.std.specs.declared.alloc.Global.{Global}
 use Rattle.wf_model.specs.declared.numbers.ProdNo.{ProdNo}
 use Rattle.wf_model.specs.Lists.{numbers_from}
 use Rattle.wf_model.specs.Grammar.{Grammar, Module, Production, inputs_of, outputs_of, is_given, head_of}
+use Rattle.wf_model.specs.WellFormed.{IsWellFormed}
 
 -- the productions of a module, in order
 abbrev pub productions_of : Grammar → ℕ → List ℕ
@@ -35,7 +36,9 @@ pub record AreByHead (modules : ℕ) (productions : List Production) (n : ℕ) (
 abbrev pub full_rows : Module → List ℕ
 full_rows m = replicate (length m.inputs) (2 ^ length m.outputs - 1)
 
--- the tables that belong to a grammar
-pub record AreTables (g : Grammar) (lists bits : List (List ℕ)) : Type 0 where
+-- a well-formed grammar with its tables: the names of the modules, the productions of each, and all rows
+pub record IsKept (g : Grammar) (known lists bits : List (List ℕ)) : Type 0 where
+  pub well_formed : IsWellFormed g
+  pub names : known ≡ map (λ (m : Module). m.name) g.modules
   pub by_head : AreByHead (length g.modules) g.productions (length g.productions) lists
   pub rows : bits ≡ map full_rows g.modules
