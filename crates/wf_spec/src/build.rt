@@ -6,7 +6,7 @@ ghost use Rattle.wf_spec.specs.declared.fault.FormFault.TheVariants.{NoMemory, N
 use crate::fault::FormFault;
 use crate::grammar::Grammar;
 use crate::plain::is_plain;
-use crate::resolve::resolve;
+use crate::resolve::{Resolved, resolve};
 use crate::well_formed::is_well_formed;
 use std::alloc::Global;
 use wf_model::Parts;
@@ -17,7 +17,7 @@ impl Grammar {
         ensures accepted { IfOk result (λ g. (g ≡ grammar_of parts) × IsFormed parts × IsPlain g) }
         ensures refused { IfErr result (λ f. (f ≡ NoMemory) ⊎ ((f ≡ NotBuilt) × (IsFormed parts → IsPlain (grammar_of parts) → ⊥))) }
     {
-        let draft = resolve(alloc, &parts)?;
+        let Resolved { draft, names } = resolve(alloc, &parts)?;
         let formed = is_well_formed(alloc, &draft)?;
         if !formed {
             return Err(FormFault::NotBuilt);
@@ -26,6 +26,7 @@ impl Grammar {
         if !plain {
             return Err(FormFault::NotBuilt);
         }
-        Ok(draft.into_grammar())
+        let grammar = draft.into_grammar(alloc, names)?;
+        Ok(grammar)
     }
 }

@@ -1,10 +1,14 @@
 // A grammar that may break any rule.
-ghost use Rattle.std.specs.Prelude.{◌≡◌};
+ghost use Rattle.std.specs.Prelude.{◌≡◌, map, IfOk};
 ghost use Rattle.wf_model.specs.WellFormed.{IsWellFormed};
 
+use crate::by_head::by_head;
 use crate::grammar::{Grammar, Module, Production};
+use crate::rows::all_pairs;
+use std::alloc::{AllocError, Global};
 use std::marker::Model;
 use wf_model::{ModNo, Seq};
+use wf_names::Names;
 
 /// The lists of a grammar, by numbers that nothing has tested.
 #[derive(Drop)]
@@ -49,11 +53,22 @@ impl Draft {
         self.modules.items()
     }
 
-    pub fn into_grammar(self) -> Grammar
-        requires { IsWellFormed self }
-        ensures { result ≡ self }
+    /// The grammar, with its tables.
+    pub fn into_grammar(self, alloc: Global, names: Names) -> Result<Grammar, AllocError>
+        requires formed { IsWellFormed self }
+        requires names { names ≡ map (λ m. m.name) self.modules }
+        ensures { IfOk result (λ g. g ≡ self) }
     {
-        Grammar::of_parts(self.start, self.modules, self.productions)
+        let by_head = by_head(alloc, self.modules().len(), self.productions())?;
+        let rows = all_pairs(alloc, self.modules())?;
+        Ok(Grammar::of_tables(
+            self.start,
+            self.modules,
+            self.productions,
+            names,
+            by_head,
+            rows,
+        ))
     }
 
     pub fn productions(&self) -> &[Production]

@@ -1,10 +1,13 @@
 // Workflow grammars.
-ghost use Rattle.std.specs.Prelude.{◌≡◌, ◌<◌, ℕ, List, [], map, length};
+ghost use Rattle.std.specs.Prelude.{◌≡◌, ◌<◌, [], map, length, option_map, position, bytes_eq, IfSome};
+ghost use Rattle.wf_model.specs.Grammar.{IsAtomic};
 ghost use Rattle.wf_model.specs.Meaning.{position_of, inner_of, edge_of};
 ghost use Rattle.wf_model.specs.WellFormed.{IsWellFormed};
+ghost use Rattle.wf_spec.specs.Tables.{AreRowsOf, IsKept, numbers_in, productions_of};
 
 use std::marker::Model;
-use wf_model::{Edge, Inner, ModNo, Name, Position, Seq};
+use wf_model::{Edge, Inner, ModNo, Name, Position, ProdNo, Seq};
+use wf_names::Names;
 
 /// A module.
 #[derive(Drop)]
@@ -134,34 +137,44 @@ pub struct Grammar {
     start: ModNo,
     modules: Seq<Module>,
     productions: Seq<Production>,
+    names: Names,
+    by_head: Vec<Vec<ProdNo>>,
+    rows: Vec<Vec<u64>>,
 }
 
 impl Model for Grammar {
-    ghost use Rattle.std.specs.Prelude.{[]};
+    ghost use Rattle.std.specs.Prelude.{[], map};
     ghost use Rattle.wf_model.specs.Grammar.{Grammar as Core};
-    ghost use Rattle.wf_model.specs.WellFormed.{IsWellFormed};
+    ghost use Rattle.wf_spec.specs.Tables.{IsKept, numbers_in};
 
     ghost Value = { Core };
 
     ghost view = { λ g. record { start = g.start.0; modules = g.modules; productions = g.productions; given = [] } };
 
-    ghost invariant = { λ g. IsWellFormed (record { start = g.start.0; modules = g.modules; productions = g.productions; given = [] }) };
+    ghost invariant = { λ g. IsKept (record { start = g.start.0; modules = g.modules; productions = g.productions; given = [] }) g.names (numbers_in g.by_head.items) (map (λ v. v.items) g.rows.items) };
 }
 
 impl Grammar {
     ghost use Rattle.wf_model.specs.Grammar.{Grammar as Core};
 
-    /// A grammar of parts that are known to be well-formed.
-    pub fn of_parts(start: ModNo, modules: Seq<Module>, productions: Seq<Production>) -> Grammar
-        requires { IsWellFormed (record { start = start.0; modules = modules; productions = productions; given = [] }) }
-        ensures start { result.start ≡ start.0 }
-        ensures modules { result.modules ≡ modules }
-        ensures productions { result.productions ≡ productions }
+    pub(crate) fn of_tables(
+        start: ModNo,
+        modules: Seq<Module>,
+        productions: Seq<Production>,
+        names: Names,
+        by_head: Vec<Vec<ProdNo>>,
+        rows: Vec<Vec<u64>>,
+    ) -> Grammar
+        requires { IsKept (record { start = start.0; modules = modules; productions = productions; given = [] }) names (numbers_in by_head.items) (map (λ v. v.items) rows.items) }
+        ensures { result ≡ record { start = start.0; modules = modules; productions = productions; given = [] } }
     {
         Grammar {
             start,
             modules,
             productions,
+            names,
+            by_head,
+            rows,
         }
     }
 
@@ -184,5 +197,33 @@ impl Grammar {
         ensures formed { IsWellFormed self.now }
     {
         self.productions.items()
+    }
+
+    /// The module that has a name.
+    pub fn find(&self, name: &[u8]) -> Option<ModNo>
+        ensures place { option_map (λ m. m.0) result ≡ position (bytes_eq name.now) (map (λ m. m.name) self.now.modules) }
+        ensures within { IfSome result (λ m. m.0 < length self.now.modules) }
+    {
+        let _modules = &self.modules;
+        let place = self.names.find(name)?;
+        prove!(place < 1024);
+        Some(ModNo(place as u16))
+    }
+
+    /// The productions of a module, in order.
+    pub fn alternatives(&self, m: ModNo) -> &[ProdNo]
+        requires { m.0 < length self.now.modules }
+        ensures { map (λ p. p.0) result.now ≡ productions_of self.now m.0 }
+    {
+        self.by_head[m.0 as usize].as_slice()
+    }
+
+    /// The pairs of an atomic module, as a row for each input with a bit for each output.
+    pub fn rows(&self, m: ModNo) -> &[u64]
+        requires in_range { m.0 < length self.now.modules }
+        requires atomic { IsAtomic self.now m.0 }
+        ensures { AreRowsOf self.now m.0 result.now }
+    {
+        self.rows[m.0 as usize].as_slice()
     }
 }

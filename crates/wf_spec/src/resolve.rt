@@ -1,5 +1,5 @@
 // Parts turned into numbers.
-ghost use Rattle.std.specs.Prelude.{◌≡◌, ◌⊎◌, [], IfOk, IfErr};
+ghost use Rattle.std.specs.Prelude.{◌≡◌, ◌⊎◌, [], map, IfOk, IfErr};
 ghost use Rattle.wf_spec.specs.Forming.{grammar_of, IsFormed, HasAllLinks};
 ghost use Rattle.wf_spec.specs.declared.fault.FormFault.TheVariants.{NoMemory, NotBuilt};
 
@@ -7,10 +7,19 @@ use crate::draft::Draft;
 use crate::fault::FormFault;
 use std::alloc::{AllocError, Global};
 use wf_model::Parts;
+use wf_names::Names;
+
+/// A grammar that parts describe, and the names of its modules.
+#[derive(Drop)]
+pub struct Resolved {
+    pub draft: Draft,
+    pub names: Names,
+}
 
 /// The grammar that parts describe. NotBuilt where they hold a deps part, name what is not there, or pass a limit on numbers.
-pub fn resolve(_: Global, parts: &Parts) -> Result<Draft, FormFault>
-    ensures built { IfOk result (λ d. d ≡ grammar_of parts.now) }
+pub fn resolve(_: Global, parts: &Parts) -> Result<Resolved, FormFault>
+    ensures built { IfOk result (λ r. r.draft ≡ grammar_of parts.now) }
+    ensures names { IfOk result (λ r. r.names ≡ map (λ m. m.name) r.draft.modules) }
     ensures links { IfOk result (λ _. HasAllLinks parts.now) }
     ensures no_deps { IfOk result (λ _. parts.now.deps ≡ []) }
     ensures refused { IfErr result (λ f. (f ≡ NoMemory) ⊎ ((f ≡ NotBuilt) × (IsFormed parts.now → parts.now.deps ≡ [] → ⊥))) }

@@ -1,0 +1,128 @@
+-- The tables of a grammar.
+use Rattle.std.proofs.Common.{◌≡◌, ◌≢◌, ℕ, zero, suc, ◌+◌, ◌-◌, ◌^◌, ◌<◌, ◌≤◌, nat_lt, Bool, true, false, cond, ◌==◌, add-one, zero-add, List, [], ◌∷◌, ◌++◌, Vec, Global, map, length, get_or, set, filter, refl, sym, ap, subst, ◌∙◌, arith}
+use Rattle.std.proofs.lemmas.Bool.{eqb-true, eqb-false, eq-eqb}
+use Rattle.std.proofs.lemmas.List.{length-set, get_or-set_same, get_or-set_other, append-nil, length-map, map-set, map-append, get_or-map, get_or_past, get_or-replicate, length-replicate}
+use Rattle.std.proofs.lemmas.List.Elements.{filter-append}
+use Rattle.wf_model.specs.declared.numbers.ProdNo.{ProdNo}
+use Rattle.wf_model.specs.Lists.{IsIn, numbers_from}
+use Rattle.std.proofs.lemmas.Nat.Bits.{bit_at_ones, bit_at_ones_above, bit_at-zero}
+use Rattle.std.specs.Int.{bit_at}
+use borrow.Author.Tests.{ltb-true, ltb-false}
+use Rattle.wf_model.specs.Grammar.{Grammar, Module, Production, inputs_of, outputs_of, module_at, is_given}
+use Rattle.wf_model.specs.WellFormed.{IsWellFormed}
+use Rattle.wf_model.proofs.Lists.{at_in, is_at, in_at, at_is, at_below}
+use Rattle.wf_spec.specs.Tables.{headed, AreByHead, AreRowsOf, full_rows, numbers_in}
+
+pub get_in : {A : Type 0} (k : ℕ) (xs : List A) (d : A) → k < length xs → IsIn (get_or xs k d) xs
+get_in k xs d h = at_in (get_or xs k d) k xs (is_at k xs d h)
+
+pub numbers_from-last : (k n : ℕ) → numbers_from k (suc n) ≡ numbers_from k n ++ (k + n) ∷ []
+numbers_from-last k zero = ap (λ j. j ∷ []) (omega arith)
+numbers_from-last k (suc n) = ap (λ js. k ∷ js) (numbers_from-last (suc k) n ∙ ap (λ j. numbers_from (suc k) n ++ j ∷ []) (omega arith))
+
+-- the head of the production of this number
+abbrev pub head_at : List Production → ℕ → ℕ
+head_at ps n = (get_or ps n (record { head = 0; positions = []; edges = []; entries = []; exits = [] })).head
+
+pub headed-next : (ps : List Production) (n m : ℕ) → headed ps (suc n) m ≡ headed ps n m ++ cond (head_at ps n == m) (n ∷ []) []
+headed-next ps n m =
+    ap (filter (λ p. head_at ps p == m)) (numbers_from-last 0 n)
+    ∙ filter-append (λ p. head_at ps p == m) (numbers_from 0 n) ((0 + n) ∷ [])
+    ∙ ap (λ k. headed ps n m ++ cond (head_at ps k == m) (k ∷ []) []) (zero-add n)
+
+-- the next production goes into the list of its head
+pub by_head_more : (modules : ℕ) (ps : List Production) (n h : ℕ) (lists : List (List ℕ)) (list : List ℕ) → AreByHead modules ps n lists → head_at ps n ≡ h
+    → list ≡ get_or lists h [] ++ n ∷ [] → AreByHead modules ps (n + 1) (set lists h list)
+by_head_more modules ps n h lists list known head is = record {
+  one_each = length-set lists h list ∙ known.one_each;
+  each = λ m within. by (h == m) m within refl;
+}
+  where
+    step : (m : ℕ) → headed ps (n + 1) m ≡ headed ps n m ++ cond (h == m) (n ∷ []) []
+    step m = ap (λ k. headed ps k m) (add-one n) ∙ headed-next ps n m ∙ ap (λ k. headed ps n m ++ cond (k == m) (n ∷ []) []) head
+
+    by : (b : Bool) (m : ℕ) → m < modules → (h == m) ≡ b → get_or (set lists h list) m [] ≡ headed ps (n + 1) m
+    by true m within same =
+        let e : h ≡ m = eqb-true h m same in
+        let here : h < modules = omega arith in
+        let inside : h < length lists = omega (arith, known.one_each) in
+        subst (λ k. get_or (set lists h list) k [] ≡ headed ps (n + 1) k) e
+        (get_or-set_same lists h list [] inside ∙ is ∙ ap (λ xs. xs ++ n ∷ []) (known.each h here)
+        ∙ sym (step h ∙ ap (λ b. headed ps n h ++ cond b (n ∷ []) []) (eq-eqb h h refl)))
+    by false m within same =
+        let ne : m ≢ h = λ e. eqb-false h m same (sym e) in
+        get_or-set_other lists h m list [] ne ∙ known.each m within
+        ∙ sym (step m ∙ ap (λ b. headed ps n m ++ cond b (n ∷ []) []) same ∙ append-nil (headed ps n m))
+
+-- a module with no ports
+abbrev pub no_module : Module
+no_module = record { name = []; inputs = []; outputs = [] }
+
+-- the numbers in a list as it is kept
+abbrev pub numbers : Vec ProdNo Global → List ℕ
+numbers v = map (λ (q : ProdNo). q.0) v.items
+
+-- the same over the lists as they are kept
+pub pushed : (modules : ℕ) (ps : List Production) (n h : ℕ) (lists : List (Vec ProdNo Global)) (old new : Vec ProdNo Global) (p : ProdNo)
+    → AreByHead modules ps n (numbers_in lists) → head_at ps n ≡ h → h < length lists → old ≡ get_or lists h old
+    → new.items ≡ old.items ++ p ∷ [] → p.0 ≡ n → AreByHead modules ps (n + 1) (numbers_in (set lists h new))
+pushed modules ps n h lists old new p known head inside was is number =
+    subst (AreByHead modules ps (n + 1)) (sym (map-set numbers lists h new))
+    (by_head_more modules ps n h (numbers_in lists) (numbers new) known head
+    (ap (map (λ (q : ProdNo). q.0)) is ∙ map-append (λ (q : ProdNo). q.0) old.items (p ∷ []) ∙ ap (λ k. numbers old ++ k ∷ []) number
+    ∙ ap (λ l. l ++ n ∷ []) (ap numbers was ∙ sym (get_or-map numbers lists h old [] inside))))
+
+-- a production that stands in a list has its head in range
+pub head_within : (modules : ℕ) (ps : List Production) (n : ℕ) (r : Production) → ((q : Production) → IsIn q ps → q.head < modules)
+    → r ≡ get_or ps n r → n < length ps → r.head < modules
+head_within modules ps n r all was inside = all r (subst (λ q. IsIn q ps) (sym was) (get_in n ps r inside))
+
+pub list_within : (modules : ℕ) (ps : List Production) (n h : ℕ) (lists : List (Vec ProdNo Global)) → AreByHead modules ps n (numbers_in lists) → h < modules → h < length lists
+list_within modules ps n h lists known below = omega (arith, known.one_each, length-map lists numbers)
+
+-- the heads of a well-formed grammar, production by production
+pub heads_within : (g : Grammar) → IsWellFormed g → (r : Production) → IsIn r g.productions → r.head < length g.modules
+heads_within g formed r here =
+    let at = in_at r g.productions here in
+    subst (λ (q : Production). q.head < length g.modules) (at_is r at.0 g.productions _ at.1) (formed.heads at.0 (at_below r at.0 g.productions at.1))
+
+-- the list of a module, as it is kept
+pub listed : (modules : ℕ) (ps : List Production) (n m : ℕ) (lists : List (Vec ProdNo Global)) (v : Vec ProdNo Global) → AreByHead modules ps n (numbers_in lists)
+    → m < modules → v ≡ get_or lists m v → numbers v ≡ headed ps n m
+listed modules ps n m lists v known below was =
+    ap numbers was ∙ sym (get_or-map numbers lists m v [] (list_within modules ps n m lists known below)) ∙ known.each m below
+
+-- the rows of a module, as they are kept
+pub rowed : (ms : List Module) (m : ℕ) (lists : List (Vec ℕ Global)) (v : Vec ℕ Global) → map (λ (r : Vec ℕ Global). r.items) lists ≡ map full_rows ms
+    → m < length ms → v ≡ get_or lists m v → v.items ≡ full_rows (get_or ms m no_module)
+rowed ms m lists v known below was =
+    ap items was ∙ sym (get_or-map items lists m v [] inside) ∙ ap (λ rs. get_or rs m []) known ∙ get_or-map full_rows ms m no_module [] below
+  where
+    items : Vec ℕ Global → List ℕ
+    items r = r.items
+
+    inside : m < length lists
+    inside = omega (arith, length-map lists items, ap length known, length-map ms full_rows)
+
+-- full rows are those of a module to which no pairs are given
+pub full_are : (g : Grammar) (m : ℕ) → g.given ≡ [] → outputs_of g m ≤ 64 → AreRowsOf g m (full_rows (module_at g m))
+full_are g m none few = record {
+  one_each = length-replicate (inputs_of g m) (2 ^ outputs_of g m - 1);
+  bits = λ i o a b.
+      ap (λ r. bit_at r o == 1) (get_or-replicate (inputs_of g m) i (2 ^ outputs_of g m - 1) 0 a)
+      ∙ ap (λ k. k == 1) (bit_at_ones (outputs_of g m) o b)
+      ∙ sym (ap (λ given. is_given given m i o) none);
+  no_more = λ i o above. past i o above (nat_lt i (inputs_of g m)) refl;
+}
+  where
+    past : (i o : ℕ) → outputs_of g m ≤ o → (b : Bool) → nat_lt i (inputs_of g m) ≡ b → bit_at (get_or (full_rows (module_at g m)) i 0) o ≡ 0
+    past i o above true is =
+        let a : i < inputs_of g m = ltb-true i (inputs_of g m) is in
+        ap (λ r. bit_at r o) (get_or-replicate (inputs_of g m) i (2 ^ outputs_of g m - 1) 0 a) ∙ bit_at_ones_above (outputs_of g m) o above
+    past i o above false is =
+        let a : inputs_of g m ≤ i = ltb-false i (inputs_of g m) is in
+        let l : length (full_rows (module_at g m)) ≤ i = omega (arith, length-replicate (inputs_of g m) (2 ^ outputs_of g m - 1)) in
+        ap (λ r. bit_at r o) (get_or_past (full_rows (module_at g m)) i 0 l) ∙ bit_at-zero o
+
+pub outputs_within : (g : Grammar) (m : ℕ) → IsWellFormed g → m < length g.modules → outputs_of g m ≤ 64
+outputs_within g m formed below = (formed.modules (module_at g m) (get_in m g.modules no_module below)).few_outputs
