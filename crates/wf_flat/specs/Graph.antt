@@ -87,3 +87,7 @@ Agree flags seen = (j : ℕ) → flag_of flags j ≡ some (λ c. c == j) seen
 -- the instance of a number, by its name and module
 abbrev pub inst_at : List Inst → ℕ → Instance
 inst_at xs k = instance_of (get_or xs k no_instance)
+
+-- the instances of the ports are below a number
+abbrev pub AreWithin : ℕ → List LinkHeld → Type 0
+AreWithin count ls = (l : LinkHeld) → IsIn l ls → (l.from.instance < count) × (l.to.instance < count)
