@@ -1,8 +1,8 @@
 -- The flat graph of a run: its links, and paths between its ports.
-use Rattle.std.specs.Prelude.{◌≡◌, ◌<◌, ◌≤◌, ◌^◌, ℕ, List, Vec, map, length}
+use Rattle.std.specs.Prelude.{◌≡◌, ◌<◌, ◌≤◌, ◌^◌, ◌++◌, ◌∷◌, [], ◌↔◌, Bool, IsTrue, ℕ, List, Vec, map, length}
 use Rattle.std.specs.declared.alloc.Global.{Global}
 use Rattle.wf_model.specs.Lists.{IsIn, IsAt, AllDiffer}
-use Rattle.wf_model.specs.Links.{Port, Link}
+use Rattle.wf_model.specs.Links.{Port, Link, Path}
 use Rattle.wf_graph.specs.Graph.{HasEdge}
 use Rattle.wf_flat.specs.declared.graph.Port.{Port as PortHeld}
 use Rattle.wf_flat.specs.declared.graph.Link.{Link as LinkHeld}
@@ -21,10 +21,6 @@ numbered_link l = record { from = numbered l.from; to = numbered l.to }
 abbrev pub numbered_links : List LinkHeld → List (Link ℕ)
 numbered_links ls = map numbered_link ls
 
--- the instances of the ports are below a number
-abbrev pub AreWithin : ℕ → List LinkHeld → Type 0
-AreWithin count ls = (l : LinkHeld) → IsIn l ls → (l.from.instance < count) × (l.to.instance < count)
-
 -- the ports are numbered, each once, and the graph has an edge between two numbers exactly where a link leads between the ports of these numbers
 pub record IsIndex (ls : List LinkHeld) (ports : List PortHeld) (graph : List (Vec ℕ Global)) : Type 0 where
   pub one_each : length graph ≡ length ports
@@ -32,3 +28,19 @@ pub record IsIndex (ls : List LinkHeld) (ports : List PortHeld) (graph : List (V
   pub differ : AllDiffer ports
   pub linked : (l : LinkHeld) → IsIn l ls → (a : ℕ) × (b : ℕ) × IsAt l.from a ports × IsAt l.to b ports × HasEdge graph a b
   pub links : (a b : ℕ) → HasEdge graph a b → (l : LinkHeld) × IsIn l ls × IsAt l.from a ports × IsAt l.to b ports
+
+-- what was an index of links is one still
+abbrev pub KeepsIndex : List PortHeld → List (Vec ℕ Global) → List PortHeld → List (Vec ℕ Global) → Type 0
+KeepsIndex ports graph ports' graph' = (ls : List LinkHeld) → IsIndex ls ports graph → IsIndex ls ports' graph'
+
+-- each port keeps its number
+abbrev pub KeepsPlaces : List PortHeld → List PortHeld → Type 0
+KeepsPlaces ports ports' = (x : PortHeld) (k : ℕ) → IsAt x k ports → IsAt x k ports'
+
+-- what was an index of links is one of these links and one more
+abbrev pub AddsLink : LinkHeld → List PortHeld → List (Vec ℕ Global) → List PortHeld → List (Vec ℕ Global) → Type 0
+AddsLink l ports graph ports' graph' = (ls : List LinkHeld) → IsIndex ls ports graph → IsIndex (ls ++ l ∷ []) ports' graph'
+
+-- an answer tells whether a path leads from a port to a port, in the links of which this is an index
+abbrev pub TellsPath : List PortHeld → List (Vec ℕ Global) → PortHeld → PortHeld → Bool → Type 0
+TellsPath ports graph from to answer = (ls : List LinkHeld) → IsIndex ls ports graph → IsTrue answer ↔ Path (numbered_links ls) (numbered from) (numbered to)

@@ -1,19 +1,95 @@
 // The flat graph of a run.
 ghost use Rattle.std.specs.Prelude.{◌≡◌, ◌<◌, ◌↔◌, List, ℕ, length, IfOk, IsTrue};
-ghost use Rattle.wf_model.specs.Lists.{AllDiffer};
+ghost use Rattle.wf_model.specs.Lists.{IsAt, AllDiffer};
 ghost use Rattle.wf_model.specs.View.{View};
 ghost use Rattle.wf_model.specs.Links.{Path, links_with};
 ghost use Rattle.wf_model.specs.Meaning.{pairs_of};
 ghost use Rattle.wf_flat.specs.Table.{IsRunOf, events_of, names_in};
-ghost use Rattle.wf_flat.specs.Graph.{named_links, named_port, Marks, IsMadeFor};
-ghost use Rattle.wf_flat.specs.Flat.{numbered, numbered_links, AreWithin};
+ghost use Rattle.wf_flat.specs.Graph.{named_links, named_port, Marks, IsMadeFor, AreWithin};
+ghost use Rattle.wf_graph.specs.Graph.{HasEdge, InRange};
+ghost use Rattle.wf_flat.specs.Flat.{numbered, numbered_links, IsIndex, KeepsIndex, KeepsPlaces, AddsLink, TellsPath};
+ghost use Rattle.std.specs.Prelude.{[], OnOk, ◌⊎◌, ◌≤◌, ◌^◌};
 
 use crate::graph::{Link, Port, links};
 use crate::table::PlainRun;
 use indexmap::IndexSet;
 use std::alloc::{AllocError, Global};
 use std::marker::Model;
+use wf_graph::reaches;
 use wf_spec::{Deps, Grammar};
+
+/// The number of a port, which is added where it has none.
+fn number(alloc: Global, ports: &mut IndexSet<Port>, graph: &mut Vec<Vec<u32>>, port: Port) -> Result<u32, AllocError>
+    requires { length graph.old.items ≡ length ports.old.keys }
+    ensures one_each { OnOk result (length graph.new.items ≡ length ports.new.keys) }
+    ensures index { OnOk result (KeepsIndex ports.old.keys graph.old.items ports.new.keys graph.new.items) }
+    ensures there { IfOk result (λ k. IsAt port k ports.new.keys) }
+    ensures kept { OnOk result (KeepsPlaces ports.old.keys ports.new.keys) }
+{
+    let (index, is_new) = ports.insert_full(port)?;
+    let Ok(number) = u32::try_from(index) else {
+        return Err(AllocError);
+    };
+    if !is_new {
+        return Ok(number);
+    }
+    graph.push(Vec::new(alloc))?;
+    Ok(number)
+}
+
+/// Adds an edge to a graph.
+fn join(graph: &mut Vec<Vec<u32>>, a: u32, b: u32) -> Result<(), AllocError>
+    requires { a < length graph.old.items }
+    ensures count { OnOk result (length graph.new.items ≡ length graph.old.items) }
+    ensures edges { OnOk result ((x y : ℕ) → HasEdge graph.new.items x y ↔ (HasEdge graph.old.items x y ⊎ ((x ≡ a) × (y ≡ b)))) }
+{
+    graph[a as usize].push(b)?;
+    Ok(())
+}
+
+/// Adds a link to an index.
+fn add_link(alloc: Global, ports: &mut IndexSet<Port>, graph: &mut Vec<Vec<u32>>, link: Link) -> Result<(), AllocError>
+    requires { length graph.old.items ≡ length ports.old.keys }
+    ensures one_each { OnOk result (length graph.new.items ≡ length ports.new.keys) }
+    ensures index { OnOk result (AddsLink link ports.old.keys graph.old.items ports.new.keys graph.new.items) }
+{
+    let from = number(alloc, ports, graph, link.from)?;
+    let to = number(alloc, ports, graph, link.to)?;
+    join(graph, from, to)?;
+    Ok(())
+}
+
+/// Adds links to an empty index.
+fn add_links(alloc: Global, ports: &mut IndexSet<Port>, graph: &mut Vec<Vec<u32>>, links: &[Link]) -> Result<(), AllocError>
+    requires no_ports { ports.old.keys ≡ [] }
+    requires no_edges { graph.old.items ≡ [] }
+    ensures { OnOk result (IsIndex links.now ports.new.keys graph.new.items) }
+{
+    for link in links {
+        add_link(alloc, ports, graph, *link)?;
+    }
+    Ok(())
+}
+
+/// Whether a path leads from a port to a port in the links of an index.
+fn is_joined(alloc: Global, ports: &IndexSet<Port>, graph: &[Vec<u32>], from: Port, to: Port) -> Result<bool, AllocError>
+    requires one_each { length graph.now ≡ length ports.now.keys }
+    requires few { length ports.now.keys ≤ 2 ^ 32 }
+    requires in_range { InRange graph.now }
+    ensures { IfOk result (TellsPath ports.now.keys graph.now from to) }
+{
+    if from == to {
+        return Ok(true);
+    }
+    let Some(a) = ports.get_index_of(&from) else {
+        return Ok(false);
+    };
+    let Some(b) = ports.get_index_of(&to) else {
+        return Ok(false);
+    };
+    let is_reached = reaches(alloc, graph, a as u32, b as u32)?;
+    Ok(is_reached)
+}
 
 /// The links of a run, with an index by which paths are searched.
 #[derive(Drop)]
@@ -49,7 +125,15 @@ impl Flat {
         ensures links { IfOk result (λ f. (u : View) → Marks expanded.now u → named_links (names_in run.now.instances) f.links ≡ links_with g.now u (pairs_of leaf.now) g.now.start (events_of run.now)) }
         ensures within { IfOk result (λ f. AreWithin (length run.now.instances) f.links) }
     {
-        Err(AllocError)
+        let links = links(alloc, g, run, expanded, leaf)?;
+        let mut ports = IndexSet::new(alloc);
+        let mut graph = Vec::new(alloc);
+        add_links(alloc, &mut ports, &mut graph, &links)?;
+        Ok(Flat {
+            links,
+            ports,
+            graph,
+        })
     }
 
     /// The links, in order.
@@ -67,6 +151,7 @@ impl Flat {
         ensures by_name { IfOk result (λ b. (names : List (List ℕ)) → AllDiffer names → AreWithin (length names) self.now.links → from.instance < length names → to.instance < length names →
             IsTrue b ↔ Path (named_links names self.now.links) (named_port names from) (named_port names to)) }
     {
-        Err(AllocError)
+        let joined = is_joined(alloc, &self.ports, &self.graph, from, to)?;
+        Ok(joined)
     }
 }

@@ -5,7 +5,7 @@ ghost use Rattle.wf_model.specs.View.{View};
 ghost use Rattle.wf_model.specs.Links.{pair_links, links_of, links_with, move_link, instance_at};
 ghost use Rattle.wf_model.specs.Meaning.{pairs_of};
 ghost use Rattle.wf_flat.specs.Table.{IsRunOf, events_of, names_in};
-ghost use Rattle.wf_flat.specs.Graph.{named_links, Marks, row_links, matrix_links, edge_at, entries_at, exits_at, AreBelow, wiring_of, IsMadeFor, inst_at};
+ghost use Rattle.wf_flat.specs.Graph.{named_links, Marks, row_links, matrix_links, edge_at, entries_at, exits_at, AreBelow, wiring_of, IsMadeFor, AreWithin, inst_at};
 
 use crate::seen::{is_marked, seen};
 use crate::table::PlainRun;
@@ -164,7 +164,8 @@ fn add_wiring(
 ) -> Result<(), AllocError>
     requires few_entries { length rule.now.entries ≤ 64 }
     requires few_exits { length rule.now.exits ≤ 64 }
-    ensures { OnOk result ((names : List (List ℕ)) (count : ℕ) → AreBelow count rule.now → first + count < 2 ^ 32 →
+    ensures within { OnOk result ((count n : ℕ) → AreBelow count rule.now → instance < n → first + count ≤ n → n < 2 ^ 32 → AreWithin n links.old.items → AreWithin n links.new.items) }
+    ensures links { OnOk result ((names : List (List ℕ)) (count : ℕ) → AreBelow count rule.now → first + count < 2 ^ 32 →
         named_links names links.new.items ≡ named_links names links.old.items ++ map (move_link (instance_at (get_or names instance []) (take count (drop first names)))) (wiring_of rule.now)) }
 {
     add_edges(links, first, rule.edges())?;
@@ -183,7 +184,8 @@ fn add_pairs(
 ) -> Result<(), AllocError>
     requires in_range { m.0 < length g.now.modules }
     requires made_for { IsMadeFor g.now leaf.now }
-    ensures { OnOk result ((names : List (List ℕ)) → named_links names links.new.items ≡ named_links names links.old.items ++ pair_links g.now (pairs_of leaf.now) m.0 (get_or names instance [])) }
+    ensures within { OnOk result ((n : ℕ) → instance < n → AreWithin n links.old.items → AreWithin n links.new.items) }
+    ensures links { OnOk result ((names : List (List ℕ)) → named_links names links.new.items ≡ named_links names links.old.items ++ pair_links g.now (pairs_of leaf.now) m.0 (get_or names instance [])) }
 {
     let module = &g.modules()[m.0 as usize];
     let inputs = module.inputs().len();
@@ -206,7 +208,8 @@ fn add_instance(
     requires run { IsRunOf g.now run.now }
     requires there { k < length run.now.instances }
     requires made_for { IsMadeFor g.now leaf.now }
-    ensures { OnOk result ((u : View) → Marks expanded.now u →
+    ensures within { OnOk result (AreWithin (length run.now.instances) links.old.items → AreWithin (length run.now.instances) links.new.items) }
+    ensures links { OnOk result ((u : View) → Marks expanded.now u →
         named_links (names_in run.now.instances) links.new.items ≡ named_links (names_in run.now.instances) links.old.items ++ links_of g.now u (pairs_of leaf.now) (events_of run.now) (inst_at run.now.instances k)) }
 {
     let rules = g.productions();
@@ -233,7 +236,8 @@ pub fn links(
 ) -> Result<Vec<Link>, AllocError>
     requires run { IsRunOf g.now run.now }
     requires made_for { IsMadeFor g.now leaf.now }
-    ensures { IfOk result (λ ls. (u : View) → Marks expanded.now u → named_links (names_in run.now.instances) ls.items ≡ links_with g.now u (pairs_of leaf.now) g.now.start (events_of run.now)) }
+    ensures within { IfOk result (λ ls. AreWithin (length run.now.instances) ls.items) }
+    ensures links { IfOk result (λ ls. (u : View) → Marks expanded.now u → named_links (names_in run.now.instances) ls.items ≡ links_with g.now u (pairs_of leaf.now) g.now.start (events_of run.now)) }
 {
     let all = seen(alloc, g, run, expanded)?;
     let mut links = Vec::new(alloc);

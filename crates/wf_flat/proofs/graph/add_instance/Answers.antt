@@ -66,8 +66,8 @@ add_wiring-requires-clause-few_exits c =
     let ps = production_read g _ c.in-Some.p.0 c.index-rules-p.result c.productions-rules.ensures.productions (subst (λ l. c.in-Some.p.0 < length l) (sym c.productions-rules.ensures.productions) low) c.index-rules-p.is in
     subst (λ (z : Production). length z.exits ≤ 64) (sym ps) r.few_exits
 
-pub returns-then-not-is_marked : goal.returns-then-not-is_marked
-returns-then-not-is_marked c = λ u m.
+pub returns-then-not-is_marked-clause-links : goal.returns-then-not-is_marked-clause-links
+returns-then-not-is_marked-clause-links c = λ u m.
     let g = c.args.g.now in
     let t = c.args.run.now in
     let wf = c.productions-rules.ensures.formed in
@@ -75,10 +75,10 @@ returns-then-not-is_marked c = λ u m.
     let e = get_or_read t.instances c.args.k c.index-instances-k.result c.requires.there at no_instance in
     let N = names_in t.instances in
     let b = m (get_or t.instances c.args.k no_instance).module.0 ∙ (ap (λ (y : Inst). flag_of c.args.expanded.now y.module.0) (sym e) ∙ (sym c.is_marked.ensures ∙ c.if-not-is_marked.true)) in
-    c.in_ok-add_pairs.ensures N ∙ ap (λ l. named_links N c.args.links.now.items ++ l) (ap (λ (y : Inst). pair_links g (pairs_of c.args.leaf.now) y.module.0 (get_or N c.args.k [])) e ∙ sym (links_closed g t c.requires.run wf c.args.k c.requires.there u (pairs_of c.args.leaf.now) b))
+    c.in_ok-add_pairs.ensures.links N ∙ ap (λ l. named_links N c.args.links.now.items ++ l) (ap (λ (y : Inst). pair_links g (pairs_of c.args.leaf.now) y.module.0 (get_or N c.args.k [])) e ∙ sym (links_closed g t c.requires.run wf c.args.k c.requires.there u (pairs_of c.args.leaf.now) b))
 
-pub returns-in_default : goal.returns-in_default
-returns-in_default c = λ u m.
+pub returns-in_default-clause-links : goal.returns-in_default-clause-links
+returns-in_default-clause-links c = λ u m.
     let g = c.args.g.now in
     let t = c.args.run.now in
     let wf = c.productions-rules.ensures.formed in
@@ -86,10 +86,10 @@ returns-in_default c = λ u m.
     let e = get_or_read t.instances c.args.k c.index-instances-k.result c.requires.there at no_instance in
     let N = names_in t.instances in
     let b = m (get_or t.instances c.args.k no_instance).module.0 ∙ (ap (λ (y : Inst). flag_of c.args.expanded.now y.module.0) (sym e) ∙ (sym c.is_marked.ensures ∙ c.if-not-is_marked.false)) in
-    c.in_ok-add_pairs-2.ensures N ∙ ap (λ l. named_links N c.args.links.now.items ++ l) (ap (λ (y : Inst). pair_links g (pairs_of c.args.leaf.now) y.module.0 (get_or N c.args.k [])) e ∙ sym (links_waiting g t c.requires.run wf c.args.k c.requires.there u (pairs_of c.args.leaf.now) b (ap (λ (y : Inst). y.production) (sym e) ∙ c.in_default.is)))
+    c.in_ok-add_pairs-2.ensures.links N ∙ ap (λ l. named_links N c.args.links.now.items ++ l) (ap (λ (y : Inst). pair_links g (pairs_of c.args.leaf.now) y.module.0 (get_or N c.args.k [])) e ∙ sym (links_waiting g t c.requires.run wf c.args.k c.requires.there u (pairs_of c.args.leaf.now) b (ap (λ (y : Inst). y.production) (sym e) ∙ c.in_default.is)))
 
-pub returns : goal.returns
-returns c = λ u m.
+pub returns-clause-links : goal.returns-clause-links
+returns-clause-links c = λ u m.
     let g = c.args.g.now in
     let t = c.args.run.now in
     let wf = c.productions-rules.ensures.formed in
@@ -105,8 +105,31 @@ returns c = λ u m.
     let inside = c.requires.run.children c.args.k (get_or t.instances c.args.k no_instance) c.in-Some.p (is_at c.args.k t.instances no_instance c.requires.there) p in
     let small = subst (λ l. length l < 2 ^ 32) c.instances.ensures.instances c.instances.ensures.small in
     let room : c.index-instances-k.result.first_child + L < 2 ^ 32 = subst (λ (y : Inst). y.first_child + L < 2 ^ 32) (sym e) (omega arith) in
-    c.in_ok-add_wiring.ensures N L (subst (AreBelow L) (sym ps) r.below) room
+    c.in_ok-add_wiring.ensures.links N L (subst (AreBelow L) (sym ps) r.below) room
     ∙ ap (λ l. named_links N c.args.links.now.items ++ l)
     (ap (λ (y : Inst). map (move_link (instance_at (get_or N c.args.k []) (take L (drop y.first_child N)))) (wiring_of c.index-rules-p.result)) e
     ∙ (ap (λ (z : Production). map (move_link (instance_at (get_or N c.args.k []) (take L (drop (get_or t.instances c.args.k no_instance).first_child N)))) (wiring_of z)) ps
     ∙ sym (links_opened g t c.requires.run wf c.args.k c.requires.there u (pairs_of c.args.leaf.now) c.in-Some.p b p)))
+
+pub returns-clause-within : goal.returns-clause-within
+returns-clause-within c = λ w.
+    let g = c.args.g.now in
+    let t = c.args.run.now in
+    let wf = c.productions-rules.ensures.formed in
+    let at = c.index-instances-k.is ∙ ap (λ l. get_or l c.args.k c.index-instances-k.result) c.instances.ensures.instances in
+    let e = get_or_read t.instances c.args.k c.index-instances-k.result c.requires.there at no_instance in
+    let p = ap (λ (y : Inst). y.production) (sym e) ∙ c.in-Some.is in
+    let low = production_there g t c.requires.run wf c.args.k c.requires.there c.in-Some.p p in
+    let r = rule g wf c.in-Some.p.0 low in
+    let L = length (body_of g c.in-Some.p.0) in
+    let ps = production_read g _ c.in-Some.p.0 c.index-rules-p.result c.productions-rules.ensures.productions (subst (λ l. c.in-Some.p.0 < length l) (sym c.productions-rules.ensures.productions) low) c.index-rules-p.is in
+    let inside = c.requires.run.children c.args.k (get_or t.instances c.args.k no_instance) c.in-Some.p (is_at c.args.k t.instances no_instance c.requires.there) p in
+    let small = subst (λ l. length l < 2 ^ 32) c.instances.ensures.instances c.instances.ensures.small in
+    let room : c.index-instances-k.result.first_child + L ≤ length t.instances = subst (λ (y : Inst). y.first_child + L ≤ length t.instances) (sym e) inside in
+    c.in_ok-add_wiring.ensures.within L (length t.instances) (subst (AreBelow L) (sym ps) r.below) c.requires.there room small w
+
+pub returns-then-not-is_marked-clause-within : goal.returns-then-not-is_marked-clause-within
+returns-then-not-is_marked-clause-within c = λ w. c.in_ok-add_pairs.ensures.within (length c.args.run.now.instances) c.requires.there w
+
+pub returns-in_default-clause-within : goal.returns-in_default-clause-within
+returns-in_default-clause-within c = λ w. c.in_ok-add_pairs-2.ensures.within (length c.args.run.now.instances) c.requires.there w
