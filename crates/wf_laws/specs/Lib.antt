@@ -1,2 +1,5 @@
 pub mod Finished
 pub mod ItemNames
+pub mod Examples
+pub mod LineGrammar
+pub mod TwistingGrammar

@@ -2,12 +2,14 @@
 #![tactic(auto)]
 
 mod addresses;
+mod examples;
 mod items;
 mod paths;
 mod runs;
 mod safe_views;
 
 pub use addresses::{address_law, routes_law, seen_law};
+pub use examples::{line_grammar_is_worked, twisting_grammar_is_worked};
 pub use items::{depends_law, item_names_law, items_law};
 pub use paths::{crossing_law, pending_law};
 pub use runs::{
