@@ -8,3 +8,4 @@ pub mod Whole
 pub mod ItemNames
 pub mod Idle
 pub mod SameLinks
+pub mod Conditions

@@ -90,12 +90,12 @@ short_from n h l =
     let p : 0 < length n = h.0 in
     and_both (nat_lt 0 (length n) && nat_le (length n) 64) (list_all is_name_byte n) (and_both (nat_lt 0 (length n)) (nat_le (length n) 64) (grind (arith, nat_tests)) (grind (arith, nat_tests))) (bytes_good n h.1)
 
-shorts_give : (ns : List (List ℕ)) → list_all is_short_name ns ≡ true → (n : List ℕ) → IsIn n ns → is_short_name n ≡ true
+pub shorts_give : (ns : List (List ℕ)) → list_all is_short_name ns ≡ true → (n : List ℕ) → IsIn n ns → is_short_name n ≡ true
 shorts_give [] e n h = absurd h
 shorts_give (x ∷ ns) e n (inl d) = ap is_short_name d ∙ and_left _ _ e
 shorts_give (x ∷ ns) e n (inr h) = shorts_give ns (and_right _ _ e) n h
 
-shorts_from : (ns : List (List ℕ)) → ((n : List ℕ) → IsIn n ns → is_short_name n ≡ true) → list_all is_short_name ns ≡ true
+pub shorts_from : (ns : List (List ℕ)) → ((n : List ℕ) → IsIn n ns → is_short_name n ≡ true) → list_all is_short_name ns ≡ true
 shorts_from [] h = refl
 shorts_from (x ∷ ns) h = and_both _ _ (h x (inl refl)) (shorts_from ns (λ n i. h n (inr i)))
 
@@ -130,14 +130,14 @@ module_gives (i ∷ is) n e = go (module_gives is n) (bytes_eq n i.name) refl e
     go ih true t h = inl (λ z. record { name = same_bytes n i.name t z; module_no = ap (λ b. cond b i.module_no (module_in is n)) t z })
     go ih false t h = inr (subst (λ m. IsIn (record { name = n; module_no = m }) is) (sym (ap (λ b. cond b i.module_no (module_in is n)) t)) (ih h))
 
-not_some : {A : Type 0} (o : Option A) → is_some o ≡ false → o ≡ None
+pub not_some : {A : Type 0} (o : Option A) → is_some o ≡ false → o ≡ None
 not_some None e = refl
 not_some (Some x) e = absurd (true≢false e)
 
-same_num : (a b : ℕ) → not (a == b) ≡ false → a ≡ b
+pub same_num : (a b : ℕ) → not (a == b) ≡ false → a ≡ b
 same_num a b e = let f : a == b ≡ true = not_false _ e in grind (arith, nat_tests)
 
-nil_gives : {A : Type 0} (xs : List A) → is_nil xs ≡ true → xs ≡ []
+pub nil_gives : {A : Type 0} (xs : List A) → is_nil xs ≡ true → xs ≡ []
 nil_gives [] e = refl
 nil_gives (x ∷ xs) e = absurd (true≢false (sym e))
 
