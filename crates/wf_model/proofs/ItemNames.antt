@@ -109,20 +109,20 @@ made_once g m n (x ∷ a) w d e i j h k = go (λ i j. made_once g m n a (differ_
     go ih (inr p) (inr q) = ih p q
 
 -- the item of an input of the root, and that of an output
-abbrev input_item : List ℕ → ℕ → List ℕ → Item
+abbrev pub input_item : List ℕ → ℕ → List ℕ → Item
 input_item r k n = record { name = dotted r n; maker = None; produced = None; consumed = Some (input r k) }
 
-abbrev output_item : List ℕ → ℕ → List ℕ → Item
+abbrev pub output_item : List ℕ → ℕ → List ℕ → Item
 output_item r k n = record { name = dotted r n; maker = None; produced = Some (output r k); consumed = None }
 
-in_input_items : (t : Item) (r : List ℕ) (k : ℕ) (ns : List (List ℕ)) → IsIn t (input_items r k ns) → (j : ℕ) × (n : List ℕ) × IsAt n j ns × (t ≡ input_item r (k + j) n)
+pub in_input_items : (t : Item) (r : List ℕ) (k : ℕ) (ns : List (List ℕ)) → IsIn t (input_items r k ns) → (j : ℕ) × (n : List ℕ) × IsAt n j ns × (t ≡ input_item r (k + j) n)
 in_input_items t r k [] h = absurd h
 in_input_items t r k (n ∷ ns) (inl e) = (0, n, refl, (let q : k ≡ k + 0 = omega arith in subst (λ z. t ≡ input_item r z n) q e))
 in_input_items t r k (n ∷ ns) (inr h) =
     let i = in_input_items t r (suc k) ns h in
     (suc i.0, i.1, i.2, (let q : suc k + i.0 ≡ k + suc i.0 = omega arith in subst (λ z. t ≡ input_item r z i.1) q i.3))
 
-in_output_items : (t : Item) (r : List ℕ) (k : ℕ) (ns : List (List ℕ)) → IsIn t (output_items r k ns) → (j : ℕ) × (n : List ℕ) × IsAt n j ns × (t ≡ output_item r (k + j) n)
+pub in_output_items : (t : Item) (r : List ℕ) (k : ℕ) (ns : List (List ℕ)) → IsIn t (output_items r k ns) → (j : ℕ) × (n : List ℕ) × IsAt n j ns × (t ≡ output_item r (k + j) n)
 in_output_items t r k [] h = absurd h
 in_output_items t r k (n ∷ ns) (inl e) = (0, n, refl, (let q : k ≡ k + 0 = omega arith in subst (λ z. t ≡ output_item r z n) q e))
 in_output_items t r k (n ∷ ns) (inr h) =

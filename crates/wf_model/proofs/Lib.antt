@@ -9,3 +9,4 @@ pub mod ItemNames
 pub mod Idle
 pub mod SameLinks
 pub mod Conditions
+pub mod Open

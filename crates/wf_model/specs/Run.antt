@@ -93,6 +93,10 @@ see_all g u m seen (e ∷ events) = see_all g u m (seen ++ newly_seen g u m seen
 abbrev pub seen_in : Grammar → View → ℕ → List Event → List Instance
 seen_in g u m events = see_all g u m [] events
 
+-- an instance is open where it is seen and expanded, and the view expands its module
+abbrev pub IsOpen : Grammar → View → ℕ → List Event → Instance → Type 0
+IsOpen g u m events i = IsIn i (seen_in g u m events) × IsTrue (expands u i.module_no) × ((x : Expanded) × (expanded_by events i.name ≡ Some x))
+
 -- a seen instance that is not expanded, but whose module the view expands
 abbrev pub IsPending : Grammar → View → ℕ → List Event → Instance → Type 0
 IsPending g u m events i = IsIn i (seen_in g u m events) × IsTrue (expands u i.module_no) × (expanded_by events i.name ≡ None)
