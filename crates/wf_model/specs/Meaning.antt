@@ -6,6 +6,7 @@ use Rattle.wf_model.specs.declared.body.Inner.{Inner as InnerHeld}
 use Rattle.wf_model.specs.declared.body.Edge.{Edge as EdgeHeld}
 use Rattle.wf_model.specs.Grammar.{Position, Inner, Edge, Assignment}
 
+-- a position, a port of one, and an edge, as the definitions see them
 abbrev pub position_of : PositionHeld → Position
 position_of p = record { name = p.name; module_no = p.module.0 }
 
