@@ -15,3 +15,4 @@ pub mod Reached
 pub mod Accepted
 pub mod LineGrammar
 pub mod TwistingGrammar
+pub mod Conditions

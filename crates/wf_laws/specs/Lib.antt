@@ -1,5 +1,7 @@
 pub mod Finished
 pub mod ItemNames
+pub mod Conditions
+pub mod Splits
 pub mod Examples
 pub mod LineGrammar
 pub mod TwistingGrammar

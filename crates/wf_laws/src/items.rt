@@ -1,10 +1,16 @@
 // Laws of items: their names, their addresses, and how one depends on another.
 ghost use Rattle.wf_laws.specs.ItemNames.{ItemNamesLaw};
 ghost use Rattle.wf_model.specs.Depends.{DependsLaw, ItemsLaw};
+ghost use Rattle.wf_model.specs.Open.{VisibleLaw};
 
 /// Two items of a run with one name are one item.
 pub fn item_names_law()
     ensures { ItemNamesLaw }
+{}
+
+/// An item is visible exactly where it is a port of the root or was made by an open instance.
+pub fn visible_law()
+    ensures { VisibleLaw }
 {}
 
 /// Each visible item is produced and consumed at ports of instances to which addresses of open instances lead.

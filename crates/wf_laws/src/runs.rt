@@ -1,7 +1,9 @@
 // Laws of runs: which events extend one, how it is finished, and what stays the same as it grows.
+ghost use Rattle.wf_laws.specs.Conditions.{ConditionsLaw};
 ghost use Rattle.wf_laws.specs.Finished.{AllSeenLaw, FinishedLaw, IdleLaw, NoOtherFinishingLaw};
 ghost use Rattle.wf_model.specs.Faults.{TakingLaw};
 ghost use Rattle.wf_model.specs.Finishing.{FinishingLaw};
+ghost use Rattle.wf_model.specs.Open.{OpenLaw};
 ghost use Rattle.wf_model.specs.SubRun.{SubRunLaw};
 
 /// The run of one instance stands within the whole run.
@@ -16,6 +18,16 @@ pub fn sub_run_law()
 /// An event has no fault exactly if an accepted run with this event after it is accepted.
 pub fn taking_law()
     ensures { TakingLaw }
+{}
+
+/// After an accepted run an event has no fault exactly if all of its conditions hold, and a fault exactly if the first condition that does not hold tells it.
+pub fn conditions_law()
+    ensures { ConditionsLaw }
+{}
+
+/// The root is seen, the children of an open instance are seen, and nothing else is.
+pub fn open_law()
+    ensures { OpenLaw }
 {}
 
 /// Each run of a proper grammar can be finished under each view.
