@@ -1,5 +1,6 @@
 pub mod Finished
 pub mod ItemNames
+pub mod Views
 pub mod Conditions
 pub mod Splits
 pub mod Examples

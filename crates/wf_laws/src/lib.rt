@@ -6,7 +6,7 @@ mod examples;
 mod items;
 mod paths;
 mod runs;
-mod safe_views;
+mod views;
 
 pub use addresses::{address_law, routes_law, seen_law};
 pub use examples::{line_grammar_is_worked, twisting_grammar_is_worked};
@@ -16,4 +16,4 @@ pub use runs::{
     all_seen_law, conditions_law, finished_law, finishing_law, idle_law, no_other_finishing_law,
     open_law, sub_run_law, taking_law,
 };
-pub use safe_views::{one_test_suffices, safety_law};
+pub use views::{default_view_law, one_test_suffices, safety_law};

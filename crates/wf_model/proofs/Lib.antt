@@ -10,3 +10,4 @@ pub mod Idle
 pub mod SameLinks
 pub mod Conditions
 pub mod Open
+pub mod DefaultView

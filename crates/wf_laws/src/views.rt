@@ -1,5 +1,11 @@
-// Laws of safe views.
+// Laws of views: the default one, and safe ones.
+ghost use Rattle.wf_laws.specs.Views.{DefaultViewLaw};
 ghost use Rattle.wf_model.specs.Safe.{OneTestSuffices, SafetyLaw};
+
+/// The default view expands every composite module and no other, and an atomic module keeps the pairs of the grammar.
+pub fn default_view_law()
+    ensures { DefaultViewLaw }
+{}
 
 /// One test for each production tells the pairs that expansions join.
 ///
