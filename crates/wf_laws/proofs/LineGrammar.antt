@@ -1,5 +1,5 @@
 -- The line grammar, worked: it is well-formed, its run is accepted and finished, and its links, items and dependencies are computed.
-use Rattle.std.proofs.Common.{◌≡◌, ℕ, zero, suc, ◌<◌, ◌≤◌, ◌⊎◌, true, false, List, [], ◌∷◌, length, codes, get_or, ap, subst, refl, sym, ◌∙◌, inl, inr, ⊎_elim, arith, lit<, lit≤, ◌≢◌, count_by, true≢false, bytes_eq}
+use Rattle.std.proofs.Common.{◌≡◌, ℕ, zero, suc, ◌<◌, ◌≤◌, ◌⊎◌, false, List, [], ◌∷◌, length, codes, get_or, ap, subst, refl, sym, ◌∙◌, inl, inr, ⊎_elim, arith, lit<, lit≤, ◌≢◌, count_by, true≢false, bytes_eq}
 use Rattle.wf_model.proofs.Lists.{same_bytes, bytes_same}
 use Rattle.wf_model.specs.Lists.{IsIn, IsAt, Walk, here, onward}
 use Rattle.wf_model.specs.Grammar.{Position, Inner, Edge, inputs_of, outputs_of, head_of, body_of}
@@ -8,7 +8,7 @@ use Rattle.wf_model.specs.declared.event.Event.TheVariants.{Start, Expand}
 use Rattle.wf_model.specs.Run.{IsName, IsAccepted}
 use Rattle.wf_model.specs.Links.{links}
 use Rattle.wf_laws.specs.Examples.{port, edge, into, out}
-use Rattle.wf_laws.specs.LineGrammar.{line, whole_view, shut_view, events, LineGrammarIsWorked}
+use Rattle.wf_laws.specs.LineGrammar.{line, whole_view, events, LineGrammarIsWorked}
 use Rattle.wf_laws.proofs.Accepted.{none_taken, taken, finished}
 use Rattle.wf_laws.proofs.Reached.{found, not_found}
 

@@ -1,5 +1,5 @@
 -- Reachability between addresses, step by step.
-use Rattle.std.proofs.Common.{◌≡◌, ℕ, ◌↔◌, List, [], ◌∷◌, ◌++◌, IsTrue, refl, sym, subst, inl, ⊎_elim}
+use Rattle.std.proofs.Common.{ℕ, ◌↔◌, List, [], ◌∷◌, ◌++◌, IsTrue, refl, sym, subst, inl, ⊎_elim}
 use Rattle.wf_model.specs.Grammar.{Grammar, Assignment}
 use Rattle.wf_model.specs.Reach.{Step, target_of, module_along, Down, Up, Reaches}
 use Rattle.wf_laws.specs.Splits.{IntoAll, OutAll, SplitsLaw}

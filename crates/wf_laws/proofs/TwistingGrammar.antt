@@ -5,7 +5,7 @@ use Rattle.wf_model.proofs.Lists.{same_bytes}
 use Rattle.wf_model.specs.declared.event.Event.{Event}
 use Rattle.wf_model.specs.declared.event.Event.TheVariants.{Start, Expand}
 use Rattle.wf_model.specs.Run.{IsAccepted}
-use Rattle.wf_model.specs.Links.{Link, Port, Path, input, output, links, body_links}
+use Rattle.wf_model.specs.Links.{Link, input, output, links, body_links}
 use Rattle.wf_laws.specs.Examples.{into, out}
 use Rattle.wf_laws.specs.TwistingGrammar.{twisting, whole_view, outer_view, events, straight, TwistingGrammarIsWorked}
 use Rattle.wf_laws.proofs.Accepted.{none_taken, taken, finished}

@@ -1,15 +1,15 @@
 -- The twisting grammar: L is expanded to a W, an L and a W again, and W joins its ports crosswise. The links of one body, and the dependencies of a run.
-use Rattle.std.specs.Prelude.{◌≡◌, ◌==◌, ℕ, List, [], ◌∷◌, map, Some, None, codes}
+use Rattle.std.specs.Prelude.{◌≡◌, ℕ, List, [], ◌∷◌, map, Some, None, codes}
 use Prim.Native.String.{String}
 use Rattle.wf_model.specs.Grammar.{Grammar, Assignment, is_given}
 use Rattle.wf_model.specs.View.{View}
 use Rattle.wf_model.specs.declared.event.Event.{Event}
 use Rattle.wf_model.specs.declared.event.Event.TheVariants.{Start, Expand}
 use Rattle.wf_model.specs.Run.{Instance, IsAccepted, seen_in}
-use Rattle.wf_model.specs.Links.{Port, input, output, body_links, links}
+use Rattle.wf_model.specs.Links.{Port, input, output, body_links}
 use Rattle.wf_model.specs.Safe.{IsExpansion, BodyJoins}
 use Rattle.wf_model.specs.Items.{Item, items, IsVisible, Depends}
-use Rattle.wf_laws.specs.Examples.{a_module, at, port, edge, into, out, link}
+use Rattle.wf_laws.specs.Examples.{a_module, at, port, edge, into, out}
 
 abbrev pub two : String → String → List (List ℕ)
 two a b = codes a ∷ codes b ∷ []

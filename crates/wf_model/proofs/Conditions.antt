@@ -1,7 +1,6 @@
 -- An event has no fault exactly if all of its conditions hold, and a fault exactly if the first that does not hold has it.
-use Rattle.std.proofs.Common.{◌≡◌, ◌≢◌, ℕ, ◌+◌, ◌<◌, ◌≤◌, ◌⊎◌, ◌↔◌, Bool, true, false, not, cond, List, [], ◌∷◌, length, Option, Some, None, refl, sym, ap, ◌∙◌, subst, inl, inr, ⊎_elim, arith, true≢false, bytes_eq}
+use Rattle.std.proofs.Common.{◌≡◌, ◌≢◌, ℕ, ◌+◌, ◌<◌, ◌≤◌, ◌⊎◌, ◌↔◌, Bool, true, false, not, cond, List, [], ◌∷◌, length, Some, None, refl, sym, ap, ◌∙◌, subst, inl, inr, ⊎_elim, arith, true≢false}
 use Rattle.std.specs.Prelude.{nat_le, nat_lt, ◌==◌, is_some}
-use Rattle.std.specs.List.{list_all}
 use Rattle.std.proofs.lemmas.Bool.Decides.{nat_tests}
 use Rattle.wf_model.specs.declared.event.Event.{Event}
 use Rattle.wf_model.specs.declared.event.Event.TheVariants.{Start, Expand}
@@ -10,8 +9,8 @@ use Rattle.wf_model.specs.Lists.{IsIn}
 use Rattle.wf_model.specs.Grammar.{Grammar, head_of, body_of}
 use Rattle.wf_model.specs.WellFormed.{IsShortName}
 use Rattle.wf_model.specs.Run.{Instance, made, names_of, expanded_by, IsAccepted}
-use Rattle.wf_model.specs.Faults.{is_short_name, is_nil, module_in, is_one_of, some_twice, first_of, faults_of, fault_of}
-use Rattle.wf_model.specs.Conditions.{Condition, HasStarted, HasNotStarted, IsThere, IsProduction, FitsModule, IsUnexpanded, IsOneEach, AreNames, AreNew, IsWithin, conditions_of, AllHold, FirstFailing}
+use Rattle.wf_model.specs.Faults.{is_short_name, is_nil, module_in, first_of, faults_of, fault_of}
+use Rattle.wf_model.specs.Conditions.{Condition, IsWithin, conditions_of, AllHold, FirstFailing}
 use Rattle.wf_model.proofs.Lists.{among_gives, among_from}
 use Rattle.wf_model.proofs.Differ.{one_of_name}
 use Rattle.wf_model.proofs.Taking.{short_gives, short_from, shorts_give, shorts_from, twice_gives, twice_from, module_gives, not_some, same_num, nil_gives, run_differs}

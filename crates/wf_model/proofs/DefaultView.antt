@@ -1,14 +1,14 @@
 -- The default view, as it is computed: it expands every composite module, and an atomic module keeps the pairs of the grammar.
-use Rattle.std.proofs.Common.{◌≡◌, ℕ, zero, suc, ◌+◌, ◌<◌, ◌≤◌, ◌↔◌, ◌==◌, ◌&&◌, Bool, true, false, cond, IsTrue, List, [], ◌∷◌, map, length, get_or, flat_map, refl, sym, ap, ◌∙◌, subst, inl, inr, ⊎_elim, arith, true≢false}
+use Rattle.std.proofs.Common.{◌≡◌, ℕ, zero, suc, ◌+◌, ◌<◌, ◌==◌, ◌&&◌, Bool, true, false, cond, List, [], ◌∷◌, map, length, get_or, flat_map, refl, sym, ap, ◌∙◌, subst, inl, inr, arith, true≢false}
 use Rattle.std.proofs.lemmas.Bool.{and_parts, and_from}
 use Rattle.std.proofs.lemmas.Bool.Decides.{nat_tests}
 use Rattle.wf_model.specs.Lists.{IsIn, some, numbers_from}
-use Rattle.wf_model.specs.Grammar.{Grammar, Production, inputs_of, outputs_of, production_at, head_of, IsAtomic, IsComposite, is_given}
-use Rattle.wf_model.specs.View.{View, expands, shows, IsShownByDefault, IsDefaultView}
+use Rattle.wf_model.specs.Grammar.{Grammar, Production, inputs_of, outputs_of, production_at, head_of, is_given}
+use Rattle.wf_model.specs.View.{shows, IsDefaultView}
 use Rattle.wf_model.specs.DefaultView.{composites, given_pairs, default_view}
 use Rattle.wf_model.specs.Finishing.{ExpandsAll, ExpandsComposites}
 use Rattle.wf_model.proofs.Lists.{in_map, in_map_from, in_flat_map, in_flat_map_from, some_from, some_gives, at_is, is_at, at_in, in_at, at_below}
-use Rattle.wf_model.proofs.Level.{numbers_in, in_numbers}
+use Rattle.wf_model.proofs.Level.{numbers_in}
 
 num_is : (a b : ℕ) → (a == b) ≡ true → a ≡ b
 num_is a b e = grind (arith, nat_tests)

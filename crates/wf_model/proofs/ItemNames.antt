@@ -1,14 +1,14 @@
 -- The items of a run have different names.
-use Rattle.std.proofs.Common.{◌≡◌, ℕ, zero, suc, ◌+◌, ◌<◌, ◌⊎◌, Bool, true, false, cond, List, [], ◌∷◌, ◌++◌, map, length, get_or, filter, count_by, codes, Option, Some, None, refl, sym, ap, ◌∙◌, subst, inl, inr, ⊎_elim, arith, true≢false, append_assoc}
+use Rattle.std.proofs.Common.{◌≡◌, ℕ, zero, suc, ◌+◌, ◌<◌, ◌⊎◌, Bool, true, false, cond, List, [], ◌∷◌, ◌++◌, map, length, get_or, filter, codes, Some, None, refl, sym, ap, ◌∙◌, subst, inl, inr, ⊎_elim, arith, true≢false}
 use Rattle.std.proofs.lemmas.List.{append_cancel_left, map-append}
 use Rattle.std.proofs.lemmas.List.Sums.{length-filter}
 use Rattle.std.proofs.lemmas.Bool.Decides.{nat_tests}
 use Rattle.wf_model.specs.Lists.{IsIn, IsAt, AllDiffer}
 use Rattle.wf_model.specs.Grammar.{Grammar, Module, Inner, Edge, production_at, module_at, outputs_of, body_of}
-use Rattle.wf_model.specs.WellFormed.{IsWellFormed, IsWellFormedBody, IsInnerOutput, same_inner}
+use Rattle.wf_model.specs.WellFormed.{IsWellFormed, IsWellFormedBody, same_inner}
 use Rattle.wf_model.specs.declared.event.Event.{Event}
 use Rattle.wf_model.specs.declared.event.Event.TheVariants.{Start, Expand}
-use Rattle.wf_model.specs.Run.{Instance, IsName, IsNameByte, named, made_by, made, names_of, Extends, AllExtend, IsRun}
+use Rattle.wf_model.specs.Run.{Instance, IsName, IsNameByte, made_by, made, names_of, Extends, AllExtend, IsRun}
 use Rattle.wf_model.specs.Links.{input, output}
 use Rattle.wf_model.specs.Items.{Item, dotted, input_items, output_items, edge_item, items_by, items}
 use Rattle.wf_model.proofs.Lists.{in_append_left, in_append_right, in_append_cases, in_map, in_map_from, in_flat_map_from, in_filter, at_below, at_is, is_at, at_in, differ_at}

@@ -1,13 +1,13 @@
 -- What is seen, open and visible, in words: the root and the children of open instances are seen, and what open instances made is visible.
-use Rattle.std.proofs.Common.{◌≡◌, ◌≢◌, ℕ, ◌⊎◌, ◌↔◌, ◌&&◌, Bool, true, false, cond, IsTrue, List, [], ◌∷◌, ◌++◌, length, map, bytes_eq, Option, Some, None, refl, sym, ap, ◌∙◌, subst, inl, inr, ⊎_elim, true≢false, append_assoc, append-nil}
+use Rattle.std.proofs.Common.{◌≡◌, ◌≢◌, ℕ, ◌⊎◌, ◌↔◌, ◌&&◌, Bool, true, false, cond, IsTrue, List, [], ◌∷◌, ◌++◌, bytes_eq, Option, Some, None, refl, sym, ap, ◌∙◌, subst, inl, inr, ⊎_elim, true≢false, append_assoc, append-nil}
 use Rattle.std.proofs.lemmas.Bool.{and_parts, and_from}
 use Rattle.wf_model.specs.Lists.{IsIn}
 use Rattle.wf_model.specs.Grammar.{Grammar, Edge, body_of, production_at, module_at}
 use Rattle.wf_model.specs.View.{View, expands}
 use Rattle.wf_model.specs.declared.event.Event.{Event}
 use Rattle.wf_model.specs.declared.event.Event.TheVariants.{Start, Expand}
-use Rattle.wf_model.specs.Run.{Instance, Expanded, named, made, names_of, expanded_by, Extends, AllExtend, IsRun, opens, newly_seen, see_all, seen_in, IsOpen, root_of}
-use Rattle.wf_model.specs.Items.{Item, items_by, items, edge_item, input_items, output_items, IsVisible, IsMadeOpen}
+use Rattle.wf_model.specs.Run.{Instance, Expanded, named, made, names_of, expanded_by, Extends, AllExtend, opens, newly_seen, see_all, seen_in, IsOpen, root_of}
+use Rattle.wf_model.specs.Items.{Item, items_by, items, edge_item, input_items, output_items, IsMadeOpen}
 use Rattle.wf_model.specs.Open.{IsRoot, IsChild, OpenLaw, VisibleLaw}
 use Rattle.wf_model.proofs.Lists.{in_append_left, in_append_right, in_append_cases, in_map_from, in_flat_map_from, some_gives, some_from, same_bytes, bytes_same}
 use Rattle.wf_model.proofs.Runs.{named_names, name_in, expansion_kept, expansion_later, expansion_other, expansion_start, IsState, state_more}

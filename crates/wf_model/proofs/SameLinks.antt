@@ -1,11 +1,11 @@
 -- Two assignments with the same pairs within the ports of the modules that are not expanded give a finished run the same links.
-use Rattle.std.proofs.Common.{◌≡◌, ℕ, zero, suc, ◌+◌, ◌<◌, Bool, true, false, cond, List, [], ◌∷◌, ◌++◌, flat_map, length, Option, Some, None, refl, sym, ap, ◌∙◌, inl, inr, arith}
+use Rattle.std.proofs.Common.{◌≡◌, ℕ, ◌+◌, ◌<◌, Bool, true, false, cond, List, [], ◌∷◌, ◌++◌, flat_map, Option, Some, None, refl, ap, ◌∙◌, inl, inr, arith}
 use Rattle.wf_model.specs.Lists.{IsIn, numbers_from}
 use Rattle.wf_model.specs.Grammar.{Grammar, Assignment, inputs_of, outputs_of}
 use Rattle.wf_model.specs.View.{View, expands}
 use Rattle.wf_model.specs.declared.event.Event.{Event}
 use Rattle.wf_model.specs.Run.{Instance, Expanded, expanded_by, seen_in, IsFinished}
-use Rattle.wf_model.specs.Links.{Link, input, output, pair_links, opened_links, links_of, links_with}
+use Rattle.wf_model.specs.Links.{input, output, pair_links, opened_links, links_of, links_with}
 use Rattle.wf_model.proofs.Level.{in_numbers}
 
 -- two functions that agree on a list make the same list

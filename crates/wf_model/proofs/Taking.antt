@@ -1,18 +1,17 @@
 -- An accepted run takes an event exactly if it has no fault.
-use Rattle.std.proofs.Common.{◌≡◌, ℕ, zero, suc, ◌+◌, ◌<◌, ◌≤◌, ◌⊎◌, ◌↔◌, Bool, true, false, not, cond, ◌&&◌, ◌||◌, List, [], ◌∷◌, ◌++◌, length, bytes_eq, Option, Some, None, refl, sym, ap, ◌∙◌, subst, inl, inr, ⊎_elim, arith, true≢false, append-nil, append_assoc, length-append}
+use Rattle.std.proofs.Common.{◌≡◌, ℕ, suc, ◌+◌, ◌<◌, ◌≤◌, Bool, true, false, not, cond, ◌&&◌, ◌||◌, List, [], ◌∷◌, ◌++◌, length, bytes_eq, Option, Some, None, refl, sym, ap, ◌∙◌, subst, inl, inr, ⊎_elim, arith, true≢false, append-nil, append_assoc, length-append}
 use Rattle.std.specs.Prelude.{nat_le, nat_lt, ◌==◌, is_some}
 use Rattle.std.specs.List.{list_all}
 use Rattle.std.proofs.lemmas.Bool.Decides.{nat_tests}
 use Rattle.std.proofs.lemmas.Bool.{or_cases, or_left, or_right}
 use Rattle.wf_model.specs.declared.event.Event.{Event}
 use Rattle.wf_model.specs.declared.event.Event.TheVariants.{Start, Expand}
-use Rattle.wf_model.specs.declared.event.RunFault.{RunFault}
-use Rattle.wf_model.specs.Lists.{IsIn, AllDiffer, some}
+use Rattle.wf_model.specs.Lists.{IsIn, AllDiffer}
 use Rattle.wf_model.specs.Grammar.{Grammar, head_of, body_of}
-use Rattle.wf_model.specs.Run.{Instance, Expanded, IsNameByte, IsName, named, made, made_by, names_of, expanded_by, CanExpand, Extends, AllExtend, IsRun, IsAccepted}
-use Rattle.wf_model.specs.Faults.{is_name_byte, is_short_name, is_nil, module_in, is_one_of, some_twice, first_of, faults_of, fault_of, TakingLaw}
-use Rattle.wf_model.proofs.Lists.{in_append_left, in_append_right, in_append_cases, among_gives, among_from, among_not, same_bytes, bytes_same}
-use Rattle.wf_model.proofs.Runs.{made_more, names-named, named_names, name_in, name_from, name_cases, name_new, name_kept, AllExtend-append}
+use Rattle.wf_model.specs.Run.{Instance, IsNameByte, IsName, named, made, names_of, expanded_by, CanExpand, Extends, AllExtend, IsRun, IsAccepted}
+use Rattle.wf_model.specs.Faults.{is_name_byte, is_short_name, is_nil, module_in, is_one_of, some_twice, fault_of, TakingLaw}
+use Rattle.wf_model.proofs.Lists.{in_append_left, in_append_right, in_append_cases, among_gives, among_from, among_not, same_bytes}
+use Rattle.wf_model.proofs.Runs.{made_more, name_in, name_cases, name_new, AllExtend-append}
 use Rattle.wf_model.proofs.Differ.{made_differ, one_of_name}
 
 -- a test that must fail for there to be no fault

@@ -7,7 +7,7 @@ use Rattle.wf_model.specs.declared.event.Event.{Event}
 use Rattle.wf_model.specs.declared.event.Event.TheVariants.{Start, Expand}
 use Rattle.wf_model.specs.declared.event.RunFault.{RunFault}
 use Rattle.wf_model.specs.declared.event.RunFault.TheVariants.{NotStarted, StartedTwice, UnknownInstance, UnknownProduction, WrongHead, AlreadyExpanded, PositionsWrong, NameBad, NameTwice, TooManyInstances}
-use Rattle.wf_model.specs.Run.{Instance, made, names_of, expanded_by}
+use Rattle.wf_model.specs.Run.{made, names_of, expanded_by}
 
 -- 1. the run has been started, where an instance is to be expanded
 abbrev pub HasStarted : List Event → Type 0

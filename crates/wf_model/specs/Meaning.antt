@@ -1,5 +1,5 @@
 -- What contracts see of positions, ports and edges.
-use Rattle.std.specs.Prelude.{ℕ, List, map, Option, Some, None, Bool, false, ◌==◌, get_or}
+use Rattle.std.specs.Prelude.{ℕ, List, Option, Some, None, Bool, false, ◌==◌, get_or}
 use Rattle.std.specs.Int.{bit_at}
 use Rattle.wf_model.specs.declared.body.Position.{Position as PositionHeld}
 use Rattle.wf_model.specs.declared.body.Inner.{Inner as InnerHeld}
