@@ -1,18 +1,18 @@
 -- Runs can be carried on: an instance and all below it are expanded as a plan says, with fresh names.
 use Rattle.std.proofs.Common.{◌≡◌, ℕ, zero, suc, ◌+◌, ◌<◌, ◌≤◌, ◌⊎◌, max, Bool, true, false, cond, List, [], ◌∷◌, ◌++◌, length, filter, replicate, Option, Some, None, refl, sym, ap, ◌∙◌, subst, inl, inr, ⊎_elim, arith, true≢false, append_assoc, append-nil, zero-add, suc-add, add_comm, is_none}
-use Rattle.std.proofs.lemmas.List.{length-replicate, map-append}
+use Rattle.std.proofs.lemmas.List.{length-replicate}
 use Rattle.wf_model.specs.Lists.{IsIn, AllDiffer}
 use Rattle.wf_model.specs.Grammar.{Grammar, body_of, IsProductionOf}
 use Rattle.wf_model.specs.Proper.{IsProper, RankWithin}
 use Rattle.wf_model.specs.View.{View, expands}
 use Rattle.wf_model.specs.declared.event.Event.{Event}
-use Rattle.wf_model.specs.declared.event.Event.TheVariants.{Start, Expand}
+use Rattle.wf_model.specs.declared.event.Event.TheVariants.{Expand}
 use Rattle.wf_model.specs.Run.{Instance, Expanded, IsName, named, made, names_of, expanded_by, CanExpand, AllExtend, IsRun, seen_in}
 use Rattle.wf_model.specs.Safe.{Ends}
 use Rattle.wf_model.specs.Finishing.{ExpandsComposites, IsFinishing, FinishingLaw}
 use Rattle.wf_model.proofs.Lists.{in_append_left, in_append_cases, bytes_same, in_filter, in_filter_from, at_in}
 use Rattle.wf_model.proofs.Differ.{made_differ}
-use Rattle.wf_model.proofs.Runs.{made_more, made-append, named_names, names-named, expansion_kept, expansion_later, expansion_other, name_in, name_from, made_new, name_kept, IsState, run_state, at_named}
+use Rattle.wf_model.proofs.Runs.{made-append, named_names, names-named, expansion_kept, expansion_later, expansion_other, name_in, name_from, made_new, name_kept, IsState, run_state, at_named}
 
 -- names of increasing lengths, from l on
 pub fresh : ℕ → ℕ → List (List ℕ)

@@ -11,4 +11,8 @@ pub mod Address
 pub mod Depends
 pub mod Routes
 pub mod Splits
-pub mod Rows
+pub mod Reached
+pub mod Accepted
+pub mod LineGrammar
+pub mod TwistingGrammar
+pub mod Conditions

@@ -1,17 +1,8 @@
--- What the decoder computes: rows through matrices along the steps, and the split at the longest common beginning.
-use Rattle.std.proofs.Common.{◌≡◌, ℕ, ◌↔◌, List, [], ◌∷◌, ◌++◌, IsTrue, refl, sym, subst, inl, ⊎_elim}
+-- Reachability between addresses, step by step.
+use Rattle.std.proofs.Common.{ℕ, ◌↔◌, List, [], ◌∷◌, ◌++◌, IsTrue, refl, sym, subst, inl, ⊎_elim}
 use Rattle.wf_model.specs.Grammar.{Grammar, Assignment}
-use Rattle.wf_model.specs.Reach.{Step, target_of, module_along, Into, OutOf, Down, Up, Reaches}
-
--- the inputs that the input i reaches after all the steps
-abbrev pub IntoAll : Grammar → Assignment → List Step → ℕ → ℕ → Type 0
-IntoAll g d [] i j = i ≡ j
-IntoAll g d (s ∷ a) i j = (k : ℕ) × Into g d s i k × IntoAll g d a k j
-
--- the outputs before all the steps that the output j reaches
-abbrev pub OutAll : Grammar → Assignment → List Step → ℕ → ℕ → Type 0
-OutAll g d [] j o = j ≡ o
-OutAll g d (s ∷ a) j o = (k : ℕ) × OutOf g d s k o × OutAll g d a j k
+use Rattle.wf_model.specs.Reach.{Step, target_of, module_along, Down, Up, Reaches}
+use Rattle.wf_laws.specs.Splits.{IntoAll, OutAll, SplitsLaw}
 
 pub down_rows : (g : Grammar) (d : Assignment) (a : List Step) (m i o : ℕ) → Down g d m a i o ↔ ((j : ℕ) × IntoAll g d a i j × IsTrue (d (module_along g m a) j o))
 down_rows g d [] m i o = ((λ h. (i, refl, h)), (λ q. subst (λ z. IsTrue (d m z o)) (sym q.1) q.2))
@@ -49,3 +40,6 @@ past_common g d (s ∷ c) a b m i o = (
   (λ h. ⊎_elim (λ q. (past_common g d c a b (target_of g s) i o).0 q.1) (λ q. absurd (q.0 refl)) h),
   (λ h. inl (refl, (past_common g d c a b (target_of g s) i o).1 h)),
 )
+
+pub splits_law : SplitsLaw
+splits_law = record { down = down_rows; up = up_columns; into_both = into_both; out_both = out_both; common = past_common }

@@ -11,19 +11,9 @@ use Rattle.wf_model.specs.Run.{Instance, named, CanExpand, AllExtend, opens, see
 use Rattle.wf_model.specs.Links.{pair_links, opened_links, links_of, links_with, Link}
 use Rattle.wf_model.specs.Items.{Item, items_by, items, edge_item, IsVisible, IsMadeOpen}
 use Rattle.wf_model.specs.Finishing.{IsFinishing}
+use Rattle.wf_model.specs.Idle.{IsIdle, ShowsTheSame}
 use Rattle.wf_model.proofs.Lists.{in_append_left, in_append_cases, in_map_from, some_gives, same_bytes}
 use Rattle.wf_model.proofs.Runs.{see_all-append, expansion_other, AllExtend-append}
-
--- each instance of this name that is seen has a module that the view does not expand; there may be none
-abbrev pub IsIdle : Grammar → View → ℕ → List Event → List ℕ → Type 0
-IsIdle g u m events i = (j : Instance) → IsIn j (seen_in g u m events) → j.name ≡ i → expands u j.module_no ≡ false
-
--- a run shows the same with further events as without: the seen instances, the links, the visible items, and what is pending
-pub record ShowsTheSame (g : Grammar) (u : View) (m : ℕ) (events after : List Event) : Type 0 where
-  pub seen : seen_in g u m after ≡ seen_in g u m events
-  pub links : (leaf : Assignment) → links_with g u leaf m after ≡ links_with g u leaf m events
-  pub items : (t : Item) → (IsIn t (items g m after) × IsVisible g u m after t) ↔ (IsIn t (items g m events) × IsVisible g u m events t)
-  pub pending : (i : Instance) → IsPending g u m after i ↔ IsPending g u m events i
 
 flat_map_same : {A B : Type 0} (f h : A → List B) (xs : List A) → ((x : A) → IsIn x xs → f x ≡ h x) → flat_map f xs ≡ flat_map h xs
 flat_map_same f h [] e = refl
@@ -65,7 +55,7 @@ module _ (g : Grammar) (u : View) (m : ℕ) where
     same_items : (t : Item) → (IsIn t (items g m after) × IsVisible g u m after t) ↔ (IsIn t (items g m events) × IsVisible g u m events t)
     same_items t = (
       (λ h. ⊎_elim (λ a. (a, (same_maker t.maker).0 h.1)) (λ b. absurd (unseen (in_map_from (edge_item g i p names) t (production_at g p).edges (subst (IsIn t) (append-nil (items_by g m (Expand i p names))) b)) ((same_maker t.maker).0 h.1)))
-      (in_append_cases t (items g m events) (items g m (Expand i p names ∷ [])) (subst (IsIn t) (flat_map-append (items_by g m) events (Expand i p names ∷ [])) h.0))),
+          (in_append_cases t (items g m events) (items g m (Expand i p names ∷ [])) (subst (IsIn t) (flat_map-append (items_by g m) events (Expand i p names ∷ [])) h.0))),
       (λ h. (subst (IsIn t) (sym (flat_map-append (items_by g m) events (Expand i p names ∷ []))) (in_append_left t (items g m events) _ h.0), (same_maker t.maker).1 h.1)),
     )
       where

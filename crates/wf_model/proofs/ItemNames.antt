@@ -1,14 +1,14 @@
 -- The items of a run have different names.
-use Rattle.std.proofs.Common.{◌≡◌, ℕ, zero, suc, ◌+◌, ◌<◌, ◌⊎◌, Bool, true, false, cond, List, [], ◌∷◌, ◌++◌, map, length, get_or, filter, count_by, codes, Option, Some, None, refl, sym, ap, ◌∙◌, subst, inl, inr, ⊎_elim, arith, true≢false, append_assoc}
+use Rattle.std.proofs.Common.{◌≡◌, ℕ, zero, suc, ◌+◌, ◌<◌, ◌⊎◌, Bool, true, false, cond, List, [], ◌∷◌, ◌++◌, map, length, get_or, filter, codes, Some, None, refl, sym, ap, ◌∙◌, subst, inl, inr, ⊎_elim, arith, true≢false}
 use Rattle.std.proofs.lemmas.List.{append_cancel_left, map-append}
 use Rattle.std.proofs.lemmas.List.Sums.{length-filter}
 use Rattle.std.proofs.lemmas.Bool.Decides.{nat_tests}
 use Rattle.wf_model.specs.Lists.{IsIn, IsAt, AllDiffer}
 use Rattle.wf_model.specs.Grammar.{Grammar, Module, Inner, Edge, production_at, module_at, outputs_of, body_of}
-use Rattle.wf_model.specs.WellFormed.{IsWellFormed, IsWellFormedBody, IsInnerOutput, same_inner}
+use Rattle.wf_model.specs.WellFormed.{IsWellFormed, IsWellFormedBody, same_inner}
 use Rattle.wf_model.specs.declared.event.Event.{Event}
 use Rattle.wf_model.specs.declared.event.Event.TheVariants.{Start, Expand}
-use Rattle.wf_model.specs.Run.{Instance, IsName, IsNameByte, named, made_by, made, names_of, Extends, AllExtend, IsRun}
+use Rattle.wf_model.specs.Run.{Instance, IsName, IsNameByte, made_by, made, names_of, Extends, AllExtend, IsRun}
 use Rattle.wf_model.specs.Links.{input, output}
 use Rattle.wf_model.specs.Items.{Item, dotted, input_items, output_items, edge_item, items_by, items}
 use Rattle.wf_model.proofs.Lists.{in_append_left, in_append_right, in_append_cases, in_map, in_map_from, in_flat_map_from, in_filter, at_below, at_is, is_at, at_in, differ_at}
@@ -109,20 +109,20 @@ made_once g m n (x ∷ a) w d e i j h k = go (λ i j. made_once g m n a (differ_
     go ih (inr p) (inr q) = ih p q
 
 -- the item of an input of the root, and that of an output
-abbrev input_item : List ℕ → ℕ → List ℕ → Item
+abbrev pub input_item : List ℕ → ℕ → List ℕ → Item
 input_item r k n = record { name = dotted r n; maker = None; produced = None; consumed = Some (input r k) }
 
-abbrev output_item : List ℕ → ℕ → List ℕ → Item
+abbrev pub output_item : List ℕ → ℕ → List ℕ → Item
 output_item r k n = record { name = dotted r n; maker = None; produced = Some (output r k); consumed = None }
 
-in_input_items : (t : Item) (r : List ℕ) (k : ℕ) (ns : List (List ℕ)) → IsIn t (input_items r k ns) → (j : ℕ) × (n : List ℕ) × IsAt n j ns × (t ≡ input_item r (k + j) n)
+pub in_input_items : (t : Item) (r : List ℕ) (k : ℕ) (ns : List (List ℕ)) → IsIn t (input_items r k ns) → (j : ℕ) × (n : List ℕ) × IsAt n j ns × (t ≡ input_item r (k + j) n)
 in_input_items t r k [] h = absurd h
 in_input_items t r k (n ∷ ns) (inl e) = (0, n, refl, (let q : k ≡ k + 0 = omega arith in subst (λ z. t ≡ input_item r z n) q e))
 in_input_items t r k (n ∷ ns) (inr h) =
     let i = in_input_items t r (suc k) ns h in
     (suc i.0, i.1, i.2, (let q : suc k + i.0 ≡ k + suc i.0 = omega arith in subst (λ z. t ≡ input_item r z i.1) q i.3))
 
-in_output_items : (t : Item) (r : List ℕ) (k : ℕ) (ns : List (List ℕ)) → IsIn t (output_items r k ns) → (j : ℕ) × (n : List ℕ) × IsAt n j ns × (t ≡ output_item r (k + j) n)
+pub in_output_items : (t : Item) (r : List ℕ) (k : ℕ) (ns : List (List ℕ)) → IsIn t (output_items r k ns) → (j : ℕ) × (n : List ℕ) × IsAt n j ns × (t ≡ output_item r (k + j) n)
 in_output_items t r k [] h = absurd h
 in_output_items t r k (n ∷ ns) (inl e) = (0, n, refl, (let q : k ≡ k + 0 = omega arith in subst (λ z. t ≡ output_item r z n) q e))
 in_output_items t r k (n ∷ ns) (inr h) =

@@ -8,3 +8,6 @@ pub mod Whole
 pub mod ItemNames
 pub mod Idle
 pub mod SameLinks
+pub mod Conditions
+pub mod Open
+pub mod DefaultView

@@ -1,18 +1,17 @@
 -- An accepted run takes an event exactly if it has no fault.
-use Rattle.std.proofs.Common.{◌≡◌, ℕ, zero, suc, ◌+◌, ◌<◌, ◌≤◌, ◌⊎◌, ◌↔◌, Bool, true, false, not, cond, ◌&&◌, ◌||◌, List, [], ◌∷◌, ◌++◌, length, bytes_eq, Option, Some, None, refl, sym, ap, ◌∙◌, subst, inl, inr, ⊎_elim, arith, true≢false, append-nil, append_assoc, length-append}
+use Rattle.std.proofs.Common.{◌≡◌, ℕ, suc, ◌+◌, ◌<◌, ◌≤◌, Bool, true, false, not, cond, ◌&&◌, ◌||◌, List, [], ◌∷◌, ◌++◌, length, bytes_eq, Option, Some, None, refl, sym, ap, ◌∙◌, subst, inl, inr, ⊎_elim, arith, true≢false, append-nil, append_assoc, length-append}
 use Rattle.std.specs.Prelude.{nat_le, nat_lt, ◌==◌, is_some}
 use Rattle.std.specs.List.{list_all}
 use Rattle.std.proofs.lemmas.Bool.Decides.{nat_tests}
 use Rattle.std.proofs.lemmas.Bool.{or_cases, or_left, or_right}
 use Rattle.wf_model.specs.declared.event.Event.{Event}
 use Rattle.wf_model.specs.declared.event.Event.TheVariants.{Start, Expand}
-use Rattle.wf_model.specs.declared.event.RunFault.{RunFault}
-use Rattle.wf_model.specs.Lists.{IsIn, AllDiffer, some}
+use Rattle.wf_model.specs.Lists.{IsIn, AllDiffer}
 use Rattle.wf_model.specs.Grammar.{Grammar, head_of, body_of}
-use Rattle.wf_model.specs.Run.{Instance, Expanded, IsNameByte, IsName, named, made, made_by, names_of, expanded_by, CanExpand, Extends, AllExtend, IsRun, IsAccepted}
-use Rattle.wf_model.specs.Faults.{is_name_byte, is_short_name, is_nil, module_in, is_one_of, some_twice, first_of, faults_of, fault_of, TakingLaw}
-use Rattle.wf_model.proofs.Lists.{in_append_left, in_append_right, in_append_cases, among_gives, among_from, among_not, same_bytes, bytes_same}
-use Rattle.wf_model.proofs.Runs.{made_more, names-named, named_names, name_in, name_from, name_cases, name_new, name_kept, AllExtend-append}
+use Rattle.wf_model.specs.Run.{Instance, IsNameByte, IsName, named, made, names_of, expanded_by, CanExpand, Extends, AllExtend, IsRun, IsAccepted}
+use Rattle.wf_model.specs.Faults.{is_name_byte, is_short_name, is_nil, module_in, is_one_of, some_twice, fault_of, TakingLaw}
+use Rattle.wf_model.proofs.Lists.{in_append_left, in_append_right, in_append_cases, among_gives, among_from, among_not, same_bytes}
+use Rattle.wf_model.proofs.Runs.{made_more, name_in, name_cases, name_new, AllExtend-append}
 use Rattle.wf_model.proofs.Differ.{made_differ, one_of_name}
 
 -- a test that must fail for there to be no fault
@@ -90,12 +89,12 @@ short_from n h l =
     let p : 0 < length n = h.0 in
     and_both (nat_lt 0 (length n) && nat_le (length n) 64) (list_all is_name_byte n) (and_both (nat_lt 0 (length n)) (nat_le (length n) 64) (grind (arith, nat_tests)) (grind (arith, nat_tests))) (bytes_good n h.1)
 
-shorts_give : (ns : List (List ℕ)) → list_all is_short_name ns ≡ true → (n : List ℕ) → IsIn n ns → is_short_name n ≡ true
+pub shorts_give : (ns : List (List ℕ)) → list_all is_short_name ns ≡ true → (n : List ℕ) → IsIn n ns → is_short_name n ≡ true
 shorts_give [] e n h = absurd h
 shorts_give (x ∷ ns) e n (inl d) = ap is_short_name d ∙ and_left _ _ e
 shorts_give (x ∷ ns) e n (inr h) = shorts_give ns (and_right _ _ e) n h
 
-shorts_from : (ns : List (List ℕ)) → ((n : List ℕ) → IsIn n ns → is_short_name n ≡ true) → list_all is_short_name ns ≡ true
+pub shorts_from : (ns : List (List ℕ)) → ((n : List ℕ) → IsIn n ns → is_short_name n ≡ true) → list_all is_short_name ns ≡ true
 shorts_from [] h = refl
 shorts_from (x ∷ ns) h = and_both _ _ (h x (inl refl)) (shorts_from ns (λ n i. h n (inr i)))
 
@@ -130,14 +129,14 @@ module_gives (i ∷ is) n e = go (module_gives is n) (bytes_eq n i.name) refl e
     go ih true t h = inl (λ z. record { name = same_bytes n i.name t z; module_no = ap (λ b. cond b i.module_no (module_in is n)) t z })
     go ih false t h = inr (subst (λ m. IsIn (record { name = n; module_no = m }) is) (sym (ap (λ b. cond b i.module_no (module_in is n)) t)) (ih h))
 
-not_some : {A : Type 0} (o : Option A) → is_some o ≡ false → o ≡ None
+pub not_some : {A : Type 0} (o : Option A) → is_some o ≡ false → o ≡ None
 not_some None e = refl
 not_some (Some x) e = absurd (true≢false e)
 
-same_num : (a b : ℕ) → not (a == b) ≡ false → a ≡ b
+pub same_num : (a b : ℕ) → not (a == b) ≡ false → a ≡ b
 same_num a b e = let f : a == b ≡ true = not_false _ e in grind (arith, nat_tests)
 
-nil_gives : {A : Type 0} (xs : List A) → is_nil xs ≡ true → xs ≡ []
+pub nil_gives : {A : Type 0} (xs : List A) → is_nil xs ≡ true → xs ≡ []
 nil_gives [] e = refl
 nil_gives (x ∷ xs) e = absurd (true≢false (sym e))
 

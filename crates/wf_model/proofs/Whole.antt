@@ -1,16 +1,16 @@
 -- Runs under a view that expands every composite module: all that a run makes is seen, and a finished run has no finishing but itself.
-use Rattle.std.proofs.Common.{◌≡◌, ◌≢◌, ℕ, ◌&&◌, Bool, true, false, cond, List, [], ◌∷◌, ◌++◌, bytes_eq, refl, sym, ap, ◌∙◌, subst, append_assoc, append-nil, IsTrue}
+use Rattle.std.proofs.Common.{◌≡◌, ◌≢◌, ℕ, ◌&&◌, true, cond, List, [], ◌∷◌, ◌++◌, bytes_eq, refl, sym, ap, ◌∙◌, subst, append_assoc, append-nil}
 use Rattle.wf_model.specs.Lists.{IsIn}
-use Rattle.wf_model.specs.Grammar.{Grammar, head_of, body_of, IsComposite}
+use Rattle.wf_model.specs.Grammar.{Grammar, head_of, body_of}
 use Rattle.wf_model.specs.View.{View, expands}
 use Rattle.wf_model.specs.declared.event.Event.{Event}
 use Rattle.wf_model.specs.declared.event.Event.TheVariants.{Start, Expand}
 use Rattle.wf_model.specs.Run.{Instance, named, made_by, made, CanExpand, Extends, AllExtend, IsRun, opens, newly_seen, see_all, seen_in, IsFinished}
-use Rattle.wf_model.specs.Finishing.{IsFinishing}
+use Rattle.wf_model.specs.Finishing.{ExpandsAll, IsFinishing}
 use Rattle.wf_model.proofs.Lists.{some_from, bytes_same}
 use Rattle.wf_model.proofs.Runs.{made_more, AllExtend-append}
 
-module _ (g : Grammar) (u : View) (every : (m : ℕ) → IsComposite g m → IsTrue (expands u m)) (m : ℕ) where
+module _ (g : Grammar) (u : View) (every : ExpandsAll g u) (m : ℕ) where
   -- where all that was made is seen, an instance that can be expanded is opened by it
   opened : (b : List Event) (i : List ℕ) (p : ℕ) (names : List (List ℕ)) → CanExpand g m b i p names → opens u (made g m b) i ≡ true
   opened b i p names can =

@@ -1,5 +1,5 @@
 -- The view that shows all: it expands every composite module, and an atomic one keeps the pairs of the grammar.
-use Rattle.std.specs.Prelude.{◌≡◌, ℕ, Bool, cond, List, [], ◌∷◌, map, length, flat_map}
+use Rattle.std.specs.Prelude.{ℕ, cond, List, [], ◌∷◌, map, length, flat_map}
 use Rattle.wf_model.specs.Lists.{numbers_from}
 use Rattle.wf_model.specs.Grammar.{Grammar, Production, inputs_of, outputs_of, is_given}
 use Rattle.wf_model.specs.View.{View}

@@ -17,6 +17,7 @@ is_name_byte b = (nat_le 97 b && nat_le b 122) || (nat_le 65 b && nat_le b 90) |
 abbrev pub is_short_name : List ℕ → Bool
 is_short_name n = nat_lt 0 (length n) && nat_le (length n) 64 && list_all is_name_byte n
 
+-- the list is empty, as a test
 abbrev pub is_nil : {A : Type 0} → List A → Bool
 is_nil [] = true
 is_nil (x ∷ xs) = false
@@ -35,7 +36,7 @@ abbrev pub some_twice : List (List ℕ) → List (List ℕ) → Bool
 some_twice taken [] = false
 some_twice taken (n ∷ ns) = is_one_of taken n || some_twice (taken ++ n ∷ []) ns
 
--- the tests of an event, in order, after a run from the start module with a limit on its instances
+-- the tests of an event, in the order of trial, after a run from the start module with a limit on its instances; specs/Conditions says in words what each passing test denies
 abbrev pub faults_of : Grammar → ℕ → List Event → Event → List (Bool × RunFault)
 faults_of g most before (Start r) =
     (not (is_nil before), StartedTwice) ∷

@@ -10,6 +10,10 @@ use Rattle.wf_model.specs.Run.{IsRun, IsFinished}
 abbrev pub ExpandsComposites : Grammar → View → Type 0
 ExpandsComposites g u = (m : ℕ) → IsTrue (expands u m) → IsComposite g m
 
+-- the view expands every composite module
+abbrev pub ExpandsAll : Grammar → View → Type 0
+ExpandsAll g u = (m : ℕ) → IsComposite g m → IsTrue (expands u m)
+
 -- a finishing of a run: a finished run of which it is a prefix
 pub record IsFinishing (g : Grammar) (u : View) (m : ℕ) (events more : List Event) : Type 0 where
   pub run : IsRun g m (events ++ more)

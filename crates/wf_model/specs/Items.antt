@@ -7,7 +7,7 @@ use Rattle.wf_model.specs.declared.event.Event.TheVariants.{Start, Expand}
 use Rattle.wf_model.specs.Run.{seen_in, opens}
 use Rattle.wf_model.specs.Links.{Port, input, output, links, Path}
 
--- an item: its name, the instance that made it (none for a port of the root), and the ports where it is produced and consumed
+-- an item: its name, the instance that made it (none for a port of the root), the port where it is produced (none for an input of the root), and the port where it is consumed (none for an output of the root)
 pub record Item : Type 0 where
   pub name : List ℕ
   pub maker : Option (List ℕ)
@@ -54,7 +54,7 @@ abbrev pub IsMadeOpen : Grammar → View → ℕ → List Event → Option (List
 IsMadeOpen g u m events None = Unit {0}
 IsMadeOpen g u m events (Some i) = IsTrue (opens u (seen_in g u m events) i)
 
--- a port of the root, or made by an open instance
+-- an item is visible where it is a port of the root or was made by an open instance
 abbrev pub IsVisible : Grammar → View → ℕ → List Event → Item → Type 0
 IsVisible g u m events t = IsMadeOpen g u m events t.maker
 
@@ -64,6 +64,6 @@ PathBetween g u m events None y = ⊥
 PathBetween g u m events (Some x) None = ⊥
 PathBetween g u m events (Some x) (Some y) = Path (links g u m events) x y
 
--- B depends on A: a path leads from where A is consumed to where B is produced
+-- B depends on A where a path leads from the port that consumes A to the port that produces B; so nothing depends on an output of the root, and an input of the root depends on nothing
 abbrev pub Depends : Grammar → View → List Event → Item → Item → Type 0
 Depends g u events a b = PathBetween g u g.start events a.consumed b.produced

@@ -5,19 +5,21 @@ use Rattle.wf_model.specs.Grammar.{Grammar, head_of, body_of}
 use Rattle.wf_model.specs.Proper.{Derives}
 use Rattle.wf_model.specs.Reach.{Step, target_of}
 
--- a step of the module m, to a position of one of its productions
+-- a step of the module m: a production of it and a position of that production
 pub record IsStepOf (g : Grammar) (m : ℕ) (s : Step) : Type 0 where
   pub in_range : s.production < length g.productions
   pub head : head_of g s.production ≡ m
   pub position : s.position < length (body_of g s.production)
 
--- a step of m whose target reaches m again
+-- a continuing step of m: its target reaches m again. A module reaches itself, and whatever a list of steps leads to
 abbrev pub Continues : Grammar → ℕ → Step → Type 0
 Continues g m s = IsStepOf g m s × Derives g (target_of g s) m
 
+-- a grammar is strictly linear where each module has at most one continuing step
 abbrev pub IsLinear : Grammar → Type 0
 IsLinear g = (m : ℕ) (s t : Step) → Continues g m s → Continues g m t → s ≡ t
 
+-- a module stands on a cycle where it has a continuing step
 abbrev pub IsOnCycle : Grammar → ℕ → Type 0
 IsOnCycle g m = (s : Step) × Continues g m s
 

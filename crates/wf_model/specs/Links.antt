@@ -8,16 +8,18 @@ use Rattle.wf_model.specs.View.{View, expands, shows}
 use Rattle.wf_model.specs.declared.event.Event.{Event}
 use Rattle.wf_model.specs.Run.{Instance, Expanded, expanded_by, seen_in}
 
--- a port of something: which, a side and a number
+-- a port of something, of an instance or of a place in a body: its owner, a side and a number
 pub record Port (A : Type 0) : Type 0 where
   pub owner : A
   pub side : Side
   pub number : ℕ
 
+-- a link from one port to another
 pub record Link (A : Type 0) : Type 0 where
   pub from : Port A
   pub to : Port A
 
+-- the n-th input of an owner, and its n-th output
 abbrev pub input : {A : Type 0} → A → ℕ → Port A
 input a n = record { owner = a; side = Input; number = n }
 
@@ -56,7 +58,7 @@ abbrev pub place_links : Grammar → Assignment → ℕ → List ℕ → List (L
 place_links g d k [] = []
 place_links g d k (m ∷ ms) = pair_links g d m (Some k) ++ place_links g d (suc k) ms
 
--- the links of one body under an assignment
+-- the links of one body under an assignment of pairs to modules: its edges, entries and exits, and the pairs of each position
 abbrev pub body_links : Grammar → Assignment → ℕ → List (Link (Option ℕ))
 body_links g d p = wiring g p ++ place_links g d 0 (body_of g p)
 
@@ -65,6 +67,7 @@ abbrev pub instance_at : List ℕ → List (List ℕ) → Option ℕ → List �
 instance_at n names None = n
 instance_at n names (Some k) = get_or names k []
 
+-- a port with another owner, and a link with both ports moved so
 abbrev pub move_port : {A B : Type 0} → (A → B) → Port A → Port B
 move_port f x = record { owner = f x.owner; side = x.side; number = x.number }
 
@@ -89,7 +92,7 @@ links_with g u leaf m events = flat_map (links_of g u leaf events) (seen_in g u 
 abbrev pub perceived : View → Assignment
 perceived u m i o = cond (expands u m) false (shows u m i o)
 
--- The links of a run from module m under a view. A pending instance has none
+-- The links of a run from module m under a view, for each seen instance in order of making: edges, entries and exits of an open one, perceived pairs of one whose module the view does not expand, and none of a pending one
 abbrev pub links : Grammar → View → ℕ → List Event → List (Link (List ℕ))
 links g u m events = links_with g u (perceived u) m events
 
@@ -97,6 +100,6 @@ links g u m events = links_with g u (perceived u) m events
 abbrev pub IsLinked : {A : Type 0} → List (Link A) → Port A → Port A → Type 0
 IsLinked ls x y = IsIn (record { from = x; to = y }) ls
 
--- a path in the links, from a port to a port
+-- A path in the links: a nonempty list of ports, each linked to the next. A single port is a path, so a path joins each port to itself
 abbrev pub Path : {A : Type 0} → List (Link A) → Port A → Port A → Type 0
 Path ls = Walk (IsLinked ls)

@@ -1,11 +1,12 @@
 -- What contracts see of positions, ports and edges.
-use Rattle.std.specs.Prelude.{ℕ, List, map, Option, Some, None, Bool, false, ◌==◌, get_or}
+use Rattle.std.specs.Prelude.{ℕ, List, Option, Some, None, Bool, false, ◌==◌, get_or}
 use Rattle.std.specs.Int.{bit_at}
 use Rattle.wf_model.specs.declared.body.Position.{Position as PositionHeld}
 use Rattle.wf_model.specs.declared.body.Inner.{Inner as InnerHeld}
 use Rattle.wf_model.specs.declared.body.Edge.{Edge as EdgeHeld}
 use Rattle.wf_model.specs.Grammar.{Position, Inner, Edge, Assignment}
 
+-- a position, a port of one, and an edge, as the definitions see them
 abbrev pub position_of : PositionHeld → Position
 position_of p = record { name = p.name; module_no = p.module.0 }
 

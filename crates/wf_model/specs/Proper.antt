@@ -7,7 +7,7 @@ use Rattle.wf_model.specs.Grammar.{Grammar, body_of, IsAtomic, IsComposite, IsPr
 abbrev pub Makes : Grammar → ℕ → ℕ → Type 0
 Makes g a b = (p : ℕ) × IsProductionOf g p a × IsIn b (body_of g p)
 
--- a list of modules leads from a to b, and each next one stands in a body of the one before
+-- a derives b where a list of modules leads from a to b, and each next one stands in a body of the one before; each module derives itself
 abbrev pub Derives : Grammar → ℕ → ℕ → Type 0
 Derives g = Walk (Makes g)
 
@@ -16,14 +16,15 @@ abbrev pub RankWithin : Grammar → ℕ → ℕ → Type 0
 RankWithin g zero m = IsAtomic g m
 RankWithin g (suc n) m = IsAtomic g m ⊎ ((p : ℕ) × IsProductionOf g p m × ((k : ℕ) → IsIn k (body_of g p) → RankWithin g n k))
 
--- the least such number
+-- the rank of a module is the least such number
 abbrev pub IsRank : Grammar → ℕ → ℕ → Type 0
 IsRank g m n = RankWithin g n m × ((k : ℕ) → RankWithin g k m → n ≤ k)
 
--- b alone stands in a body of a
+-- b alone stands in a body of a: a unit production leads from a to b
 abbrev pub Becomes : Grammar → ℕ → ℕ → Type 0
 Becomes g a b = (p : ℕ) × IsProductionOf g p a × (length (body_of g p) ≡ 1) × IsIn b (body_of g p)
 
+-- a grammar is proper where each composite module is derived from the start module and has a rank, and unit productions lead from no module back to it
 pub record IsProper (g : Grammar) : Type 0 where
   pub reached : (m : ℕ) → IsComposite g m → Derives g g.start m
   pub ranked : (m : ℕ) → IsComposite g m → (n : ℕ) × RankWithin g n m

@@ -14,6 +14,7 @@ pub record Step : Type 0 where
   pub production : ℕ
   pub position : ℕ
 
+-- the module to which a step leads
 abbrev pub target_of : Grammar → Step → ℕ
 target_of g s = get_or (body_of g s.production) s.position 0
 
@@ -28,15 +29,15 @@ IsAlong g u events n [] c = n ≡ c
 IsAlong g u events n (s ∷ steps) c =
     (names : List (List ℕ)) × (expanded_by events n ≡ Some (record { production = s.production; names = names })) × (s.position < length names) × IsTrue (expands u (head_of g s.production)) × IsAlong g u events (get_or names s.position []) steps c
 
--- from inputs of the head to inputs of a position, in a body
+-- in a body: a path from an input of the head to an input of a position
 abbrev pub Into : Grammar → Assignment → Step → ℕ → ℕ → Type 0
 Into g d s i j = (j < inputs_of g (target_of g s)) × Path (body_links g d s.production) (input None i) (input (Some s.position) j)
 
--- from outputs of a position to outputs of the head
+-- in a body: a path from an output of a position to an output of the head
 abbrev pub OutOf : Grammar → Assignment → Step → ℕ → ℕ → Type 0
 OutOf g d s j o = (j < outputs_of g (target_of g s)) × Path (body_links g d s.production) (output (Some s.position) j) (output None o)
 
--- from outputs of one position to inputs of another
+-- in a body: a path from an output of one position to an input of another. In a well-formed body none leads from a position back to it
 abbrev pub Between : Grammar → Assignment → Step → ℕ → ℕ → ℕ → Type 0
 Between g d s to j i = Path (body_links g d s.production) (output (Some s.position) j) (input (Some to) i)
 

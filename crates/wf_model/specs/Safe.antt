@@ -23,17 +23,17 @@ Joins g u m events i o = Path (links g u m events) (input (root_of events) i) (o
 abbrev pub BodyJoins : Grammar → Assignment → ℕ → ℕ → ℕ → Type 0
 BodyJoins g d p i o = Path (body_links g d p) (input None i) (output None o)
 
--- a view is safe where for each seen module all its expansions join the same pairs
+-- a view is safe where, for each seen module, all its expansions join the same inputs to the same outputs
 abbrev pub IsSafe : Grammar → View → Type 0
 IsSafe g u =
     (m : ℕ) → IsSeenModule g u m → (e f : List Event) → IsExpansion g u m e → IsExpansion g u m f → (i o : ℕ) → i < inputs_of g m → o < outputs_of g m → Joins g u m e i o → Joins g u m f i o
 
--- each expansion of each seen module joins exactly the pairs assigned to it
+-- the full assignment: each expansion of each seen module joins exactly the pairs assigned to it
 abbrev pub IsFull : Grammar → View → Assignment → Type 0
 IsFull g u d =
     (m : ℕ) → IsSeenModule g u m → (e : List Event) → IsExpansion g u m e → (i o : ℕ) → i < inputs_of g m → o < outputs_of g m → IsTrue (d m i o) ↔ Joins g u m e i o
 
--- an assignment that one test per module and per production passes
+-- an assignment that the productions induce: the perceived pairs for a seen module that is not expanded, and for an expanded one the pairs that each of its bodies joins
 pub record IsInduced (g : Grammar) (u : View) (d : Assignment) : Type 0 where
   pub shown : (m : ℕ) → IsSeenModule g u m → expands u m ≡ false → (i o : ℕ) → i < inputs_of g m → o < outputs_of g m → d m i o ≡ shows u m i o
   pub induced : (p : ℕ) → p < length g.productions → IsSeenModule g u (head_of g p) → IsTrue (expands u (head_of g p)) → (i o : ℕ) → i < inputs_of g (head_of g p) → o < outputs_of g (head_of g p) → IsTrue (d (head_of g p) i o) ↔ BodyJoins g d p i o

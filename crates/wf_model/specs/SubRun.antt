@@ -17,5 +17,6 @@ pub record IsOwnRun (g : Grammar) (u : View) (m : ℕ) (events : List Event) (i 
   pub same_links : (leaf : Assignment) → links_with g u leaf i.module_no (sub_run i.name events) ≡ flat_map (links_of g u leaf events) (filter (is_among (family (i.name ∷ []) events)) (seen_in g u m events))
   pub finished : IsFinished g u m events → IsFinished g u i.module_no (sub_run i.name events)
 
+-- the run of a seen instance of a run is such a run
 abbrev pub SubRunLaw : Type 0
 SubRunLaw = (g : Grammar) (u : View) (m : ℕ) (events : List Event) (i : Instance) → IsRun g m events → IsIn i (seen_in g u m events) → IsOwnRun g u m events i

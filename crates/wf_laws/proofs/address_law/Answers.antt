@@ -1,5 +1,0 @@
-use Rattle.wf_laws.proofs.Routes
-use Rattle.wf_laws.proofs.address_law.Goals as goal
-
-pub returns : goal.returns
-returns c = Routes.address_law

@@ -1,5 +1,0 @@
-use Rattle.wf_laws.proofs.Depends
-use Rattle.wf_laws.proofs.depends_law.Goals as goal
-
-pub returns : goal.returns
-returns c = Depends.depends_law

@@ -1,5 +1,0 @@
-use Rattle.wf_laws.proofs.Routes
-use Rattle.wf_laws.proofs.routes_law.Goals as goal
-
-pub returns : goal.returns
-returns c = Routes.routes_law

@@ -1,5 +1,0 @@
-use Rattle.wf_laws.proofs.Safety
-use Rattle.wf_laws.proofs.safety_law.Goals as goal
-
-pub returns : goal.returns
-returns c = Safety.safety_law

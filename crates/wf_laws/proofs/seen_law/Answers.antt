@@ -1,5 +1,0 @@
-use Rattle.wf_laws.proofs.Address
-use Rattle.wf_laws.proofs.seen_law.Goals as goal
-
-pub returns : goal.returns
-returns c = Address.seen_law

@@ -1,5 +1,0 @@
-use Rattle.wf_laws.proofs.OwnRun
-use Rattle.wf_laws.proofs.sub_run_law.Goals as goal
-
-pub returns : goal.returns
-returns c = OwnRun.sub_run_law

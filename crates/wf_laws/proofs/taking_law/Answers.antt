@@ -1,5 +1,0 @@
-use Rattle.wf_model.proofs.Taking
-use Rattle.wf_laws.proofs.taking_law.Goals as goal
-
-pub returns : goal.returns
-returns c = Taking.taking_law

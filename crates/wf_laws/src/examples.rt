@@ -1,0 +1,13 @@
+// Worked examples, computed from the definitions.
+ghost use Rattle.wf_laws.specs.LineGrammar.{LineGrammarIsWorked};
+ghost use Rattle.wf_laws.specs.TwistingGrammar.{TwistingGrammarIsWorked};
+
+/// The grammar of two modules in a line: a run, its links in order, its items, and which of them depends on which.
+pub fn line_grammar_is_worked()
+    ensures { LineGrammarIsWorked }
+{}
+
+/// A recursive grammar whose modules join their ports crosswise: the links of one body, a finished run, which of its items depends on which, and a view that hides some.
+pub fn twisting_grammar_is_worked()
+    ensures { TwistingGrammarIsWorked }
+{}

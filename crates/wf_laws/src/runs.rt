@@ -1,0 +1,58 @@
+// Laws of runs: which events extend one, how it is finished, and what stays the same as it grows.
+ghost use Rattle.wf_laws.specs.Conditions.{ConditionsLaw};
+ghost use Rattle.wf_laws.specs.Finished.{AllSeenLaw, FinishedLaw, IdleLaw, NoOtherFinishingLaw};
+ghost use Rattle.wf_model.specs.Faults.{TakingLaw};
+ghost use Rattle.wf_model.specs.Finishing.{FinishingLaw};
+ghost use Rattle.wf_model.specs.Open.{OpenLaw};
+ghost use Rattle.wf_model.specs.SubRun.{SubRunLaw};
+
+/// The run of one instance stands within the whole run.
+///
+/// Take an instance that is seen, a start event that names it, and the expand events of it and of the instances below it.
+/// This is a run from its module. Its links are those of the whole run for these instances, in the same order.
+/// It is finished if the whole run is.
+pub fn sub_run_law()
+    ensures { SubRunLaw }
+{}
+
+/// An event has no fault exactly if an accepted run with this event after it is accepted.
+pub fn taking_law()
+    ensures { TakingLaw }
+{}
+
+/// After an accepted run an event has no fault exactly if all of its conditions hold, and a fault exactly if the first condition that does not hold tells it.
+pub fn conditions_law()
+    ensures { ConditionsLaw }
+{}
+
+/// The root is seen, the children of an open instance are seen, and nothing else is.
+pub fn open_law()
+    ensures { OpenLaw }
+{}
+
+/// Each run of a proper grammar can be finished under each view.
+///
+/// Source of the idea: Bao, Davidson, Milo, "Labeling Workflow Views with Fine-Grained Dependencies", VLDB 2012 (proper workflow grammars).
+pub fn finishing_law()
+    ensures { FinishingLaw }
+{}
+
+/// Under a view that expands every composite module, each instance of a run is seen.
+pub fn all_seen_law()
+    ensures { AllSeenLaw }
+{}
+
+/// Under a view that expands every composite module, a finished run that has its start event has no finishing but itself.
+pub fn no_other_finishing_law()
+    ensures { NoOtherFinishingLaw }
+{}
+
+/// An event that expands an instance which is not seen, or whose module the view does not expand, changes no link and no visible item.
+pub fn idle_law()
+    ensures { IdleLaw }
+{}
+
+/// Each finishing of a finished run has the links and the visible items of the run.
+pub fn finished_law()
+    ensures { FinishedLaw }
+{}

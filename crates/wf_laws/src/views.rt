@@ -1,0 +1,27 @@
+// Laws of views: the default one, and safe ones.
+ghost use Rattle.wf_laws.specs.Views.{DefaultViewLaw};
+ghost use Rattle.wf_model.specs.Safe.{OneTestSuffices, SafetyLaw};
+
+/// The default view expands every composite module and no other, and an atomic module keeps the pairs of the grammar.
+pub fn default_view_law()
+    ensures { DefaultViewLaw }
+{}
+
+/// One test for each production tells the pairs that expansions join.
+///
+/// Let an assignment have the perceived pairs of the modules that the view does not expand, and let each production of a seen, expanded module induce the pairs of its head.
+/// Then each expansion of a seen module joins exactly the pairs assigned to the module.
+///
+/// Source of the idea: Bao, Davidson, Milo, "Labeling Workflow Views with Fine-Grained Dependencies", VLDB 2012 (safe views and full dependency assignments).
+pub fn one_test_suffices()
+    ensures { OneTestSuffices }
+{}
+
+/// A view is safe exactly if each production of a seen, expanded module induces the pairs of its head.
+///
+/// The pairs are those that one production for each module induces, chosen so that every seen module is expanded whole after finitely many rounds.
+///
+/// Source of the idea: Bao, Davidson, Milo, "Labeling Workflow Views with Fine-Grained Dependencies", VLDB 2012 (safe views).
+pub fn safety_law()
+    ensures { SafetyLaw }
+{}
