@@ -1,1 +1,4 @@
 pub mod Putting
+pub mod Stages
+pub mod OneOutcome
+pub mod Answering

@@ -1,0 +1,49 @@
+-- Answers line by line: how the ending of the lines that are left makes that of all.
+use Rattle.std.proofs.Common.{◌≡◌, ◌≢◌, ℕ, ◌⊎◌, Bool, true, false, List, [], ◌∷◌, ◌++◌, length, take, Option, Some, None, refl, sym, ap, ◌∙◌, subst, inl, inr, ⊎_elim}
+use Rattle.wf_model.specs.declared.event.Event.{Event}
+use Rattle.wf_model.specs.Grammar.{Grammar}
+use Rattle.wf_model.specs.View.{View}
+use Rattle.wf_model.specs.Run.{IsRun, IsFinished}
+use Rattle.wf_io.specs.Lines.{Line}
+use Rattle.wf_top.specs.declared.ending.Ending.{Ending}
+use Rattle.wf_top.specs.declared.ending.Ending.TheVariants.{Done, Usage, Refused, ReadFault, WriteFault, NoMemory}
+use Rattle.wf_top.specs.declared.ending.Place.TheVariants.{Queries}
+use Rattle.wf_top.specs.Outcome.{IsQueryLine, IsAnswered, AreAnswered}
+use Rattle.wf_top.specs.Meets.{Appended, EndsBy, IsOfOutcome}
+use Rattle.wf_top.proofs.Putting.{appended_none, appended_twice, begun_none, begun_longer, begun_after}
+use Rattle.wf_top.proofs.Stages.{nothing_put}
+use Rattle.wf_top.proofs.OneOutcome.{one_written}
+
+module _ (g : Grammar) (u : View) (e : List Event) (run : IsRun g g.start e) (finished : IsFinished g u g.start e) where
+  -- no line is left
+  pub answered_none : (old new : Option (List ℕ)) → new ≡ old → EndsBy (AreAnswered g u e []) Done old new
+  answered_none old new s = nothing_put _ Done old new s (λ w. (refl, refl))
+
+  -- the first line is no query
+  pub answered_bad : (l : Line) (ls : List Line) (old new : Option (List ℕ)) → new ≡ old → ((first second : List ℕ) → IsQueryLine l first second → ⊥) → EndsBy (AreAnswered g u e (l ∷ ls)) (Refused Queries) old new
+  answered_bad l ls old new s bad = nothing_put _ (Refused Queries) old new s (λ w. inl (bad, refl, refl))
+
+  -- want of memory, with nothing put
+  pub answered_wanting : (ls : List Line) (old new : Option (List ℕ)) → new ≡ old → EndsBy (AreAnswered g u e ls) NoMemory old new
+  answered_wanting ls old new s = nothing_put _ NoMemory old new s (λ w. absurd (w.1 refl))
+
+  module _ (l : Line) (ls : List Line) (written : List ℕ) (answered : IsAnswered g u e l written) where
+    -- each text of all lines begins with what was written for the first
+    split : (d : Ending) (t : List ℕ) → AreAnswered g u e (l ∷ ls) d t → (rest : List ℕ) × (t ≡ written ++ rest) × AreAnswered g u e ls d rest
+    split d t (inl bad) = absurd (bad.0 answered.first answered.second answered.query)
+    split d t (inr r) = (r.1, r.3 ∙ ap (λ w. w ++ r.1) (one_written g u e l r.0 written run finished r.2 answered), r.4)
+
+    -- the first line was answered
+    pub answered_more : (d : Ending) (a b c : Option (List ℕ)) → Appended written a b → EndsBy (AreAnswered g u e ls) d b c → EndsBy (AreAnswered g u e (l ∷ ls)) d a c
+    answered_more d a b c put ends = record {
+      whole = λ w. let r = ends.whole w in (written ++ r.0, inr (written, r.0, answered, refl, r.1), appended_twice written r.0 a b c put r.2);
+      begun = λ x t h. let s = split x t h in let r = ends.begun x s.0 s.2 in
+        let k = begun_after written s.0 r.0 a b c put r.1 in (k.0, subst (λ y. Appended (take k.0 y) a c) (sym s.1) k.1);
+    }
+
+    -- the answer was put in part
+    pub answered_part : (a b : Option (List ℕ)) → (k : ℕ) × Appended (take k written) a b → EndsBy (AreAnswered g u e (l ∷ ls)) WriteFault a b
+    answered_part a b p = record {
+      whole = λ w. absurd (w.0 refl);
+      begun = λ x t h. let s = split x t h in let k = begun_longer p.0 written s.0 a b p.1 in (k.0, subst (λ y. Appended (take k.0 y) a b) (sym s.1) k.1);
+    }

@@ -1,0 +1,84 @@
+-- What bytes tell, they tell of one value alone.
+use Rattle.std.proofs.Common.{◌≡◌, ◌≢◌, ℕ, ◌⊎◌, Bool, true, false, List, [], ◌∷◌, ◌++◌, length, Option, Some, None, unwrap_or, refl, sym, ap, ◌∙◌, subst, inl, inr, ⊎_elim, append-nil}
+use Rattle.std.specs.Prelude.{Result, Ok, Err, codes}
+use Rattle.serde_json.specs.Data.{Data}
+use Rattle.wf_model.specs.declared.parts.Parts.{Parts}
+use Rattle.wf_model.specs.declared.event.Event.{Event}
+use Rattle.wf_model.specs.Grammar.{Grammar}
+use Rattle.wf_model.specs.View.{View}
+use Rattle.wf_model.specs.Run.{IsRun, IsFinished}
+use Rattle.wf_model.specs.Items.{Item, items}
+use Rattle.wf_model.specs.Finishing.{IsFinishing}
+use Rattle.wf_io.specs.Lines.{Line}
+use Rattle.wf_json.specs.Reading.{IsReading}
+use Rattle.wf_json.specs.SpecForm.{spec_of}
+use Rattle.wf_events.specs.EventForm.{event_of}
+use Rattle.wf_spec.specs.Forming.{grammar_of}
+use Rattle.wf_query.specs.Line.{IsQuery}
+use Rattle.wf_query.proofs.Names.{query_law}
+use Rattle.wf_top.specs.Answers.{item_named, are_visible, IsShown, IsAnswerFor, IsAnswer}
+use Rattle.wf_top.specs.Outcome.{IsSpecText, TellsGrammar, TellsView, IsEventLine, AreEvents, TellsRun, IsQueryLine, IsAnswered}
+
+some_same : {A : Type 0} (x y : A) → Some x ≡ Some y → x ≡ y
+some_same x y e = ap (λ o. unwrap_or o x) e
+
+ok_or : {A E : Type 0} → A → Result A E → A
+unfolding ok_or
+ok_or d r = elim r [ Ok x ↦ x | Err e ↦ d ]
+
+pub one_reading : (bytes : List ℕ) (d c : Data) → IsReading bytes d → IsReading bytes c → d ≡ c
+one_reading bytes d c p q = some_same d c (sym p.1 ∙ q.1)
+
+pub one_parts : (bytes : List ℕ) (p q : Parts) → IsSpecText bytes p → IsSpecText bytes q → p ≡ q
+unfolding ok_or
+one_parts bytes p q h k =
+    ap (ok_or p) (sym h.2 ∙ (ap spec_of (one_reading bytes h.0 k.0 h.1 k.1) ∙ k.2))
+
+pub one_grammar : (bytes : List ℕ) (g h : Grammar) → TellsGrammar bytes g → TellsGrammar bytes h → h ≡ g
+one_grammar bytes g h p q = q.is ∙ (ap grammar_of (one_parts bytes q.parts p.parts q.read p.read) ∙ sym p.is)
+
+pub one_view : (g : Grammar) (bytes : List ℕ) (u v : View) → TellsView g bytes u → TellsView g bytes v → v ≡ u
+one_view g bytes u v p q = q.1 ∙ sym p.1
+
+one_event : (l : Line) (e f : Event) → IsEventLine l e → IsEventLine l f → e ≡ f
+one_event l e f p q =
+    some_same e f (sym p.1.2 ∙ (ap event_of (one_reading _ p.1.0 q.1.0 p.1.1 q.1.1) ∙ q.1.2))
+
+pub one_list : (ls : List Line) (es fs : List Event) → AreEvents ls es → AreEvents ls fs → es ≡ fs
+one_list [] [] [] p q = refl
+one_list [] [] (f ∷ fs) p q = absurd q
+one_list [] (e ∷ es) fs p q = absurd p
+one_list (l ∷ ls) [] fs p q = absurd p
+one_list (l ∷ ls) (e ∷ es) [] p q = absurd q
+one_list (l ∷ ls) (e ∷ es) (f ∷ fs) p q =
+    ap (λ x. x ∷ es) (one_event l e f p.0 q.0) ∙ ap (λ xs. f ∷ xs) (one_list ls es fs p.1 q.1)
+
+pub one_run : (g : Grammar) (u : View) (limit : ℕ) (bytes : List ℕ) (es fs : List Event) → TellsRun g u limit bytes es → TellsRun g u limit bytes fs → fs ≡ es
+one_run g u limit bytes es fs p q = one_list _ fs es q.read p.read
+
+one_shown : (t : Bool) (g : Grammar) (u : View) (f : List Event) (a b : Item) (x y : List ℕ) → IsShown t g u f a b x → IsShown t g u f a b y → x ≡ y
+one_shown false g u f a b x y p q = p ∙ sym q
+one_shown true g u f a b x y (inl p) (inl q) = p.0 ∙ sym q.0
+one_shown true g u f a b x y (inl p) (inr q) = absurd (q.1 p.1)
+one_shown true g u f a b x y (inr p) (inl q) = absurd (p.1 q.1)
+one_shown true g u f a b x y (inr p) (inr q) = p.0 ∙ sym q.0
+
+one_for : (g : Grammar) (u : View) (e f : List Event) (a b : Option Item) (x y : List ℕ) → IsAnswerFor g u e f a b x → IsAnswerFor g u e f a b y → x ≡ y
+one_for g u e f None b x y p q = p ∙ sym q
+one_for g u e f (Some a) None x y p q = p ∙ sym q
+one_for g u e f (Some a) (Some b) x y p q = one_shown (are_visible g u e a b) g u f a b x y p q
+
+-- a run that is finished has an answer at most
+pub one_answer : (g : Grammar) (u : View) (e : List Event) (first second x y : List ℕ) → IsRun g g.start e → IsFinished g u g.start e → IsAnswer g u e first second x → IsAnswer g u e first second y → x ≡ y
+one_answer g u e first second x y run finished p q =
+    let own : IsFinishing g u g.start e [] = record {
+      run = subst (IsRun g g.start) (sym (append-nil e)) run;
+      finished = subst (IsFinished g u g.start) (sym (append-nil e)) finished;
+    } in
+    one_for g u e (e ++ []) _ _ x y (p [] own) (q [] own)
+
+-- a line of query has one line of answer
+pub one_written : (g : Grammar) (u : View) (e : List Event) (l : Line) (x y : List ℕ) → IsRun g g.start e → IsFinished g u g.start e → IsAnswered g u e l x → IsAnswered g u e l y → x ≡ y
+one_written g u e l x y run finished p q =
+    let s = query_law _ p.first p.second q.first q.second p.query.1 q.query.1 in
+    p.line ∙ (ap (λ a. a ++ codes "\n") (one_answer g u e q.first q.second p.answer q.answer run finished (subst (λ n. IsAnswer g u e q.first n p.answer) s.1 (subst (λ n. IsAnswer g u e n p.second p.answer) s.0 p.is)) q.is) ∙ sym q.line)
