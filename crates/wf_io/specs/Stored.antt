@@ -1,5 +1,5 @@
 -- What the shelves and sinks in memory hold.
-use Rattle.std.specs.Prelude.{ℕ, Bool, true, false, List, [], ◌∷◌, if◌then◌else◌}
+use Rattle.std.specs.Prelude.{ℕ, true, false, List, [], ◌∷◌, if◌then◌else◌}
 use Rattle.std.specs.Str.{bytes_eq}
 use Rattle.wf_io.specs.Told.{File}
 use Rattle.wf_io.specs.declared.mem_shelf.MemFile.{MemFile}

@@ -19,7 +19,7 @@ pub struct MemFile {
 /// Files in memory, of which a call reads at most `piece` bytes. It tells its files.
 ///
 /// Of two files of one name the first counts. A name that it does not hold has no bytes and is broken. The count of
-/// faults stays at 2^64 - 1 once it is there.
+/// faults stays at 2^64 - 1 once it is there. A call looks at the files one after the other.
 #[derive(Drop)]
 pub struct MemShelf {
     files: Seq<MemFile>,

@@ -13,7 +13,7 @@ pub enum ReadFault {
     /// The file has more bytes than are allowed.
     #[error("the file is too long")]
     TooLong,
-    /// A call of the shelf failed.
+    /// A call of the shelf failed, and its count of faults rose.
     #[error("reading failed")]
     Fault,
     /// Memory is wanting.
@@ -90,8 +90,9 @@ fn more<H: Shelf>(
 /// The whole file `name` of a shelf, where it has at most `most` bytes.
 ///
 /// Of a shelf that tells its files it gives exactly the file's bytes. TooLong comes where the file has more than `most`
-/// bytes, broken or not; Fault where it is broken and has at most `most` bytes. The file is read in pieces of 65,536
-/// bytes; the time is linear in the bytes that are read.
+/// bytes, broken or not; Fault where it is broken and has at most `most` bytes. NoMemory may come at any time.
+///
+/// Cost: time linear in the bytes that are read, in pieces of 65,536 bytes. Takes memory for the file and one piece.
 pub fn read_all<H: Shelf>(
     alloc: Global,
     shelf: &mut H,

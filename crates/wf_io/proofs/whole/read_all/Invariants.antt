@@ -1,4 +1,4 @@
-use Rattle.std.proofs.Common.{◌≡◌, ◌<◌, ◌≤◌, ◌++◌, ℕ, true, false, List, length, ◌-◌}
+use Rattle.std.proofs.Common.{◌≡◌, ◌<◌, ◌≤◌, length, ◌-◌}
 use Rattle.wf_io.specs.Told.{Begins}
 use Rattle.wf_io.proofs.whole.read_all.Given as goal
 
