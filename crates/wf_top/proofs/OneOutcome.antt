@@ -22,15 +22,13 @@ use Rattle.wf_top.specs.Outcome.{IsSpecText, TellsGrammar, TellsView, IsEventLin
 some_same : {A : Type 0} (x y : A) → Some x ≡ Some y → x ≡ y
 some_same x y e = ap (λ o. unwrap_or o x) e
 
-ok_or : {A E : Type 0} → A → Result A E → A
-unfolding ok_or
+abbrev ok_or : {A E : Type 0} → A → Result A E → A
 ok_or d r = elim r [ Ok x ↦ x | Err e ↦ d ]
 
 pub one_reading : (bytes : List ℕ) (d c : Data) → IsReading bytes d → IsReading bytes c → d ≡ c
 one_reading bytes d c p q = some_same d c (sym p.1 ∙ q.1)
 
 pub one_parts : (bytes : List ℕ) (p q : Parts) → IsSpecText bytes p → IsSpecText bytes q → p ≡ q
-unfolding ok_or
 one_parts bytes p q h k =
     ap (ok_or p) (sym h.2 ∙ (ap spec_of (one_reading bytes h.0 k.0 h.1 k.1) ∙ k.2))
 

@@ -42,17 +42,17 @@ module _ {A : Type 0} (most : ℕ) (place : Place) (file : File) (Tells : List �
       go d t (goes_on l b c tells next) = ends.begun d t (subst (λ x. Next x d t) (one c tells) next)
 
 -- what reads and declines stops
-pub declines_stop : {A : Type 0} (most : ℕ) (place : Place) (file : File) (Tells : List ℕ → A → Type 0) (bytes : List ℕ) (e : Ending) → IsTold most file Holds bytes → Declines place (Tells bytes) e → StopsAt most place file Tells e
-declines_stop most place file Tells bytes Done told h = absurd h
-declines_stop most place file Tells bytes Usage told h = absurd h
-declines_stop most place file Tells bytes (Refused p) told h = (h.0, inr (told.short, told.whole, λ a t. h.1 a (subst (λ b. Tells b a) (sym told.tells) t)))
-declines_stop most place file Tells bytes (ReadFault p) told h = absurd h
-declines_stop most place file Tells bytes WriteFault told h = absurd h
-declines_stop most place file Tells bytes NoMemory told h = tt
+pub declines_stop : {A : Type 0} (most : ℕ) (place : Place) (file : File) (Tells : List ℕ → A → Type 0) (bytes seen : List ℕ) (e : Ending) → IsTold most file Holds bytes → seen ≡ bytes → Declines place (Tells seen) e → StopsAt most place file Tells e
+declines_stop most place file Tells bytes seen Done told s h = absurd h
+declines_stop most place file Tells bytes seen Usage told s h = absurd h
+declines_stop most place file Tells bytes seen (Refused p) told s h = (h.0, inr (told.short, told.whole, λ a t. h.1 a (subst (λ b. Tells b a) (sym (s ∙ told.tells)) t)))
+declines_stop most place file Tells bytes seen (ReadFault p) told s h = absurd h
+declines_stop most place file Tells bytes seen WriteFault told s h = absurd h
+declines_stop most place file Tells bytes seen NoMemory told s h = tt
 
 -- what is told of bytes that are held is told by the file
-pub told_by : {A : Type 0} (most : ℕ) (file : File) (Tells : List ℕ → A → Type 0) (bytes : List ℕ) (a : A) → IsTold most file Holds bytes → Tells bytes a → IsTold most file Tells a
-told_by most file Tells bytes a told t = record { short = told.short; whole = told.whole; tells = subst (λ b. Tells b a) told.tells t }
+pub told_by : {A : Type 0} (most : ℕ) (file : File) (Tells : List ℕ → A → Type 0) (bytes seen : List ℕ) (a : A) → IsTold most file Holds bytes → seen ≡ bytes → Tells seen a → IsTold most file Tells a
+told_by most file Tells bytes seen a told s t = record { short = told.short; whole = told.whole; tells = subst (λ b. Tells b a) (s ∙ told.tells) t }
 
 -- a file that cannot be held whole stops whatever it tells
 pub held_stops : {A : Type 0} (most : ℕ) (place : Place) (file : File) (Tells : List ℕ → A → Type 0) (e : Ending) → StopsAt most place file Holds e → StopsAt most place file Tells e

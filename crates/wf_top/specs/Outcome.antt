@@ -49,9 +49,13 @@ IsDefaultText bytes = (bytes ≡ codes "{}") ⊎ (bytes ≡ codes "{}\n")
 abbrev pub TellsView : Grammar → List ℕ → ViewOf → Type 0
 TellsView g bytes u = IsDefaultText bytes × (u ≡ default_view g)
 
+-- the text is an event in JSON
+abbrev pub IsEventText : List ℕ → Event → Type 0
+IsEventText text e = (d : Data) × IsReading text d × (event_of d ≡ Some e)
+
 -- the line is not too long and tells this event
 abbrev pub IsEventLine : Line → Event → Type 0
-IsEventLine l e = (is_too_long l.raw ≡ false) × ((d : Data) × IsReading (text_of l.raw) d × (event_of d ≡ Some e))
+IsEventLine l e = (is_too_long l.raw ≡ false) × IsEventText (text_of l.raw) e
 
 -- each line tells its event
 abbrev pub AreEvents : List Line → List Event → Type 0

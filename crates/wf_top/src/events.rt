@@ -1,10 +1,12 @@
 // EVENTS: from bytes to a finished run.
-ghost use Rattle.std.specs.Prelude.{◌≡◌, IfOk, IfErr, List};
-ghost use Rattle.wf_model.specs.View.{View as ViewOf};
+ghost use Rattle.std.specs.Prelude.{◌≡◌, ◌++◌, ◌∷◌, [], IfOk, IfErr, OnOk};
+ghost use Rattle.wf_model.specs.DefaultView.{default_view};
+ghost use Rattle.wf_model.specs.Run.{IsAccepted};
+ghost use Rattle.wf_io.specs.Lines.{lines_of};
 ghost use Rattle.wf_model.specs.declared.event.Event.{Event};
 ghost use Rattle.wf_flat.specs.Table.{IsRunOf, events_of};
 ghost use Rattle.wf_flat.specs.Graph.{Marks};
-ghost use Rattle.wf_top.specs.Outcome.{TellsRun, AreEvents, instance_most};
+ghost use Rattle.wf_top.specs.Outcome.{TellsRun, AreEvents, IsEventText, instance_most};
 ghost use Rattle.wf_top.specs.Stages.{Declines};
 ghost use Rattle.wf_top.specs.declared.ending.Place.TheVariants.{Events};
 
@@ -22,6 +24,8 @@ const REFUSED: Ending = Ending::Refused { place: Place::Events };
 
 /// The event of a line.
 fn event_of_line(alloc: Global, line: &[u8]) -> Result<Event, Ending>
+    ensures ok { IfOk result (λ e. IsEventText line.now e) }
+    ensures declines { IfErr result (λ d. Declines Events (IsEventText line.now) d) }
 {
     match read_event(alloc, line) {
         Ok(event) => Ok(event),
@@ -33,6 +37,12 @@ fn event_of_line(alloc: Global, line: &[u8]) -> Result<Event, Ending>
 
 /// Takes the event of a line into a run.
 fn take_line(alloc: Global, g: &Grammar, run: &mut PlainRun, line: &[u8]) -> Result<(), Ending>
+    requires run { IsRunOf g.now run.old }
+    requires most { run.old.most ≡ instance_most }
+    ensures run { IsRunOf g.now run.new }
+    ensures most { run.new.most ≡ instance_most }
+    ensures ok { OnOk result ((e : Event) × IsEventText line.now e × (events_of run.new ≡ events_of run.old ++ e ∷ [])) }
+    ensures declines { IfErr result (λ d. Declines Events (λ e. IsEventText line.now e × IsAccepted g.now instance_most (events_of run.old ++ e ∷ [])) d) }
 {
     let event = event_of_line(alloc, line)?;
     match run.take(g, &event) {
@@ -52,6 +62,9 @@ fn next_line<'b>(lines: &mut WholeLines<'b>) -> Result<Option<&'b [u8]>, Ending>
 
 /// Takes all lines.
 fn take_lines(alloc: Global, g: &Grammar, bytes: &[u8]) -> Result<PlainRun, Ending>
+    ensures run { IfOk result (λ r. IsRunOf g.now r × (r.most ≡ instance_most)) }
+    ensures read { IfOk result (λ r. AreEvents (lines_of bytes.now) (events_of r)) }
+    ensures declines { IfErr result (λ d. Declines Events (λ es. AreEvents (lines_of bytes.now) es × IsAccepted g.now instance_most es) d) }
 {
     let mut run = PlainRun::new(alloc, INSTANCES);
     let mut lines = WholeLines::open(bytes);
@@ -61,11 +74,12 @@ fn take_lines(alloc: Global, g: &Grammar, bytes: &[u8]) -> Result<PlainRun, Endi
     Ok(run)
 }
 
-/// The run that events tell, which is finished under the view of the marks.
+/// The run that events tell, which is finished under the default view, whose modules are marked.
 pub fn run_of_bytes(alloc: Global, g: &Grammar, marks: &[bool], bytes: &[u8]) -> Result<PlainRun, Ending>
+    requires { Marks marks.now (default_view g.now) }
     ensures run { IfOk result (λ r. IsRunOf g.now r) }
-    ensures ok { IfOk result (λ r. (u : ViewOf) → Marks marks.now u → TellsRun g.now u instance_most bytes.now (events_of r)) }
-    ensures declines { IfErr result (λ e. (u : ViewOf) → Marks marks.now u → Declines Events (TellsRun g.now u instance_most bytes.now) e) }
+    ensures ok { IfOk result (λ r. TellsRun g.now (default_view g.now) instance_most bytes.now (events_of r)) }
+    ensures declines { IfErr result (λ e. Declines Events (TellsRun g.now (default_view g.now) instance_most bytes.now) e) }
 {
     let run = take_lines(alloc, g, bytes)?;
     let Ok(finished) = is_finished(alloc, g, &run, marks) else {

@@ -53,10 +53,11 @@ fn view_stage<H: Shelf>(alloc: Global, shelf: &mut H, name: &str, g: &Grammar) -
     ensures later { H.faults shelf.old ≤ H.faults shelf.new }
 {
     let bytes = read_file(alloc, shelf, name, SHORT, Place::View)?;
-    if !is_default_text(&bytes) {
-        return Err(Ending::Refused { place: Place::View });
+    if is_default_text(&bytes) {
+        Ok(())
+    } else {
+        Err(Ending::Refused { place: Place::View })
     }
-    Ok(())
 }
 
 /// The run of EVENTS.
