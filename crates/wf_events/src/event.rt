@@ -12,11 +12,13 @@ use std::alloc::Global;
 use wf_json::{FromJson, TextFault, member, read_value};
 use wf_model::{Event, Name, Seq};
 
-/// Reads an event from a line, which is one JSON value without its newline.
+/// Reads an event from a line, which is one JSON value.
 ///
-/// The value has exactly one of `start` and `expand`, whatever stands in it. Further members are ignored; where a member is given twice, the last counts.
+/// The value has exactly one of `start` and `expand`, whatever stands in it. Further members are ignored. Of a member that is given twice the last counts.
 ///
-/// Cost: linear in the line.
+/// Errors: NotJson where the bytes are not UTF-8 or no JSON value of at most 127 levels; WrongShape where the value has not the form of an event; NoMemory where memory was refused.
+///
+/// Cost: one reading of the line by `serde_json`, and one pass over the value.
 pub fn read_event(alloc: Global, line: &[u8]) -> Result<Event, EventFault>
     ensures ok { IfOk result (λ e. (d : Data) × IsReading line.now d × (event_of d ≡ Some e)) }
     ensures refused { IfErr result (λ f. IsRefusal line.now f) }

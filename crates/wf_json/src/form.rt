@@ -8,12 +8,14 @@ use serde_json::Value;
 use std::alloc::{AllocError, Global};
 use wf_model::{Name, Seq};
 
-/// What can be read from a JSON value of its form.
+/// A type that has a form in JSON.
 pub trait FromJson: Sized {
     /// What a value says, and none where it has not the form.
     ghost form: { Data → Option Self };
 
-    /// Reads a value; None where it has not the form.
+    /// Reads a value; None where it has not the form, and an error where memory was refused.
+    ///
+    /// Cost: one pass over the value.
     fn from_json(alloc: Global, value: &Value) -> Result<Option<Self>, AllocError>
         ensures { IfOk result (λ o. o ≡ form (view value.now)) };
 }
@@ -82,7 +84,7 @@ fn two<A: FromJson + Drop, B: FromJson + Drop>(
     Ok(Some((a, b)))
 }
 
-/// The items of a list of exactly two.
+/// Reads a list of exactly two items; None where the value is no such list, and an error where memory was refused.
 pub fn pair<A: FromJson + Drop, B: FromJson + Drop>(
     alloc: Global,
     value: &Value,
@@ -95,7 +97,7 @@ pub fn pair<A: FromJson + Drop, B: FromJson + Drop>(
     }
 }
 
-/// A member that is there.
+/// Reads the member of this key; None where it is not there or has not the form, and an error where memory was refused.
 pub fn member<T: FromJson + Drop>(
     alloc: Global,
     value: &Value,
@@ -109,8 +111,8 @@ pub fn member<T: FromJson + Drop>(
     }
 }
 
-/// A member that is a list; one that is not there is an empty list.
-pub fn list<T: FromJson + Drop>(
+/// Reads the member of this key as a list, which is empty where the member is not there; None where it has not the form, and an error where memory was refused.
+pub fn member_list<T: FromJson + Drop>(
     alloc: Global,
     value: &Value,
     key: &str,

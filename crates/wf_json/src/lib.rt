@@ -8,7 +8,7 @@ mod reading;
 mod spec;
 
 pub use fault::{JsonFault, Member};
-pub use form::{FromJson, list, member, pair};
+pub use form::{FromJson, member, member_list, pair};
 pub use reading::{TextFault, read_value};
 pub use spec::read_spec;
 

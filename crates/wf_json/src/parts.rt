@@ -3,7 +3,7 @@ ghost use Rattle.std.specs.Prelude.{◌≡◌, ◌==◌, ℕ, List, Option, posi
 ghost use Rattle.wf_json.specs.Forms.{port_of, port_form};
 ghost use Rattle.wf_json.specs.SpecForm.{module_form, position_form, edge_form, entry_form, exit_form, production_form, ports_form, deps_form};
 
-use crate::form::{FromJson, list, member, pair};
+use crate::form::{FromJson, member, member_list, pair};
 use serde_json::Value;
 use std::alloc::{AllocError, Global};
 use wf_model::{
@@ -12,7 +12,7 @@ use wf_model::{
 };
 
 /// The place of the first dot.
-fn dot_in(text: &[u8]) -> Option<usize>
+fn first_dot(text: &[u8]) -> Option<usize>
     ensures { result ≡ position (λ b. b == 46) text.now }
 {
     text.iter().position(|b| *b == b'.')
@@ -22,7 +22,7 @@ fn dot_in(text: &[u8]) -> Option<usize>
 fn port(alloc: Global, text: &[u8]) -> Result<Option<PortPart>, AllocError>
     ensures { IfOk result (λ o. o ≡ port_of text.now) }
 {
-    let Some(i) = dot_in(text) else {
+    let Some(i) = first_dot(text) else {
         return Ok(None);
     };
     let before = Vec::from_slice(alloc, &text[..i])?;
@@ -106,10 +106,10 @@ impl FromJson for ModulePart {
         let Some(name) = member::<Name>(alloc, value, "name")? else {
             return Ok(None);
         };
-        let Some(inputs) = list::<Name>(alloc, value, "in")? else {
+        let Some(inputs) = member_list::<Name>(alloc, value, "in")? else {
             return Ok(None);
         };
-        let Some(outputs) = list::<Name>(alloc, value, "out")? else {
+        let Some(outputs) = member_list::<Name>(alloc, value, "out")? else {
             return Ok(None);
         };
         Ok(Some(ModulePart {
@@ -130,13 +130,13 @@ impl FromJson for ProdPart {
         let Some(body) = member::<Seq<PosPart>>(alloc, value, "body")? else {
             return Ok(None);
         };
-        let Some(edges) = list::<EdgePart>(alloc, value, "edges")? else {
+        let Some(edges) = member_list::<EdgePart>(alloc, value, "edges")? else {
             return Ok(None);
         };
-        let Some(entries) = list::<EntryPart>(alloc, value, "in")? else {
+        let Some(entries) = member_list::<EntryPart>(alloc, value, "in")? else {
             return Ok(None);
         };
-        let Some(exits) = list::<ExitPart>(alloc, value, "out")? else {
+        let Some(exits) = member_list::<ExitPart>(alloc, value, "out")? else {
             return Ok(None);
         };
         Ok(Some(ProdPart {

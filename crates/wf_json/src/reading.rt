@@ -17,7 +17,9 @@ pub enum TextFault {
 
 /// Reads one JSON value, which is the whole text.
 ///
-/// Cost: linear in the text.
+/// Errors: NotJson where the bytes are not UTF-8 or no JSON value of at most 127 levels; NoMemory where memory was refused.
+///
+/// Cost: one reading of the text by `serde_json`.
 pub fn read_value(alloc: Global, bytes: &[u8]) -> Result<Value, TextFault>
     ensures ok { IfOk result (λ v. IsReading bytes.now (view v)) }
     ensures refused { IfErr result (λ f. IsUnread bytes.now f) }

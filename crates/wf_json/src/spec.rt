@@ -6,7 +6,7 @@ ghost use Rattle.wf_json.specs.Reading.{IsReading};
 ghost use Rattle.wf_json.specs.SpecForm.{spec_of, IsRefusal, IsToldBy};
 
 use crate::fault::{JsonFault, Member};
-use crate::form::{list, member};
+use crate::form::{member, member_list};
 use crate::reading::{TextFault, read_value};
 use serde_json::Value;
 use std::alloc::Global;
@@ -14,9 +14,11 @@ use wf_model::{DepsPart, ModulePart, Name, Parts, ProdPart, Seq};
 
 /// Reads a specification from a JSON text.
 ///
-/// Names may hold any bytes. Members are tried in the order top, `start`, `modules`, `productions`, `deps`, and the first that has not its form is told. Further members are ignored; where a member is given twice, the last counts.
+/// Names may hold any bytes. Further members are ignored. Of a member that is given twice the last counts, and one that is null is there and has not its form.
 ///
-/// Cost: linear in the text.
+/// Errors: NotJson where the bytes are not UTF-8 or no JSON value of at most 127 levels; WrongShape with the first of top, `start`, `modules`, `productions` and `deps` that has not its form; NoMemory where memory was refused.
+///
+/// Cost: one reading of the text by `serde_json`, and one pass over the value.
 pub fn read_spec(alloc: Global, bytes: &[u8]) -> Result<Parts, JsonFault>
     ensures ok { IfOk result (λ p. (d : Data) × IsReading bytes.now d × (spec_of d ≡ Ok p)) }
     ensures refused { IfErr result (λ f. IsRefusal bytes.now f) }
@@ -47,12 +49,12 @@ fn spec_in(alloc: Global, value: &Value) -> Result<Parts, JsonFault>
             member: Member::Modules,
         });
     };
-    let Some(productions) = list::<ProdPart>(alloc, value, "productions")? else {
+    let Some(productions) = member_list::<ProdPart>(alloc, value, "productions")? else {
         return Err(JsonFault::WrongShape {
             member: Member::Productions,
         });
     };
-    let Some(deps) = list::<DepsPart>(alloc, value, "deps")? else {
+    let Some(deps) = member_list::<DepsPart>(alloc, value, "deps")? else {
         return Err(JsonFault::WrongShape {
             member: Member::DepsList,
         });

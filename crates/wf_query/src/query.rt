@@ -4,14 +4,14 @@ ghost use Rattle.wf_query.specs.Line.{IsQuery, IsNoQuery};
 
 use crate::item::{cut, split_item};
 
-/// A question: whether the second item depends on the first.
+/// Two item names: the question is whether the second item depends on the first.
 #[derive(Clone, Copy)]
 pub struct Query<'a> {
     pub first: &'a [u8],
     pub second: &'a [u8],
 }
 
-/// The line is no query.
+/// A line is not two item names with one space between.
 #[derive(Clone, Copy, Debug, PartialEq, Eq)]
 pub struct LineWrong;
 
