@@ -75,7 +75,13 @@ impl Model for Production {
 }
 
 impl Production {
-    pub fn new(head: ModNo, positions: Seq<Position>, edges: Seq<Edge>, entries: Seq<Inner>, exits: Seq<Inner>) -> Production
+    pub fn new(
+        head: ModNo,
+        positions: Seq<Position>,
+        edges: Seq<Edge>,
+        entries: Seq<Inner>,
+        exits: Seq<Inner>,
+    ) -> Production
         ensures head { result.head ≡ head.0 }
         ensures positions { result.positions ≡ map position_of positions }
         ensures edges { result.edges ≡ map edge_of edges }

@@ -1,0 +1,3 @@
+// Whether a draft is a well-formed grammar.
+mod links;
+mod names;
