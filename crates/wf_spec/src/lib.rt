@@ -2,12 +2,14 @@
 #![tactic(auto)]
 
 mod build;
+mod by_head;
 mod deps;
 mod draft;
 mod fault;
 mod grammar;
 mod plain;
 mod resolve;
+mod rows;
 mod well_formed;
 
 pub use deps::Deps;
