@@ -45,4 +45,15 @@ impl Deps {
             Some(rows) => Some(rows.as_slice()),
         }
     }
+
+    /// Sets the rows of a module.
+    pub fn set(&mut self, m: ModNo, rows: &[u64]) -> Result<(), AllocError>
+        requires { m.0 < length self.old }
+        ensures set { OnOk result (self.new ≡ set self.old m.0 (Some rows.now)) }
+        ensures unchanged { OnErr result (self.new ≡ self.old) }
+    {
+        let kept = Vec::from_slice(self.alloc, rows)?;
+        self.modules[m.0 as usize] = Some(kept);
+        Ok(())
+    }
 }

@@ -1,11 +1,19 @@
 //! Workflow grammars: the parts that a specification names, put together and tested.
 #![tactic(auto)]
 
+mod build;
+mod by_head;
 mod deps;
+mod draft;
+mod fault;
 mod grammar;
+mod plain;
+mod resolve;
+mod rows;
 mod well_formed;
 
 pub use deps::Deps;
+pub use fault::FormFault;
 pub use grammar::{Grammar, Module, Production};
 pub use wf_model::{
     DepsPart, Edge, EdgeNo, EdgePart, EntryPart, Event, ExitPart, Inner, ModNo, ModulePart, Name,

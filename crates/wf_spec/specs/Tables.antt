@@ -1,0 +1,41 @@
+-- What a grammar keeps for its readers: names, the productions of each module, and rows of bits.
+use Rattle.std.specs.Prelude.{◌≡◌, ℕ, ◌^◌, ◌-◌, ◌<◌, ◌≤◌, ◌==◌, List, [], map, length, get_or, replicate, Vec}
+use Rattle.std.specs.List.{filter}
+use Rattle.std.specs.Int.{bit_at}
+use Rattle.std.specs.declared.alloc.Global.{Global}
+use Rattle.wf_model.specs.declared.numbers.ProdNo.{ProdNo}
+use Rattle.wf_model.specs.Lists.{numbers_from}
+use Rattle.wf_model.specs.Grammar.{Grammar, Module, Production, inputs_of, outputs_of, is_given, head_of}
+
+-- the productions of a module, in order
+abbrev pub productions_of : Grammar → ℕ → List ℕ
+productions_of g m = filter (λ p. head_of g p == m) (numbers_from 0 (length g.productions))
+
+-- rows of bits that say which pairs a module is given: a row for each input, a bit for each output, and no further bits
+pub record AreRowsOf (g : Grammar) (m : ℕ) (rows : List ℕ) : Type 0 where
+  pub one_each : length rows ≡ inputs_of g m
+  pub bits : (i o : ℕ) → i < inputs_of g m → o < outputs_of g m → (bit_at (get_or rows i 0) o == 1) ≡ is_given g.given m i o
+  pub no_more : (i o : ℕ) → outputs_of g m ≤ o → bit_at (get_or rows i 0) o ≡ 0
+
+-- among the first n of a list of productions, those with this head
+abbrev pub headed : List Production → ℕ → ℕ → List ℕ
+headed productions n m =
+    filter (λ p. (get_or productions p (record { head = 0; positions = []; edges = []; entries = []; exits = [] })).head == m) (numbers_from 0 n)
+
+-- the numbers in lists of production numbers
+abbrev pub numbers_in : List (Vec ProdNo Global) → List (List ℕ)
+numbers_in = map (λ v. map (λ (p : ProdNo). p.0) v.items)
+
+-- a list for each module, of the productions that it heads
+pub record AreByHead (modules : ℕ) (productions : List Production) (n : ℕ) (lists : List (List ℕ)) : Type 0 where
+  pub one_each : length lists ≡ modules
+  pub each : (m : ℕ) → m < modules → get_or lists m [] ≡ headed productions n m
+
+-- all rows of a module, with a bit for each output
+abbrev pub full_rows : Module → List ℕ
+full_rows m = replicate (length m.inputs) (2 ^ length m.outputs - 1)
+
+-- the tables that belong to a grammar
+pub record AreTables (g : Grammar) (lists bits : List (List ℕ)) : Type 0 where
+  pub by_head : AreByHead (length g.modules) g.productions (length g.productions) lists
+  pub rows : bits ≡ map full_rows g.modules
