@@ -1,5 +1,5 @@
 -- Links by number are links by name.
-use Rattle.std.proofs.Common.{◌≡◌, ℕ, zero, suc, ◌+◌, ◌-◌, ◌<◌, ◌≤◌, ◌^◌, ◌%◌, Bool, true, false, cond, List, [], ◌∷◌, ◌++◌, map, flat_map, take, drop, length, get_or, Option, Some, None, refl, ap, sym, subst, ◌∙◌, arith, inl, inr, append_assoc, append-nil}
+use Rattle.std.proofs.Common.{◌≡◌, ℕ, suc, ◌+◌, ◌<◌, ◌≤◌, ◌^◌, ◌%◌, Bool, true, false, cond, List, [], ◌∷◌, ◌++◌, map, flat_map, take, drop, length, get_or, Option, Some, None, refl, ap, sym, subst, ◌∙◌, arith, inl, inr, append_assoc, append-nil}
 use Rattle.std.specs.Prelude.{◌==◌}
 use Rattle.std.specs.Int.{bit_at}
 use Rattle.std.proofs.Math.Nat.{mod-eq_of_lt}
@@ -12,11 +12,10 @@ use Rattle.wf_model.specs.Lists.{IsIn, numbers_from}
 use Rattle.wf_model.specs.Grammar.{Grammar, Production, Module, module_at, inputs_of, outputs_of}
 use Rattle.wf_model.specs.WellFormed.{IsWellFormed}
 use Rattle.wf_model.proofs.Lists.{in_map, at_in, is_at}
-use Rattle.wf_model.specs.Links.{Port, Link, input, output, edge_link, entry_links, exit_links, pair_links, instance_at, move_port, move_link}
+use Rattle.wf_model.specs.Links.{Port, Link, input, output, edge_link, entry_links, exit_links, pair_links, instance_at, move_link}
 use Rattle.wf_model.specs.Meaning.{inner_of, edge_of, pairs_of, bit_of}
-use Rattle.wf_flat.specs.declared.graph.Port.{Port as PortHeld}
 use Rattle.wf_flat.specs.declared.graph.Link.{Link as LinkHeld}
-use Rattle.wf_flat.specs.Graph.{named_port, named_link, named_links, pair, row_links, matrix_links, child_port, own_port, edge_at, entries_at, exits_at, AreBelow, wiring_of}
+use Rattle.wf_flat.specs.Graph.{named_port, named_link, named_links, pair, row_links, matrix_links, child_port, edge_at, entries_at, exits_at, AreBelow, wiring_of}
 
 -- a map over what is made for each number
 pub map-flat_map : {A B C : Type 0} (f : B → C) (h : A → List B) (xs : List A) → map f (flat_map h xs) ≡ flat_map (λ x. map f (h x)) xs

@@ -1,21 +1,21 @@
 -- The links of one instance, from the table.
-use Rattle.std.proofs.Common.{◌≡◌, ℕ, zero, suc, ◌+◌, ◌<◌, ◌≤◌, ◌^◌, Bool, true, false, cond, List, [], ◌∷◌, ◌++◌, map, take, drop, length, get_or, Option, Some, None, refl, ap, sym, subst, ◌∙◌, arith, inl, inr, ⊎_elim}
-use Rattle.std.specs.Prelude.{option_map, bytes_eq}
-use Rattle.std.proofs.lemmas.List.{length-map, get_or-map, get_or_read}
+use Rattle.std.proofs.Common.{◌≡◌, ℕ, ◌<◌, ◌≤◌, true, false, cond, List, [], ◌∷◌, ◌++◌, map, take, drop, length, get_or, Some, None, ap, sym, subst, ◌∙◌, ⊎_elim}
+use Rattle.std.specs.Prelude.{option_map}
+use Rattle.std.proofs.lemmas.List.{get_or-map}
 use Rattle.wf_model.specs.declared.event.Event.{Event}
 use Rattle.wf_model.specs.declared.event.Event.TheVariants.{Start, Expand}
 use Rattle.wf_model.specs.declared.numbers.ProdNo.{ProdNo}
 use Rattle.wf_model.specs.Lists.{IsIn, IsAt}
-use Rattle.wf_model.specs.Grammar.{Grammar, Assignment, Module, Production, Edge, Inner, production_at, module_at, body_of, head_of, inputs_of, outputs_of}
+use Rattle.wf_model.specs.Grammar.{Grammar, Assignment, production_at, module_at, body_of, head_of}
 use Rattle.wf_model.specs.WellFormed.{IsWellFormed}
 use Rattle.wf_model.specs.View.{View, expands}
-use Rattle.wf_model.specs.Run.{Instance, Expanded, named, made, made_by, expanded_by, AllExtend, IsRun}
-use Rattle.wf_model.specs.Links.{Link, links_of, opened_links, pair_links, wiring, move_link, instance_at}
+use Rattle.wf_model.specs.Run.{Instance, Expanded, named, made, made_by, expanded_by, AllExtend}
+use Rattle.wf_model.specs.Links.{links_of, opened_links, pair_links, move_link, instance_at}
 use Rattle.wf_model.proofs.Lists.{in_append_cases, at_in, at_below, is_at}
 use Rattle.wf_model.proofs.Runs.{at_named}
 use Rattle.wf_model.proofs.Level.{opening}
 use Rattle.wf_flat.specs.declared.table.Inst.{Inst}
-use Rattle.wf_flat.specs.Table.{Table, IsRunOf, instance_of, names_in, events_of, expansion_at, no_instance}
+use Rattle.wf_flat.specs.Table.{Table, IsRunOf, instance_of, names_in, events_of, no_instance}
 use Rattle.wf_flat.specs.Graph.{inst_at, AreBelow, wiring_of}
 use Rattle.wf_flat.proofs.Tests.{at_map}
 

@@ -1,5 +1,5 @@
 -- Links between numbered instances.
-use Rattle.std.specs.Prelude.{◌≡◌, ℕ, zero, suc, ◌+◌, ◌<◌, ◌^◌, ◌%◌, ◌==◌, Bool, true, false, cond, List, [], ◌∷◌, ◌++◌, map, flat_map, get_or, length, Option, Some, None}
+use Rattle.std.specs.Prelude.{◌≡◌, ℕ, ◌+◌, ◌<◌, ◌^◌, ◌%◌, ◌==◌, Bool, false, cond, List, [], ◌∷◌, ◌++◌, map, flat_map, get_or, length, Option, Some, None}
 use Rattle.std.specs.Int.{bit_at}
 use Rattle.wf_model.specs.declared.numbers.Side.{Side}
 use Rattle.wf_model.specs.declared.numbers.Side.TheVariants.{Input, Output}

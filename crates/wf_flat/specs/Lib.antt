@@ -1,3 +1,3 @@
 pub mod Table
 pub mod Graph
-pub mod Search
+pub mod Flat

@@ -1,21 +1,19 @@
-// The flat graph of a run.
-ghost use Rattle.std.specs.Prelude.{◌≡◌, ◌<◌, ◌≤◌, ◌+◌, ◌-◌, ◌^◌, ◌==◌, ◌++◌, ◌∷◌, [], List, ℕ, Option, Some, None, true, false, ◌&&◌, length, take, drop, map, flat_map, get_or, IfOk, IfErr, OnOk, OnErr, IfSome, Bool, cond};
+// The links of a run.
+ghost use Rattle.std.specs.Prelude.{◌≡◌, ◌<◌, ◌≤◌, ◌+◌, ◌^◌, ◌==◌, ◌++◌, ◌∷◌, [], List, ℕ, length, take, drop, map, get_or, IfOk, OnOk, cond};
 ghost use Rattle.std.specs.Int.{bit_at};
-ghost use Rattle.wf_model.specs.Lists.{IsIn, numbers_from};
-ghost use Rattle.wf_model.specs.Grammar.{Assignment, body_of, inputs_of, outputs_of, production_at};
-ghost use Rattle.wf_model.specs.View.{View, expands};
-ghost use Rattle.wf_model.specs.Run.{seen_in};
-ghost use Rattle.wf_model.specs.Links.{pair_links, opened_links, links_of, links_with, move_link, instance_at, wiring, edge_link, entry_links, exit_links};
-ghost use Rattle.wf_model.specs.Meaning.{pairs_of, bit_of, inner_of, edge_of, position_of};
-ghost use Rattle.wf_flat.specs.Table.{Table, IsRunOf, events_of, names_in, instance_of, no_instance};
-ghost use Rattle.wf_flat.specs.Graph.{named_links, Marks, row_links, matrix_links, edge_at, entries_at, exits_at, flag_of, AreBelow, wiring_of, IsMadeFor, Agree, inst_at};
+ghost use Rattle.wf_model.specs.View.{View};
+ghost use Rattle.wf_model.specs.Links.{pair_links, links_of, links_with, move_link, instance_at};
+ghost use Rattle.wf_model.specs.Meaning.{pairs_of};
+ghost use Rattle.wf_flat.specs.Table.{IsRunOf, events_of, names_in};
+ghost use Rattle.wf_flat.specs.Graph.{named_links, Marks, row_links, matrix_links, edge_at, entries_at, exits_at, AreBelow, wiring_of, IsMadeFor, inst_at};
 
-use crate::table::{Inst, Opened, PlainRun};
+use crate::seen::{is_marked, seen};
+use crate::table::PlainRun;
 use std::alloc::{AllocError, Global};
 use wf_spec::{Deps, Edge, Grammar, Inner, ModNo, PortNo, Production, Side};
 
 /// A port of an instance.
-#[derive(Clone, Copy, Debug, PartialEq, Eq, Drop)]
+#[derive(Clone, Copy, Debug, PartialEq, Eq, Hash, Drop)]
 pub struct Port {
     pub instance: u32,
     pub side: Side,
@@ -68,7 +66,13 @@ fn add_if(links: &mut Vec<Link>, test: bool, link: Link) -> Result<(), AllocErro
 }
 
 /// Adds the pairs of one row.
-fn add_row(links: &mut Vec<Link>, instance: u32, i: u8, row: u64, outputs: u8) -> Result<(), AllocError>
+fn add_row(
+    links: &mut Vec<Link>,
+    instance: u32,
+    i: u8,
+    row: u64,
+    outputs: u8,
+) -> Result<(), AllocError>
     requires { outputs ≤ 64 }
     ensures { OnOk result (links.new.items ≡ links.old.items ++ row_links instance i row 0 outputs) }
 {
@@ -83,7 +87,13 @@ fn add_row(links: &mut Vec<Link>, instance: u32, i: u8, row: u64, outputs: u8) -
 }
 
 /// Adds the pairs of a matrix.
-fn add_rows(links: &mut Vec<Link>, instance: u32, rows: &[u64], inputs: u8, outputs: u8) -> Result<(), AllocError>
+fn add_rows(
+    links: &mut Vec<Link>,
+    instance: u32,
+    rows: &[u64],
+    inputs: u8,
+    outputs: u8,
+) -> Result<(), AllocError>
     requires few_outputs { outputs ≤ 64 }
     requires one_each { inputs ≤ length rows.now }
     ensures { OnOk result (links.new.items ≡ links.old.items ++ matrix_links instance rows.now outputs 0 inputs) }
@@ -108,7 +118,12 @@ fn add_edges(links: &mut Vec<Link>, first: u32, edges: &[Edge]) -> Result<(), Al
 }
 
 /// Adds the entries of a body.
-fn add_entries(links: &mut Vec<Link>, instance: u32, first: u32, entries: &[Inner]) -> Result<(), AllocError>
+fn add_entries(
+    links: &mut Vec<Link>,
+    instance: u32,
+    first: u32,
+    entries: &[Inner],
+) -> Result<(), AllocError>
     requires { length entries.now ≤ 64 }
     ensures { OnOk result (links.new.items ≡ links.old.items ++ entries_at instance first 0 entries.now) }
 {
@@ -122,7 +137,12 @@ fn add_entries(links: &mut Vec<Link>, instance: u32, first: u32, entries: &[Inne
 }
 
 /// Adds the exits of a body.
-fn add_exits(links: &mut Vec<Link>, instance: u32, first: u32, exits: &[Inner]) -> Result<(), AllocError>
+fn add_exits(
+    links: &mut Vec<Link>,
+    instance: u32,
+    first: u32,
+    exits: &[Inner],
+) -> Result<(), AllocError>
     requires { length exits.now ≤ 64 }
     ensures { OnOk result (links.new.items ≡ links.old.items ++ exits_at instance first 0 exits.now) }
 {
@@ -136,7 +156,12 @@ fn add_exits(links: &mut Vec<Link>, instance: u32, first: u32, exits: &[Inner]) 
 }
 
 /// Adds the edges, entries and exits of an instance that was expanded.
-fn add_wiring(links: &mut Vec<Link>, instance: u32, first: u32, rule: &Production) -> Result<(), AllocError>
+fn add_wiring(
+    links: &mut Vec<Link>,
+    instance: u32,
+    first: u32,
+    rule: &Production,
+) -> Result<(), AllocError>
     requires few_entries { length rule.now.entries ≤ 64 }
     requires few_exits { length rule.now.exits ≤ 64 }
     ensures { OnOk result ((names : List (List ℕ)) (count : ℕ) → AreBelow count rule.now → first + count < 2 ^ 32 →
@@ -149,7 +174,13 @@ fn add_wiring(links: &mut Vec<Link>, instance: u32, first: u32, rule: &Productio
 }
 
 /// Adds the pairs of an instance that is not open.
-fn add_pairs(links: &mut Vec<Link>, g: &Grammar, instance: u32, m: ModNo, leaf: &Deps) -> Result<(), AllocError>
+fn add_pairs(
+    links: &mut Vec<Link>,
+    g: &Grammar,
+    instance: u32,
+    m: ModNo,
+    leaf: &Deps,
+) -> Result<(), AllocError>
     requires in_range { m.0 < length g.now.modules }
     requires made_for { IsMadeFor g.now leaf.now }
     ensures { OnOk result ((names : List (List ℕ)) → named_links names links.new.items ≡ named_links names links.old.items ++ pair_links g.now (pairs_of leaf.now) m.0 (get_or names instance [])) }
@@ -163,15 +194,15 @@ fn add_pairs(links: &mut Vec<Link>, g: &Grammar, instance: u32, m: ModNo, leaf: 
     Ok(())
 }
 
-fn is_marked(flags: &[bool], m: ModNo) -> bool
-    ensures { result ≡ flag_of flags.now m.0 }
-{
-    let m = m.0 as usize;
-    m < flags.len() && flags[m]
-}
-
 /// Adds the links of a seen instance.
-fn add_instance(links: &mut Vec<Link>, g: &Grammar, run: &PlainRun, k: u32, expanded: &[bool], leaf: &Deps) -> Result<(), AllocError>
+fn add_instance(
+    links: &mut Vec<Link>,
+    g: &Grammar,
+    run: &PlainRun,
+    k: u32,
+    expanded: &[bool],
+    leaf: &Deps,
+) -> Result<(), AllocError>
     requires run { IsRunOf g.now run.now }
     requires there { k < length run.now.instances }
     requires made_for { IsMadeFor g.now leaf.now }
@@ -192,68 +223,14 @@ fn add_instance(links: &mut Vec<Link>, g: &Grammar, run: &PlainRun, k: u32, expa
     Ok(())
 }
 
-/// Marks the children of an opened instance.
-fn see(flags: &mut Vec<bool>, seen: &mut Vec<u32>, first: u32, count: u32) -> Result<(), AllocError>
-    requires within { first + count ≤ length flags.old.items }
-    requires small { first + count < 2 ^ 32 }
-    requires agree { Agree flags.old.items seen.old.items }
-    ensures seen { OnOk result (seen.new.items ≡ seen.old.items ++ numbers_from first count) }
-    ensures agree { OnOk result (Agree flags.new.items seen.new.items) }
-    ensures count { OnOk result (length flags.new.items ≡ length flags.old.items) }
-{
-    for c in first..first + count {
-        flags[c as usize] = true;
-        seen.push(c)?;
-    }
-    Ok(())
-}
-
-/// Marks the children of an instance that was expanded, if it is open.
-fn see_one(flags: &mut Vec<bool>, seen: &mut Vec<u32>, instances: &[Inst], expanded: &[bool], o: Opened) -> Result<(), AllocError>
-    requires there { o.instance < length instances.now }
-    requires within { o.first + o.count ≤ length instances.now }
-    requires small { length instances.now < 2 ^ 32 }
-    requires same { length flags.old.items ≡ length instances.now }
-    requires agree { Agree flags.old.items seen.old.items }
-    ensures seen { OnOk result (seen.new.items ≡ seen.old.items ++ cond (flag_of flags.old.items o.instance && flag_of expanded.now (get_or instances.now o.instance no_instance).module.0) (numbers_from o.first o.count) []) }
-    ensures agree { OnOk result (Agree flags.new.items seen.new.items) }
-    ensures count { OnOk result (length flags.new.items ≡ length flags.old.items) }
-{
-    let is_seen = flags[o.instance as usize];
-    let x = &instances[o.instance as usize];
-    let is_open = is_marked(expanded, x.module);
-    if !is_seen {
-        return Ok(());
-    }
-    if !is_open {
-        return Ok(());
-    }
-    see(flags, seen, o.first, o.count)?;
-    Ok(())
-}
-
-/// The numbers of the instances that are seen, in order of making.
-fn seen(alloc: Global, g: &Grammar, run: &PlainRun, expanded: &[bool]) -> Result<Vec<u32>, AllocError>
-    requires { IsRunOf g.now run.now }
-    ensures seen { IfOk result (λ s. (u : View) → Marks expanded.now u → map (inst_at run.now.instances) s.items ≡ seen_in g.now u g.now.start (events_of run.now)) }
-    ensures there { IfOk result (λ s. (k : ℕ) → IsIn k s.items → k < length run.now.instances) }
-{
-    let instances = run.instances();
-    let order = run.order();
-    let mut seen = Vec::new(alloc);
-    if instances.is_empty() {
-        return Ok(seen);
-    }
-    let mut flags = vec![in alloc; false; instances.len()]?;
-    see(&mut flags, &mut seen, 0, 1)?;
-    for o in order {
-        see_one(&mut flags, &mut seen, instances, expanded, *o)?;
-    }
-    Ok(seen)
-}
-
 /// The links of a run, in order.
-pub fn links(alloc: Global, g: &Grammar, run: &PlainRun, expanded: &[bool], leaf: &Deps) -> Result<Vec<Link>, AllocError>
+pub fn links(
+    alloc: Global,
+    g: &Grammar,
+    run: &PlainRun,
+    expanded: &[bool],
+    leaf: &Deps,
+) -> Result<Vec<Link>, AllocError>
     requires run { IsRunOf g.now run.now }
     requires made_for { IsMadeFor g.now leaf.now }
     ensures { IfOk result (λ ls. (u : View) → Marks expanded.now u → named_links (names_in run.now.instances) ls.items ≡ links_with g.now u (pairs_of leaf.now) g.now.start (events_of run.now)) }

@@ -1,4 +1,4 @@
-use Rattle.std.proofs.Common.{◌≡◌, ◌<◌, ◌≤◌, ◌+◌, ◌^◌, ◌∙◌, ◌++◌, refl, ap, sym, subst, arith, length, get_or, not, Option, ℕ, take, drop, map, [], List}
+use Rattle.std.proofs.Common.{◌<◌, ◌≤◌, ◌+◌, ◌^◌, ◌∙◌, ◌++◌, ap, sym, subst, arith, length, get_or, take, drop, map, []}
 use Rattle.std.proofs.lemmas.List.{get_or_read}
 use Rattle.wf_model.specs.Grammar.{Production, body_of}
 use Rattle.wf_model.specs.Links.{move_link, instance_at, pair_links}

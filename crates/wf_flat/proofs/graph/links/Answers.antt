@@ -1,4 +1,4 @@
-use Rattle.std.proofs.Common.{◌≡◌, ◌<◌, ◌++◌, [], refl, ap, sym, subst, ◌∙◌, get_or, map, flat_map, drop, length, ℕ, append-nil}
+use Rattle.std.proofs.Common.{◌++◌, ap, sym, subst, ◌∙◌, get_or, map, flat_map, append-nil}
 use Rattle.std.proofs.lemmas.List.{drop_more, drop_all}
 use Rattle.wf_model.proofs.Lists.{at_in, is_at}
 use Rattle.wf_model.specs.Lists.{IsIn}

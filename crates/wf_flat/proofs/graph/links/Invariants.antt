@@ -1,4 +1,4 @@
-use Rattle.std.proofs.Common.{◌≡◌, ◌++◌, ℕ, map, flat_map, drop}
+use Rattle.std.proofs.Common.{◌≡◌, ◌++◌, map, flat_map, drop}
 use Rattle.wf_model.specs.View.{View}
 use Rattle.wf_model.specs.Links.{links_of}
 use Rattle.wf_model.specs.Meaning.{pairs_of}

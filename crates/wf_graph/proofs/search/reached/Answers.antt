@@ -1,9 +1,10 @@
-use Rattle.std.proofs.Common.{◌≡◌, ◌<◌, ◌≤◌, refl, sym, subst, ap, ◌∙◌, arith, get_or, length, replicate, false, length-append, ◌∷◌, []}
+use Rattle.std.proofs.Common.{◌<◌, ◌≤◌, refl, sym, subst, ap, ◌∙◌, arith, length, false, length-append, ◌∷◌, []}
 use Rattle.std.proofs.lemmas.List.{get_or_read, length-replicate}
 use Rattle.wf_model.specs.Lists.{IsIn}
-use Rattle.wf_flat.specs.Search.{IsSearch, MetAll, nexts}
-use Rattle.wf_flat.proofs.Searching.{search_first, search_more, search_end, nexts_read, queue_below}
-use Rattle.wf_flat.proofs.search.reaches.Goals as goal
+use Rattle.wf_graph.specs.Graph.{nexts}
+use Rattle.wf_graph.specs.Search.{MetAll}
+use Rattle.wf_graph.proofs.Searching.{search_first, search_more, search_end, nexts_read, queue_below}
+use Rattle.wf_graph.proofs.search.reached.Goals as goal
 
 pub loop-done-init : goal.loop-done-init
 loop-done-init c =
@@ -54,13 +55,9 @@ loop-done-preserved c =
       within = omega (arith, length-append q a.more);
     }
 
-pub returns : goal.returns
-returns c =
-    let graph = c.args.graph.now in
+pub returns-clause-reached : goal.returns-clause-reached
+returns-clause-reached c = λ v.
     let m = c.loop-done.marks.items in
     let q = c.loop-done.queue.items in
-    let s = c.loop-done.invariant.search in
     let h = subst (λ n. n ≤ c.loop-done.done) (c.len.ensures ∙ c.loop-done.queue.ok.0) c.loop-done-test.false in
-    let r = search_end graph c.args.from c.args.to m q c.loop-done.done s h in
-    let e = get_or_read m c.args.to c.index-2.result.now (subst (λ n. c.args.to < n) (sym s.count) c.requires.to) c.index-2.ensures false in
-    (λ t. r.0 (sym e ∙ t), λ w. e ∙ r.1 w)
+    search_end c.args.graph.now c.args.from m q c.loop-done.done c.loop-done.invariant.search h v

@@ -4,7 +4,7 @@ use Rattle.wf_model.specs.View.{View}
 use Rattle.wf_model.specs.Run.{see_all, seen_in}
 use Rattle.wf_flat.specs.Table.{names_in, expansion_of, events_of}
 use Rattle.wf_flat.specs.Graph.{Agree, Marks, inst_at}
-use Rattle.wf_flat.proofs.graph.seen.Given as goal
+use Rattle.wf_flat.proofs.seen.seen.Given as goal
 
 abbrev pub invariant-loop-o : goal.invariant-loop-o
 invariant-loop-o l = record {

@@ -1,14 +1,15 @@
 -- A search in a graph of numbered vertices.
-use Rattle.std.proofs.Common.{◌≡◌, ℕ, zero, suc, ◌+◌, ◌*◌, ◌-◌, ◌<◌, ◌≤◌, ◌⊎◌, ◌↔◌, Bool, true, false, not, cond, List, [], ◌∷◌, ◌++◌, take, drop, set, replicate, length, get_or, Vec, refl, ap, sym, subst, ◌∙◌, arith, inl, inr, ⊎_elim, true≢false, append_assoc, append-nil, length-append}
+use Rattle.std.proofs.Common.{◌≡◌, ℕ, zero, suc, ◌+◌, ◌<◌, ◌≤◌, ◌⊎◌, ◌↔◌, Bool, true, false, not, cond, List, [], ◌∷◌, ◌++◌, set, replicate, length, get_or, Vec, refl, ap, sym, subst, ◌∙◌, arith, inl, inr, ⊎_elim, true≢false, append_assoc, append-nil, length-append}
 use Rattle.std.specs.Prelude.{count_by, ◌==◌}
 use Rattle.std.specs.declared.alloc.Global.{Global}
 use Rattle.std.proofs.lemmas.Bool.Decides.{nat_tests}
-use Rattle.std.proofs.lemmas.List.{get_or-set_same, get_or-set_other, length-set, get_or_append_left, get_or_past, get_or_default}
+use Rattle.std.proofs.lemmas.List.{get_or-set_same, get_or-set_other, length-set, get_or_append_left}
 use Rattle.std.proofs.lemmas.List.Sums.{sum_by-cons}
-use Rattle.wf_model.specs.Lists.{IsIn, IsAt, Walk, here, onward}
+use Rattle.wf_model.specs.Lists.{IsIn, Walk, here, onward}
 use Rattle.wf_model.proofs.Lists.{in_append_cases, in_append_left, in_append_right, in_at, at_is, at_below, at_in, is_at}
 use Rattle.wf_model.proofs.Walks.{walk-append, walk_one}
-use Rattle.wf_flat.specs.Search.{nexts, HasEdge, InRange, IsReached, IsSearch, MetAll}
+use Rattle.wf_graph.specs.Graph.{nexts, HasEdge, IsReached}
+use Rattle.wf_graph.specs.Search.{IsSearch, MetAll}
 
 count_cons : (m : Bool) (ms : List Bool) → count_by not (m ∷ ms) ≡ cond {A = ℕ} (not m) 1 0 + count_by not ms
 count_cons m ms = sum_by-cons (λ x. cond {A = ℕ} (not x) 1 0) m ms
@@ -40,13 +41,28 @@ marked_below (m ∷ ms) (suc v) e = let r = marked_below ms v e in omega arith
 
 pub met_none : (m : List Bool) (q : List ℕ) → MetAll m q [] m q
 met_none m q = record {
-  count = refl; more = []; appended = sym (append-nil q); new_marks = λ v e. inl e; old_marks = λ v e. e; marks_more = λ v h. absurd h; from_list = λ v h. absurd h; each = λ v h. absurd h; falls = omega arith;
+  count = refl;
+  more = [];
+  appended = sym (append-nil q);
+  new_marks = λ v e. inl e;
+  old_marks = λ v e. e;
+  marks_more = λ v h. absurd h;
+  from_list = λ v h. absurd h;
+  each = λ v h. absurd h;
+  falls = omega arith;
 }
 
 pub met_old : (m : List Bool) (q : List ℕ) (v : ℕ) → get_or m v false ≡ true → MetAll m q (v ∷ []) m q
 met_old m q v e = record {
-  count = refl; more = []; appended = sym (append-nil q); new_marks = λ w e. inl e; old_marks = λ w e. e; marks_more = λ w h. absurd h; from_list = λ w h. absurd h;
-  each = λ w h. ⊎_elim (λ (d : w ≡ v). subst (λ z. get_or m z false ≡ true) (sym d) e) (λ z. absurd z) h; falls = omega arith;
+  count = refl;
+  more = [];
+  appended = sym (append-nil q);
+  new_marks = λ w e. inl e;
+  old_marks = λ w e. e;
+  marks_more = λ w h. absurd h;
+  from_list = λ w h. absurd h;
+  each = λ w h. ⊎_elim (λ (d : w ≡ v). subst (λ z. get_or m z false ≡ true) (sym d) e) (λ z. absurd z) h;
+  falls = omega arith;
 }
 
 pub met_new : (m : List Bool) (q : List ℕ) (v : ℕ) → v < length m → get_or m v false ≡ false → MetAll m q (v ∷ []) (set m v true) (q ++ v ∷ [])
@@ -119,8 +135,8 @@ search_more graph from m q done m' q' s h a = record {
     old : (k : ℕ) → k < length q → get_or q' k 0 ≡ get_or q k 0
     old k l = ap (λ z. get_or z k 0) a.appended ∙ get_or_append_left q a.more 0 k l
 
-pub search_end : (graph : List (Vec ℕ Global)) (from to : ℕ) (m : List Bool) (q : List ℕ) (done : ℕ) → IsSearch graph from m q done → length q ≤ done → (get_or m to false ≡ true) ↔ IsReached graph from to
-search_end graph from to m q done s h = (λ e. s.reached to (s.marked to e), λ w. s.queued to (all w s.begins))
+pub search_end : (graph : List (Vec ℕ Global)) (from : ℕ) (m : List Bool) (q : List ℕ) (done : ℕ) → IsSearch graph from m q done → length q ≤ done → (to : ℕ) → (get_or m to false ≡ true) ↔ IsReached graph from to
+search_end graph from m q done s h to = (λ e. s.reached to (s.marked to e), λ w. s.queued to (all w s.begins))
   where
     all : {a b : ℕ} → Walk (HasEdge graph) a b → IsIn a q → IsIn b q
     all here i = i

@@ -1,9 +1,9 @@
-use Rattle.std.proofs.Common.{◌≡◌, ◌<◌, sym, subst, ap, ◌∙◌, arith, get_or, length}
+use Rattle.std.proofs.Common.{◌<◌, sym, subst, get_or}
 use Rattle.std.proofs.lemmas.List.{take_more}
 use Rattle.wf_model.proofs.Lists.{at_in, is_at}
-use Rattle.wf_flat.specs.Search.{MetAll}
-use Rattle.wf_flat.proofs.Searching.{met_none, met_more}
-use Rattle.wf_flat.proofs.search.meet_all.Goals as goal
+use Rattle.wf_graph.specs.Search.{MetAll}
+use Rattle.wf_graph.proofs.Searching.{met_more}
+use Rattle.wf_graph.proofs.search.meet_all.Goals as goal
 
 pub meet-requires : goal.meet-requires
 meet-requires c =

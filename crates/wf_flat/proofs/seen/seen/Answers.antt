@@ -1,16 +1,16 @@
-use Rattle.std.proofs.Common.{◌≡◌, ◌∙◌, ◌<◌, ◌≤◌, ◌+◌, refl, ap, sym, subst, arith, length, map, get_or, ℕ, true, false, List, [], ◌∷◌, ◌++◌, cond, ◌&&◌}
+use Rattle.std.proofs.Common.{◌≡◌, ◌∙◌, ◌<◌, ◌≤◌, ◌+◌, ap, sym, subst, arith, length, map, get_or, ℕ, true, List, [], ◌++◌, cond, ◌&&◌}
 use Rattle.std.specs.Prelude.{◌==◌, Bool}
 use Rattle.std.proofs.lemmas.Bool.Decides.{nat_tests}
 use Rattle.wf_model.proofs.Lists.{at_in, is_at}
 use Rattle.wf_flat.specs.declared.table.Opened.{Opened}
-use Rattle.wf_flat.specs.Table.{IsOpenedIn, no_instance, expansion_of, names_in}
+use Rattle.wf_flat.specs.Table.{no_instance, expansion_of, names_in}
 use Rattle.wf_flat.specs.declared.table.Inst.{Inst}
 use Rattle.std.proofs.lemmas.List.{drop_all}
 use Rattle.wf_model.specs.Run.{see_all}
 use Rattle.wf_flat.specs.Graph.{inst_at, flag_of}
 use Rattle.wf_model.specs.Lists.{IsIn, numbers_from}
-use Rattle.wf_flat.proofs.Seen.{told_step, there_more, first_seen, none_seen}
-use Rattle.wf_flat.proofs.graph.seen.Goals as goal
+use Rattle.wf_flat.proofs.SeenNumbers.{told_step, there_more, none_seen}
+use Rattle.wf_flat.proofs.seen.seen.Goals as goal
 
 abbrev no_opened : Opened
 no_opened = record { instance = 0; production = record { 0 = 0 }; first = 0; count = 0 }

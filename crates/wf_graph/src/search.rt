@@ -1,6 +1,7 @@
 // Search in a graph of numbered vertices.
 ghost use Rattle.std.specs.Prelude.{◌≡◌, ◌<◌, ◌≤◌, ◌+◌, ◌*◌, ◌++◌, ◌∷◌, ◌↔◌, [], List, ℕ, true, false, length, get_or, IfOk, OnOk, IsTrue, count_by, not, replicate};
-ghost use Rattle.wf_flat.specs.Search.{HasEdge, InRange, IsReached, IsSearch, nexts, Met, MetAll};
+ghost use Rattle.wf_graph.specs.Graph.{InRange, IsReached};
+ghost use Rattle.wf_graph.specs.Search.{Met, MetAll};
 ghost use Rattle.wf_model.specs.Lists.{IsIn};
 
 use std::alloc::{AllocError, Global};
@@ -40,12 +41,14 @@ fn unmarked(alloc: Global, count: usize) -> Result<Vec<bool>, AllocError>
     Ok(flags)
 }
 
-/// Whether a walk leads from one vertex to another. Each edge is looked at once.
-pub fn reaches(alloc: Global, graph: &[Vec<u32>], from: u32, to: u32) -> Result<bool, AllocError>
+/// Marks the vertices to which a walk from a vertex leads, itself among them.
+///
+/// Cost: each edge is looked at once at most. Fails only for want of memory.
+pub fn reached(alloc: Global, graph: &[Vec<u32>], from: u32) -> Result<Vec<bool>, AllocError>
     requires in_range { InRange graph.now }
     requires from { from < length graph.now }
-    requires to { to < length graph.now }
-    ensures { IfOk result (λ b. IsTrue b ↔ IsReached graph.now from to) }
+    ensures count { IfOk result (λ marks. length marks.items ≡ length graph.now) }
+    ensures reached { IfOk result (λ marks. (v : ℕ) → (get_or marks.items v false ≡ true) ↔ IsReached graph.now from v) }
 {
     let mut marks = unmarked(alloc, graph.len())?;
     let mut queue = Vec::new(alloc);
@@ -56,5 +59,18 @@ pub fn reaches(alloc: Global, graph: &[Vec<u32>], from: u32, to: u32) -> Result<
         meet_all(&mut marks, &mut queue, &graph[v])?;
         done += 1;
     }
+    Ok(marks)
+}
+
+/// Whether a walk leads from one vertex to another. A vertex is reached from itself.
+///
+/// Cost: each edge is looked at once at most. Fails only for want of memory.
+pub fn reaches(alloc: Global, graph: &[Vec<u32>], from: u32, to: u32) -> Result<bool, AllocError>
+    requires in_range { InRange graph.now }
+    requires from { from < length graph.now }
+    requires to { to < length graph.now }
+    ensures { IfOk result (λ b. IsTrue b ↔ IsReached graph.now from to) }
+{
+    let marks = reached(alloc, graph, from)?;
     Ok(marks[to as usize])
 }

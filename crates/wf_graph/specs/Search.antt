@@ -1,23 +1,8 @@
--- Graphs of numbered vertices.
-use Rattle.std.specs.Prelude.{◌≡◌, ℕ, zero, suc, ◌<◌, List, [], ◌∷◌, length, Vec, Bool, true, get_or, false, ◌↔◌, ◌⊎◌, ◌++◌, ◌+◌, ◌*◌, ◌≤◌, count_by, not}
+-- Searches in graphs of numbered vertices.
+use Rattle.std.specs.Prelude.{◌≡◌, ℕ, ◌<◌, List, [], ◌∷◌, length, Vec, Bool, true, get_or, false, ◌⊎◌, ◌++◌, ◌+◌, ◌*◌, ◌≤◌, count_by, not}
 use Rattle.std.specs.declared.alloc.Global.{Global}
-use Rattle.wf_model.specs.Lists.{IsIn, Walk}
-
--- the vertices to which a vertex leads
-abbrev pub nexts : List (Vec ℕ Global) → ℕ → List ℕ
-nexts [] v = []
-nexts (x ∷ xs) zero = x.items
-nexts (x ∷ xs) (suc v) = nexts xs v
-
-abbrev pub HasEdge : List (Vec ℕ Global) → ℕ → ℕ → Type 0
-HasEdge graph a b = IsIn b (nexts graph a)
-
--- each edge leads to a vertex
-abbrev pub InRange : List (Vec ℕ Global) → Type 0
-InRange graph = (a b : ℕ) → HasEdge graph a b → b < length graph
-
-abbrev pub IsReached : List (Vec ℕ Global) → ℕ → ℕ → Type 0
-IsReached graph = Walk (HasEdge graph)
+use Rattle.wf_model.specs.Lists.{IsIn}
+use Rattle.wf_graph.specs.Graph.{HasEdge, IsReached}
 
 -- what is known in a search: marks stand for the queue, whose vertices are reached; the first of them, up to a place, lead to vertices of the queue alone
 pub record IsSearch (graph : List (Vec ℕ Global)) (from : ℕ) (marks : List Bool) (queue : List ℕ) (done : ℕ) : Type 0 where
@@ -28,7 +13,7 @@ pub record IsSearch (graph : List (Vec ℕ Global)) (from : ℕ) (marks : List B
   pub reached : (v : ℕ) → IsIn v queue → IsReached graph from v
   pub closed : (k : ℕ) → k < done → (w : ℕ) → HasEdge graph (get_or queue k 0) w → IsIn w queue
 
--- a vertex was met: it is marked and in the queue, where it was not before
+-- vertices were met: each is marked, and those that were not marked before are added to the queue
 pub record MetAll (marks : List Bool) (queue list : List ℕ) (marks' : List Bool) (queue' : List ℕ) : Type 0 where
   pub count : length marks' ≡ length marks
   pub more : List ℕ

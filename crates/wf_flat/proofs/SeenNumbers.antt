@@ -1,26 +1,20 @@
 -- What is seen of a run, by number.
-use Rattle.std.proofs.Common.{◌≡◌, ℕ, zero, suc, ◌+◌, ◌-◌, ◌<◌, ◌≤◌, ◌⊎◌, Bool, true, false, cond, not, ◌||◌, ◌&&◌, List, [], ◌∷◌, ◌++◌, map, flat_map, take, drop, set, replicate, length, get_or, Option, Some, None, refl, ap, sym, subst, ◌∙◌, arith, inl, inr, ⊎_elim, true≢false, append_assoc, append-nil}
-use Rattle.std.specs.Prelude.{◌==◌, bytes_eq, option_map}
+use Rattle.std.proofs.Common.{◌≡◌, ℕ, zero, suc, ◌+◌, ◌<◌, ◌≤◌, Bool, true, false, cond, ◌||◌, ◌&&◌, List, [], ◌∷◌, ◌++◌, map, take, drop, set, replicate, length, get_or, refl, ap, sym, subst, ◌∙◌, arith, inl, inr, ⊎_elim, true≢false}
+use Rattle.std.specs.Prelude.{◌==◌, bytes_eq}
 use Rattle.std.proofs.lemmas.Bool.Decides.{nat_tests}
 use Rattle.std.proofs.lemmas.List.{map-append, length-map, get_or-map, get_or-set_same, get_or-set_other, drop_more, get_or_default}
-use Rattle.wf_model.specs.declared.event.Event.{Event}
-use Rattle.wf_model.specs.declared.event.Event.TheVariants.{Start, Expand}
-use Rattle.wf_model.specs.declared.numbers.ProdNo.{ProdNo}
+use Rattle.wf_model.specs.declared.event.Event.TheVariants.{Start}
 use Rattle.wf_model.specs.Lists.{IsIn, IsAt, AllDiffer, some, numbers_from}
-use Rattle.wf_model.specs.Grammar.{Grammar, Assignment, Production, production_at, body_of}
-use Rattle.wf_model.specs.WellFormed.{IsWellFormed}
+use Rattle.wf_model.specs.Grammar.{Grammar, body_of}
 use Rattle.wf_model.specs.View.{View, expands}
-use Rattle.wf_model.specs.Run.{Instance, Expanded, named, made, made_by, names_of, expanded_by, AllExtend, IsRun, opens, newly_seen, see_all, seen_in}
-use Rattle.wf_model.specs.Links.{Link, links_of, opened_links, pair_links, wiring, move_link, instance_at}
-use Rattle.wf_model.proofs.Lists.{in_append_cases, in_append_left, in_append_right, at_in, is_at, in_at, at_is, at_below, differ_at, same_bytes, bytes_same}
-use Rattle.wf_model.proofs.Runs.{at_named, AllExtend-append}
-use Rattle.wf_model.proofs.Level.{opening}
+use Rattle.wf_model.specs.Run.{Instance, named, made, opens, newly_seen, see_all, seen_in}
+use Rattle.wf_model.proofs.Lists.{in_append_cases, at_in, is_at, differ_at, same_bytes, bytes_same}
 use Rattle.wf_model.proofs.Taking.{run_differs}
 use Rattle.wf_flat.specs.declared.table.Inst.{Inst}
 use Rattle.wf_flat.specs.declared.table.Opened.{Opened}
-use Rattle.wf_flat.specs.Table.{Table, IsRunOf, IsOpenedIn, instance_of, names_in, given_names, expansion_of, events_by, events_of, expansion_at, no_instance}
-use Rattle.wf_flat.specs.Graph.{flag_of, Marks, Agree, inst_at, AreBelow, wiring_of}
-use Rattle.wf_flat.proofs.Tests.{map-map, same_names, at_map}
+use Rattle.wf_flat.specs.Table.{Table, IsRunOf, IsOpenedIn, instance_of, names_in, given_names, expansion_of, events_by, events_of, no_instance}
+use Rattle.wf_flat.specs.Graph.{flag_of, Marks, Agree, inst_at}
+use Rattle.wf_flat.proofs.Tests.{same_names, at_map}
 
 some-append : {A : Type 0} (p : A → Bool) (xs ys : List A) → some p (xs ++ ys) ≡ some p xs || some p ys
 some-append p [] ys = refl

@@ -1,10 +1,9 @@
-use Rattle.std.proofs.Common.{◌≡◌, ◌+◌, ◌-◌, ◌≤◌, ◌<◌, ◌∙◌, ◌++◌, ◌∷◌, [], refl, ap, sym, subst, arith, List, ℕ, length, true}
+use Rattle.std.proofs.Common.{◌+◌, ◌-◌, ◌∙◌, ◌∷◌, [], sym, subst, arith, true}
 use Rattle.std.proofs.lemmas.List.{length-set}
-use Rattle.wf_model.specs.Lists.{numbers_from}
 use Rattle.wf_flat.specs.Graph.{Agree}
-use Rattle.wf_flat.proofs.Seen.{agree_more}
+use Rattle.wf_flat.proofs.SeenNumbers.{agree_more}
 use Rattle.wf_flat.proofs.Rows.{numbers_step, go_on}
-use Rattle.wf_flat.proofs.graph.see.Goals as goal
+use Rattle.wf_flat.proofs.seen.see.Goals as goal
 
 pub loop-c-preserved : goal.loop-c-preserved
 loop-c-preserved c =

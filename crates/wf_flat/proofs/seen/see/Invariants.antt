@@ -1,7 +1,7 @@
 use Rattle.std.proofs.Common.{◌≡◌, ◌++◌, ◌-◌, ◌+◌, length}
 use Rattle.wf_model.specs.Lists.{numbers_from}
 use Rattle.wf_flat.specs.Graph.{Agree}
-use Rattle.wf_flat.proofs.graph.see.Given as goal
+use Rattle.wf_flat.proofs.seen.see.Given as goal
 
 abbrev pub invariant-loop-c : goal.invariant-loop-c
 invariant-loop-c l = record {

@@ -1,0 +1,34 @@
+-- The flat graph of a run: its links, and paths between its ports.
+use Rattle.std.specs.Prelude.{◌≡◌, ◌<◌, ◌≤◌, ◌^◌, ℕ, List, Vec, map, length}
+use Rattle.std.specs.declared.alloc.Global.{Global}
+use Rattle.wf_model.specs.Lists.{IsIn, IsAt, AllDiffer}
+use Rattle.wf_model.specs.Links.{Port, Link}
+use Rattle.wf_graph.specs.Graph.{HasEdge}
+use Rattle.wf_flat.specs.declared.graph.Port.{Port as PortHeld}
+use Rattle.wf_flat.specs.declared.graph.Link.{Link as LinkHeld}
+
+-- what contracts see of a flat graph: its links, in order
+pub record FlatSeen : Type 0 where
+  pub links : List LinkHeld
+
+-- a port of an instance that is known by its number
+abbrev pub numbered : PortHeld → Port ℕ
+numbered x = record { owner = x.instance; side = x.side; number = x.port.0 }
+
+abbrev pub numbered_link : LinkHeld → Link ℕ
+numbered_link l = record { from = numbered l.from; to = numbered l.to }
+
+abbrev pub numbered_links : List LinkHeld → List (Link ℕ)
+numbered_links ls = map numbered_link ls
+
+-- the instances of the ports are below a number
+abbrev pub AreWithin : ℕ → List LinkHeld → Type 0
+AreWithin count ls = (l : LinkHeld) → IsIn l ls → (l.from.instance < count) × (l.to.instance < count)
+
+-- the ports are numbered, each once, and the graph has an edge between two numbers exactly where a link leads between the ports of these numbers
+pub record IsIndex (ls : List LinkHeld) (ports : List PortHeld) (graph : List (Vec ℕ Global)) : Type 0 where
+  pub one_each : length graph ≡ length ports
+  pub few : length ports ≤ 2 ^ 32
+  pub differ : AllDiffer ports
+  pub linked : (l : LinkHeld) → IsIn l ls → (a : ℕ) × (b : ℕ) × IsAt l.from a ports × IsAt l.to b ports × HasEdge graph a b
+  pub links : (a b : ℕ) → HasEdge graph a b → (l : LinkHeld) × IsIn l ls × IsAt l.from a ports × IsAt l.to b ports

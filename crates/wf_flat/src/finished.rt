@@ -1,0 +1,25 @@
+// Whether a run is finished.
+ghost use Rattle.std.specs.Prelude.{IfOk, IsTrue, ◌↔◌};
+ghost use Rattle.wf_model.specs.View.{View};
+ghost use Rattle.wf_model.specs.Run.{IsFinished};
+ghost use Rattle.wf_flat.specs.Table.{IsRunOf, events_of};
+ghost use Rattle.wf_flat.specs.Graph.{Marks};
+
+use crate::table::PlainRun;
+use std::alloc::{AllocError, Global};
+use wf_spec::Grammar;
+
+/// Whether no instance is pending under a view that expands the marked modules: one that is seen and not expanded, of a module that the view expands.
+///
+/// Cost: linear in the run. Fails only for want of memory.
+pub fn is_finished(
+    alloc: Global,
+    g: &Grammar,
+    run: &PlainRun,
+    expanded: &[bool],
+) -> Result<bool, AllocError>
+    requires { IsRunOf g.now run.now }
+    ensures { IfOk result (λ b. (u : View) → Marks expanded.now u → IsTrue b ↔ IsFinished g.now u g.now.start (events_of run.now)) }
+{
+    Err(AllocError)
+}
