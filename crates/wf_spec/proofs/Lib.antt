@@ -1,3 +1,5 @@
 pub mod Differing
 pub mod Ends
+pub mod Graphs
+pub mod Sides
 pub mod Tables

@@ -1,15 +1,8 @@
 -- Ports of positions, given how many each position has, and the ends of links at them.
 use Rattle.std.specs.Prelude.{◌≡◌, ℕ, ◌<◌, ◌≤◌, ◌+◌, ◌*◌, ◌==◌, Bool, false, cond, nat_lt, List, length, get_or, count_by}
 use Rattle.wf_model.specs.Lists.{IsIn}
-use Rattle.wf_model.specs.Grammar.{Module, Inner}
+use Rattle.wf_model.specs.Grammar.{Inner}
 use Rattle.wf_model.specs.WellFormed.{same_inner}
-use Rattle.wf_model.specs.declared.body.Position.{Position as PositionHeld}
-
-abbrev pub name_of_module : Module → List ℕ
-name_of_module m = m.name
-
-abbrev pub name_of_position : PositionHeld → List ℕ
-name_of_position q = q.name
 
 -- a position has a port of this number; one past the end has none
 abbrev pub IsPortOf : List ℕ → Inner → Type 0

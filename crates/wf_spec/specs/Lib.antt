@@ -1,3 +1,5 @@
+pub mod Bodies
 pub mod Ends
 pub mod Forming
+pub mod Graphs
 pub mod Tables

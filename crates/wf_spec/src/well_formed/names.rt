@@ -3,7 +3,9 @@ ghost use Rattle.std.specs.Prelude.{◌≡◌, ◌++◌, [], List, ℕ, not, map
 ghost use Rattle.std.specs.Bool.{OnTrue};
 ghost use Rattle.std.specs.List.{list_all};
 ghost use Rattle.wf_model.specs.Faults.{is_name_byte, is_short_name, some_twice};
-ghost use Rattle.wf_spec.specs.Ends.{name_of_module, name_of_position};
+ghost use Rattle.wf_model.specs.Meaning.{position_of};
+ghost use Rattle.wf_spec.specs.Forming.{names_of};
+ghost use Rattle.wf_spec.specs.Bodies.{names_at};
 
 use crate::grammar::Module;
 use std::alloc::{AllocError, Global};
@@ -49,7 +51,7 @@ pub fn are_short(names: &[Name]) -> bool
 
 /// Whether the name of each position is short.
 pub fn positions_are_short(positions: &[Position]) -> bool
-    ensures { result ≡ list_all is_short_name (map name_of_position positions.now) }
+    ensures { result ≡ list_all is_short_name (names_at (map position_of positions.now)) }
 {
     for q in positions {
         if !is_short(q.name.bytes()) {
@@ -88,7 +90,7 @@ pub fn ports_differ(alloc: Global, inputs: &[Name], outputs: &[Name]) -> Result<
 
 /// Whether the names of modules differ.
 pub fn modules_differ(alloc: Global, modules: &[Module]) -> Result<bool, AllocError>
-    ensures { IfOk result (λ b. b ≡ not (some_twice [] (map name_of_module modules.now))) }
+    ensures { IfOk result (λ b. b ≡ not (some_twice [] (names_of modules.now))) }
 {
     let mut taken = Names::new(alloc);
     for one in modules {
@@ -102,7 +104,7 @@ pub fn modules_differ(alloc: Global, modules: &[Module]) -> Result<bool, AllocEr
 
 /// Whether the names of positions differ.
 pub fn positions_differ(alloc: Global, positions: &[Position]) -> Result<bool, AllocError>
-    ensures { IfOk result (λ b. b ≡ not (some_twice [] (map name_of_position positions.now))) }
+    ensures { IfOk result (λ b. b ≡ not (some_twice [] (names_at (map position_of positions.now)))) }
 {
     let mut taken = Names::new(alloc);
     for q in positions {
