@@ -1,5 +1,5 @@
 -- Graphs that are made edge by edge.
-use Rattle.std.proofs.Common.{◌≡◌, ◌↔◌, ◌≢◌, ℕ, zero, suc, ◌+◌, ◌<◌, ◌≤◌, ◌⊎◌, Bool, true, false, ◌&&◌, ◌==◌, List, [], ◌∷◌, ◌++◌, length, get_or, set, map, take, Vec, refl, sym, ap, ◌∙◌, subst, inl, inr, ⊎_elim, arith, true≢false}
+use Rattle.std.proofs.Common.{◌≡◌, ◌↔◌, ℕ, zero, suc, ◌+◌, ◌<◌, ◌⊎◌, Bool, true, false, ◌&&◌, ◌==◌, List, [], ◌∷◌, ◌++◌, length, get_or, set, map, take, Vec, refl, sym, ap, ◌∙◌, subst, inl, inr, ⊎_elim, arith, true≢false}
 use Rattle.std.specs.declared.alloc.Global.{Global}
 use Rattle.std.proofs.lemmas.Bool.{eqb-true, eqb-false, eq-eqb}
 use Rattle.std.proofs.lemmas.List.{take_more, map-append}
@@ -9,7 +9,7 @@ use Rattle.wf_model.specs.Meaning.{edge_of}
 use Rattle.wf_model.specs.declared.body.Edge.{Edge as EdgeHeld}
 use Rattle.wf_model.proofs.Lists.{in_append_left, in_append_right, in_append_cases, in_map, at_in, is_at, some_from, some_gives}
 use Rattle.wf_model.proofs.Walks.{walk_through, walk_one}
-use Rattle.wf_graph.specs.Graph.{nexts, HasEdge, InRange, IsReached}
+use Rattle.wf_graph.specs.Graph.{nexts, HasEdge, IsReached}
 use Rattle.wf_spec.specs.Graphs.{HasOneMore, IsJoined, IsAcyclic}
 
 same_or_not : (a b : ℕ) → (a ≡ b) ⊎ (a ≡ b → ⊥)
@@ -46,17 +46,17 @@ edge_more graph v b old new h was now = λ x y. ⊎_elim (at_it x y) (at_other x
     at_it : (x y : ℕ) → x ≡ v → HasEdge (set graph v new) x y ↔ (HasEdge graph x y ⊎ ((x ≡ v) × (y ≡ b)))
     at_it x y e = (
       λ i. ⊎_elim
-      (λ j. inl (subst (λ z. HasEdge graph z y) (sym e) j))
-      (λ j. ⊎_elim (λ d. inr (e, d)) (λ z. absurd z) j)
-      (in_append_cases y (nexts graph v) (b ∷ []) (subst (IsIn y) list (subst (λ z. HasEdge (set graph v new) z y) e i))),
+          (λ j. inl (subst (λ z. HasEdge graph z y) (sym e) j))
+          (λ j. ⊎_elim (λ d. inr (e, d)) (λ z. absurd z) j)
+          (in_append_cases y (nexts graph v) (b ∷ []) (subst (IsIn y) list (subst (λ z. HasEdge (set graph v new) z y) e i))),
       λ s. subst (λ z. HasEdge (set graph v new) z y) (sym e) (subst (IsIn y) (sym list)
-      (⊎_elim (λ i. in_append_left y (nexts graph v) (b ∷ []) (subst (λ z. HasEdge graph z y) e i)) (λ d. in_append_right y (nexts graph v) (b ∷ []) (inl d.1)) s))
+          (⊎_elim (λ i. in_append_left y (nexts graph v) (b ∷ []) (subst (λ z. HasEdge graph z y) e i)) (λ d. in_append_right y (nexts graph v) (b ∷ []) (inl d.1)) s)),
     )
 
     at_other : (x y : ℕ) → (x ≡ v → ⊥) → HasEdge (set graph v new) x y ↔ (HasEdge graph x y ⊎ ((x ≡ v) × (y ≡ b)))
     at_other x y e = (
       λ i. inl (subst (IsIn y) (nexts-set_other graph v x new e) i),
-      λ s. ⊎_elim (λ i. subst (IsIn y) (sym (nexts-set_other graph v x new e)) i) (λ d. absurd (e d.0)) s
+      λ s. ⊎_elim (λ i. subst (IsIn y) (sym (nexts-set_other graph v x new e)) i) (λ d. absurd (e d.0)) s,
     )
 
 -- a new vertex leads nowhere
@@ -70,13 +70,13 @@ none_more (x ∷ graph) new e h (suc a) b i = none_more graph new e (λ c d. h (
 pub joined_more : (before after : List (Vec ℕ Global)) (edges : List Edge) (e : Edge) → ((a b : ℕ) → HasEdge before a b ↔ IsJoined edges a b) → HasOneMore before e.from.position e.to.position after → (a b : ℕ) → HasEdge after a b ↔ IsJoined (edges ++ e ∷ []) a b
 joined_more before after edges e h m a b = (
   λ i. ⊎_elim
-  (λ j. let r = (h a b).0 j in (r.0, in_append_left r.0 edges (e ∷ []) r.1, r.2, r.3))
-  (λ d. (e, in_append_right e edges (e ∷ []) (inl refl), sym d.0, sym d.1))
-  ((m a b).0 i),
+      (λ j. let r = (h a b).0 j in (r.0, in_append_left r.0 edges (e ∷ []) r.1, r.2, r.3))
+      (λ d. (e, in_append_right e edges (e ∷ []) (inl refl), sym d.0, sym d.1))
+      ((m a b).0 i),
   λ r. (m a b).1 (⊎_elim
-  (λ i. inl ((h a b).1 (r.0, i, r.2, r.3)))
-  (λ i. ⊎_elim (λ d. inr (sym r.2 ∙ ap (λ (z : Edge). z.from.position) d, sym r.3 ∙ ap (λ (z : Edge). z.to.position) d)) (λ z. absurd z) i)
-  (in_append_cases r.0 edges (e ∷ []) r.1))
+      (λ i. inl ((h a b).1 (r.0, i, r.2, r.3)))
+      (λ i. ⊎_elim (λ d. inr (sym r.2 ∙ ap (λ (z : Edge). z.from.position) d, sym r.3 ∙ ap (λ (z : Edge). z.to.position) d)) (λ z. absurd z) i)
+      (in_append_cases r.0 edges (e ∷ []) r.1)),
 )
 
 pub edge_there : (xs : List EdgeHeld) (k : ℕ) (d : EdgeHeld) → k < length xs → IsIn (edge_of (get_or xs k d)) (map edge_of xs)

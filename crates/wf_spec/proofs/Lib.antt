@@ -1,5 +1,7 @@
+pub mod Bodies
 pub mod Differing
 pub mod Ends
 pub mod Graphs
 pub mod Sides
+pub mod Sizes
 pub mod Tables

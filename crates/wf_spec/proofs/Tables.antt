@@ -1,5 +1,5 @@
 -- The tables of a grammar.
-use Rattle.std.proofs.Common.{◌≡◌, ◌≢◌, ℕ, zero, suc, ◌+◌, ◌<◌, ◌⊎◌, Bool, true, false, cond, ◌==◌, add-one, zero-add, List, [], ◌∷◌, ◌++◌, Vec, Global, map, length, get_or, set, filter, refl, sym, ap, subst, ◌∙◌, arith, inl, inr, ⊎_elim}
+use Rattle.std.proofs.Common.{◌≡◌, ◌≢◌, ℕ, zero, suc, ◌+◌, ◌<◌, Bool, true, false, cond, ◌==◌, add-one, zero-add, List, [], ◌∷◌, ◌++◌, Vec, Global, map, length, get_or, set, filter, refl, sym, ap, subst, ◌∙◌, arith}
 use Rattle.std.proofs.lemmas.Bool.{eqb-true, eqb-false, eq-eqb}
 use Rattle.std.proofs.lemmas.List.{length-set, get_or-set_same, get_or-set_other, append-nil, length-map, map-set, map-append, get_or-map}
 use Rattle.std.proofs.lemmas.List.Elements.{filter-append}
@@ -30,9 +30,9 @@ headed-next ps n m =
 pub by_head_more : (modules : ℕ) (ps : List Production) (n h : ℕ) (lists : List (List ℕ)) (list : List ℕ) → AreByHead modules ps n lists → head_at ps n ≡ h
     → list ≡ get_or lists h [] ++ n ∷ [] → AreByHead modules ps (n + 1) (set lists h list)
 by_head_more modules ps n h lists list known head is = record {
-    one_each = length-set lists h list ∙ known.one_each;
-    each = λ m within. by (h == m) m within refl
-  }
+  one_each = length-set lists h list ∙ known.one_each;
+  each = λ m within. by (h == m) m within refl;
+}
   where
     step : (m : ℕ) → headed ps (n + 1) m ≡ headed ps n m ++ cond (h == m) (n ∷ []) []
     step m = ap (λ k. headed ps k m) (add-one n) ∙ headed-next ps n m ∙ ap (λ k. headed ps n m ++ cond (k == m) (n ∷ []) []) head

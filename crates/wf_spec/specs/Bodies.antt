@@ -1,7 +1,7 @@
 -- The parts of what makes a body well-formed, for a production by itself.
 use Rattle.std.specs.Prelude.{◌≡◌, ℕ, ◌*◌, ◌<◌, ◌≤◌, Bool, ◌&&◌, nat_lt, nat_le, List, map, length, ◌++◌, sum_by}
 use Rattle.wf_model.specs.Lists.{IsIn, AllDiffer}
-use Rattle.wf_model.specs.Grammar.{Grammar, Module, Position, Inner, Edge, Production}
+use Rattle.wf_model.specs.Grammar.{Grammar, Module, Position, Edge, Production}
 use Rattle.wf_model.specs.WellFormed.{IsShortName}
 use Rattle.wf_spec.specs.Forming.{module_in}
 use Rattle.wf_spec.specs.Ends.{AreMetOnce}

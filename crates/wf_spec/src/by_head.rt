@@ -19,7 +19,11 @@ fn empty_lists(alloc: Global, count: usize) -> Result<Vec<Vec<ProdNo>>, AllocErr
 }
 
 /// A list for each module of the productions that it heads, in order.
-pub fn by_head(alloc: Global, modules: usize, productions: &[Production]) -> Result<Vec<Vec<ProdNo>>, AllocError>
+pub fn by_head(
+    alloc: Global,
+    modules: usize,
+    productions: &[Production],
+) -> Result<Vec<Vec<ProdNo>>, AllocError>
     requires few { length productions.now ≤ 65536 }
     requires heads { (r : ProductionSeen) → IsIn r productions.now → r.head < modules }
     ensures { IfOk result (λ lists. AreByHead modules productions.now (length productions.now) (numbers_in lists.items)) }

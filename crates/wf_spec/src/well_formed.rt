@@ -34,7 +34,6 @@ pub fn is_well_formed(alloc: Global, d: &Draft) -> Result<bool, AllocError>
     if !differ {
         return Ok(false);
     }
-    let start = d.start();
     let bodies = are_bodies(alloc, modules, d.productions())?;
     Ok(bodies)
 }

@@ -86,7 +86,11 @@ fn is_body(alloc: Global, modules: &[Module], rule: &Production) -> Result<bool,
 /// Whether each production has such a body.
 ///
 /// Cost: for each body one look at each port and link, and for each position two at each edge.
-pub fn are_bodies(alloc: Global, modules: &[Module], productions: &[Production]) -> Result<bool, AllocError>
+pub fn are_bodies(
+    alloc: Global,
+    modules: &[Module],
+    productions: &[Production],
+) -> Result<bool, AllocError>
     requires formed { (m : ModuleSeen) → IsIn m modules.now → IsWellFormedModule m }
     requires fit { (r : ProductionSeen) → IsIn r productions.now → Fits (length modules.now) r }
     ensures { IfOk result (λ b. IsTrue b ↔ ((r : ProductionSeen) → IsIn r productions.now → IsBody modules.now r)) }

@@ -63,7 +63,11 @@ pub fn are_of(modules: usize, positions: &[Position]) -> bool
 }
 
 /// How many inputs each position has.
-pub fn input_counts(alloc: Global, modules: &[Module], positions: &[Position]) -> Result<Vec<usize>, AllocError>
+pub fn input_counts(
+    alloc: Global,
+    modules: &[Module],
+    positions: &[Position],
+) -> Result<Vec<usize>, AllocError>
     requires { (m : ℕ) → IsIn m (modules_at (map position_of positions.now)) → m < length modules.now }
     ensures { IfOk result (λ counts. counts.items ≡ map (inputs_in modules.now) (modules_at (map position_of positions.now))) }
 {
@@ -76,7 +80,11 @@ pub fn input_counts(alloc: Global, modules: &[Module], positions: &[Position]) -
 }
 
 /// How many outputs each position has.
-pub fn output_counts(alloc: Global, modules: &[Module], positions: &[Position]) -> Result<Vec<usize>, AllocError>
+pub fn output_counts(
+    alloc: Global,
+    modules: &[Module],
+    positions: &[Position],
+) -> Result<Vec<usize>, AllocError>
     requires { (m : ℕ) → IsIn m (modules_at (map position_of positions.now)) → m < length modules.now }
     ensures { IfOk result (λ counts. counts.items ≡ map (outputs_in modules.now) (modules_at (map position_of positions.now))) }
 {

@@ -1,5 +1,5 @@
 // Whether the sizes of a grammar are within their limits.
-ghost use Rattle.std.specs.Prelude.{◌≡◌, ◌↔◌, ◌≤◌, IsTrue, length, sum_by};
+ghost use Rattle.std.specs.Prelude.{◌≡◌, [], ◌↔◌, ◌≤◌, IsTrue, length, sum_by};
 ghost use Rattle.std.specs.List.{list_all};
 ghost use Rattle.wf_model.specs.Lists.{IsIn};
 ghost use Rattle.wf_model.specs.Grammar.{Production as ProductionSeen};
@@ -39,7 +39,8 @@ fn squares(productions: &[Production]) -> usize
 
 /// Whether the start and the heads are modules, and the lists are within their limits.
 pub fn has_sizes(d: &Draft) -> bool
-    ensures { IsTrue result ↔ HasSizes d.now }
+    ensures sizes { IsTrue result ↔ HasSizes d.now }
+    ensures given { d.now.given ≡ [] }
 {
     let modules = d.modules().len();
     let productions = d.productions();

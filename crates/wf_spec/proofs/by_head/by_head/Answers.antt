@@ -1,4 +1,4 @@
-use Rattle.std.proofs.Common.{◌<◌, ◌∙◌, ap, sym, subst, refl, length}
+use Rattle.std.proofs.Common.{◌<◌, ◌∙◌, ap, sym, subst, refl}
 use Rattle.std.proofs.lemmas.List.{get_or_default}
 use Rattle.wf_model.specs.Grammar.{Production}
 use Rattle.wf_spec.proofs.Tables.{head_within, list_within, pushed}

@@ -1,4 +1,4 @@
-use Rattle.std.proofs.Common.{◌≡◌, ◌+◌, ℕ, List, Vec, ap, sym, subst, ◌∙◌, arith, length, length-append, ◌∷◌, []}
+use Rattle.std.proofs.Common.{◌+◌, ℕ, List, Vec, ap, sym, subst, ◌∙◌, length, length-append, ◌∷◌, []}
 use Rattle.std.specs.declared.alloc.Global.{Global}
 use Rattle.wf_graph.specs.Graph.{HasEdge}
 use Rattle.wf_spec.proofs.Graphs.{none_more}

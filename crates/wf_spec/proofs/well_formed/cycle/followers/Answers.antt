@@ -1,4 +1,4 @@
-use Rattle.std.proofs.Common.{◌≡◌, ◌↔◌, ◌<◌, ℕ, ap, sym, subst, ◌∙◌, length, get_or, map, take, List}
+use Rattle.std.proofs.Common.{◌↔◌, ◌<◌, ℕ, sym, subst, ◌∙◌, get_or, map, take, List}
 use Rattle.std.proofs.lemmas.List.{take_all}
 use Rattle.wf_model.specs.Grammar.{Edge}
 use Rattle.wf_model.specs.Meaning.{edge_of}
@@ -30,7 +30,7 @@ loop-e-preserved c =
     record {
       count = c.in_ok-add_edge.ensures.count ∙ c.loop-e.invariant.count;
       edges = subst (λ (l : List Edge). (a b : ℕ) → HasEdge c.add_edge.new.graph.items a b ↔ IsJoined l a b) (sym (edges_more xs k no_edge c.loop-e-test.true))
-      (joined_more c.loop-e.graph.items c.add_edge.new.graph.items (map edge_of (take k xs)) (edge_of (get_or xs k no_edge)) c.loop-e.invariant.edges c.in_ok-add_edge.ensures.added);
+          (joined_more c.loop-e.graph.items c.add_edge.new.graph.items (map edge_of (take k xs)) (edge_of (get_or xs k no_edge)) c.loop-e.invariant.edges c.in_ok-add_edge.ensures.added);
     }
 
 pub returns-clause-edges : goal.returns-clause-edges

@@ -3,7 +3,6 @@ use Rattle.std.specs.declared.alloc.Global.{Global}
 use Rattle.wf_model.specs.Lists.{some}
 use Rattle.wf_model.specs.Meaning.{edge_of}
 use Rattle.wf_graph.specs.Graph.{HasEdge, IsReached}
-use Rattle.wf_spec.specs.Graphs.{IsJoined, IsAcyclic}
 use Rattle.wf_spec.proofs.Graphs.{leads_to, cycle_found, no_cycle_at, no_cycle_below}
 use Rattle.wf_spec.proofs.well_formed.cycle.has_no_cycle.Goals as goal
 
@@ -34,9 +33,11 @@ loop-k-preserved c =
 
 pub returns : goal.returns
 returns c =
-    let edges = map edge_of c.args.edges.now in
-    (λ t a b j w.
-    (let low = subst (λ n. n < c.args.count) j.3 (c.requires.to j.0 j.1) in
-    let h = c.loop-k-test.false in
-    let l : b < c.loop-k.k = omega arith in
-    c.loop-k.invariant a b l j w), λ a. refl)
+    let edges = map edge_of c.args.edges.now in (
+      λ t a b j w.
+          (let low = subst (λ n. n < c.args.count) j.3 (c.requires.to j.0 j.1) in
+          let h = c.loop-k-test.false in
+          let l : b < c.loop-k.k = omega arith in
+          c.loop-k.invariant a b l j w),
+      λ a. refl,
+    )

@@ -1,4 +1,4 @@
-use Rattle.std.proofs.Common.{◌≡◌, ap, sym, subst, ◌∙◌, length}
+use Rattle.std.proofs.Common.{ap, ◌∙◌, length}
 use Rattle.wf_model.specs.Grammar.{Module}
 use Rattle.wf_spec.specs.Bodies.{inputs_in}
 use Rattle.wf_spec.proofs.Sides.{module_there, counts_more, module_read}

@@ -1,4 +1,4 @@
-use Rattle.std.proofs.Common.{◌≡◌, ◌≤◌, ◌++◌, List, ℕ, not, [], ap, sym, subst, ◌∙◌, length, arith, true≢false}
+use Rattle.std.proofs.Common.{◌≤◌, ◌++◌, not, [], ap, sym, subst, ◌∙◌, length, true≢false}
 use Rattle.std.specs.List.{list_all}
 use Rattle.wf_model.specs.Faults.{is_short_name, some_twice}
 use Rattle.wf_spec.proofs.Sides.{name_short, inputs_short, outputs_short, module_gives, differ_from}
@@ -21,11 +21,10 @@ returns c =
     let m = c.args.one.now in
     let i = c.inputs-inputs.ensures in
     let o = c.outputs-outputs.ensures in
-    let told = c.in_ok-differ.ensures ∙ (ap (λ l. not (some_twice [] (l ++ c.outputs-outputs.result.now))) i ∙ ap (λ l. not (some_twice [] (m.inputs ++ l))) o) in
-    (
+    let told = c.in_ok-differ.ensures ∙ (ap (λ l. not (some_twice [] (l ++ c.outputs-outputs.result.now))) i ∙ ap (λ l. not (some_twice [] (m.inputs ++ l))) o) in (
       λ t. module_gives m c.in_ok-differ.differ (subst (λ l. length l ≤ 64) i c.if-inputs-gt64.false) (subst (λ l. length l ≤ 64) o c.if-outputs-gt64.false)
-      (ap is_short_name (sym c.name.ensures) ∙ (sym c.is_short.ensures ∙ c.if-not-is_short.false))
-      (ap (list_all is_short_name) (sym i) ∙ (sym c.are_short.ensures ∙ c.if-not-are_short.false))
-      (ap (list_all is_short_name) (sym o) ∙ (sym c.are_short-2.ensures ∙ c.if-not-are_short-2.false)) told t,
-      λ h. differ_from (m.inputs ++ m.outputs) c.in_ok-differ.differ told h.ports_differ
+          (ap is_short_name (sym c.name.ensures) ∙ (sym c.is_short.ensures ∙ c.if-not-is_short.false))
+          (ap (list_all is_short_name) (sym i) ∙ (sym c.are_short.ensures ∙ c.if-not-are_short.false))
+          (ap (list_all is_short_name) (sym o) ∙ (sym c.are_short-2.ensures ∙ c.if-not-are_short-2.false)) told t,
+      λ h. differ_from (m.inputs ++ m.outputs) c.in_ok-differ.differ told h.ports_differ,
     )
