@@ -51,12 +51,12 @@ pub squares_more : (rs : List Production) (k s n : ℕ) (r : Production) → k <
 squares_more rs k s n r h e before len =
     ap (λ z. z + n * n) before ∙ (ap (λ z. sum_by square_of (take k rs) + z * z) len ∙ (ap (λ z. sum_by square_of (take k rs) + square_of z) e ∙ sym (sum_by_more square_of rs k r h)))
 
-rule_in : (g : Grammar) (p : ℕ) → p < length g.productions → IsIn (production_at g p) g.productions
+pub rule_in : (g : Grammar) (p : ℕ) → p < length g.productions → IsIn (production_at g p) g.productions
 rule_in g p h =
     let d : Production = record { head = 0; positions = []; edges = []; entries = []; exits = [] } in
     at_in (get_or g.productions p d) p g.productions (is_at p g.productions d h)
 
-in_rule : (g : Grammar) (r : Production) → IsIn r g.productions → (p : ℕ) × (p < length g.productions) × (production_at g p ≡ r)
+pub in_rule : (g : Grammar) (r : Production) → IsIn r g.productions → (p : ℕ) × (p < length g.productions) × (production_at g p ≡ r)
 in_rule g r i =
     let d : Production = record { head = 0; positions = []; edges = []; entries = []; exits = [] } in
     let k = in_at r g.productions i in
