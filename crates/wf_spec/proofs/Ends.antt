@@ -26,7 +26,7 @@ pub all_from : {A : Type 0} (p : A → Bool) (xs : List A) → ((x : A) → IsIn
 all_from p [] h = refl
 all_from p (y ∷ xs) h = ap (λ b. b && list_all p xs) (h y (inl refl)) ∙ all_from p xs (λ x i. h x (inr i))
 
-same_or_not : (a b : ℕ) → (a ≡ b) ⊎ (a ≡ b → ⊥)
+pub same_or_not : (a b : ℕ) → (a ≡ b) ⊎ (a ≡ b → ⊥)
 same_or_not a b = go (a == b) refl
   where
     go : (t : Bool) → a == b ≡ t → (a ≡ b) ⊎ (a ≡ b → ⊥)

@@ -1,7 +1,7 @@
 -- Graphs that are made edge by edge.
 use Rattle.std.proofs.Common.{◌≡◌, ◌↔◌, ℕ, zero, suc, ◌+◌, ◌<◌, ◌⊎◌, Bool, true, false, ◌&&◌, ◌==◌, List, [], ◌∷◌, ◌++◌, length, get_or, set, map, take, Vec, refl, sym, ap, ◌∙◌, subst, inl, inr, ⊎_elim, arith, true≢false}
 use Rattle.std.specs.declared.alloc.Global.{Global}
-use Rattle.std.proofs.lemmas.Bool.{eqb-true, eqb-false, eq-eqb}
+use Rattle.std.proofs.lemmas.Bool.{eqb-true, eq-eqb}
 use Rattle.std.proofs.lemmas.List.{take_more, map-append}
 use Rattle.wf_model.specs.Lists.{IsIn, Walk, some}
 use Rattle.wf_model.specs.Grammar.{Edge}
@@ -9,15 +9,9 @@ use Rattle.wf_model.specs.Meaning.{edge_of}
 use Rattle.wf_model.specs.declared.body.Edge.{Edge as EdgeHeld}
 use Rattle.wf_model.proofs.Lists.{in_append_left, in_append_right, in_append_cases, in_map, at_in, is_at, some_from, some_gives}
 use Rattle.wf_model.proofs.Walks.{walk_through, walk_one}
+use Rattle.wf_spec.proofs.Ends.{same_or_not}
 use Rattle.wf_graph.specs.Graph.{nexts, HasEdge, IsReached}
 use Rattle.wf_spec.specs.Graphs.{HasOneMore, IsJoined, IsAcyclic}
-
-same_or_not : (a b : ℕ) → (a ≡ b) ⊎ (a ≡ b → ⊥)
-same_or_not a b = go (a == b) refl
-  where
-    go : (t : Bool) → a == b ≡ t → (a ≡ b) ⊎ (a ≡ b → ⊥)
-    go true e = inl (eqb-true a b e)
-    go false e = inr (eqb-false a b e)
 
 nexts-set_same : (graph : List (Vec ℕ Global)) (v : ℕ) (new : Vec ℕ Global) → v < length graph → nexts (set graph v new) v ≡ new.items
 nexts-set_same [] v new h = absurd (omega arith)

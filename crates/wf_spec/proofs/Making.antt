@@ -28,9 +28,6 @@ places_more xs k q h e =
     through [] = refl
     through (p ∷ ps) = ap (λ l. p.module.0 ∷ l) (through ps)
 
-pub more_none : (graph : List (Vec ℕ Global)) (a : ℕ) → HasMore graph a [] graph
-more_none graph a = λ x y. (λ h. inl h, λ s. ⊎_elim (λ h. h) (λ d. absurd d.1) s)
-
 pub more_step : (before mid after : List (Vec ℕ Global)) (a b : ℕ) (bs : List ℕ) → HasMore before a bs mid → HasOneMore mid a b after → HasMore before a (bs ++ b ∷ []) after
 more_step before mid after a b bs m o = λ x y. (
   λ h. ⊎_elim (λ i. ⊎_elim (λ j. inl j) (λ d. inr (d.0, in_append_left y bs (b ∷ []) d.1)) ((m x y).0 i)) (λ d. inr (d.0, in_append_right y bs (b ∷ []) (inl d.1))) ((o x y).0 h),

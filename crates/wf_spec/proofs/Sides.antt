@@ -67,9 +67,6 @@ counts_more f xs k q old new n h e before more is =
     step : take (k + 1) xs ≡ take k xs ++ q ∷ []
     step = take_more xs k q h ∙ ap (λ z. take k xs ++ z ∷ []) (sym e)
 
-    seen : PositionHeld → ℕ
-    seen p = f p.module.0
-
     through : (ps : List PositionHeld) → map f (modules_at (map position_of (ps ++ q ∷ []))) ≡ map f (modules_at (map position_of ps)) ++ f q.module.0 ∷ []
     through [] = refl
     through (p ∷ ps) = ap (λ l. f p.module.0 ∷ l) (through ps)

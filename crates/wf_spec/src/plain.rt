@@ -84,7 +84,7 @@ fn heads_are_marked(productions: &[Production], marks: &[bool]) -> bool
 
 /// Whether every composite module is reached from the start module, and each body has modules of greater number than its head's alone. Fails only for want of memory.
 ///
-/// Cost: two looks at each position.
+/// Cost: at most three looks at each position of each body.
 pub fn is_plain(alloc: Global, d: &Draft) -> Result<bool, AllocError>
     requires { IsWellFormed d.now }
     ensures { IfOk result (λ b. IsTrue b ↔ IsPlain d.now) }
