@@ -1,2 +1,6 @@
+pub mod Bodies
+pub mod Ends
 pub mod Forming
+pub mod Graphs
+pub mod Making
 pub mod Tables

@@ -7,6 +7,7 @@ mod deps;
 mod draft;
 mod fault;
 mod grammar;
+mod graph;
 mod plain;
 mod resolve;
 mod rows;

@@ -1,0 +1,164 @@
+-- Ends of links at the ports of positions.
+use Rattle.std.proofs.Common.{◌≡◌, ℕ, zero, suc, ◌+◌, ◌*◌, ◌<◌, ◌≤◌, ◌⊎◌, Bool, true, false, cond, ◌&&◌, List, [], ◌∷◌, ◌++◌, take, map, length, get_or, set, refl, sym, ap, ◌∙◌, inl, inr, ⊎_elim, arith, true≢false}
+use Rattle.std.specs.Prelude.{◌==◌, count_by}
+use Rattle.std.specs.List.{list_all}
+use Rattle.std.proofs.lemmas.Bool.Decides.{nat_tests}
+use Rattle.std.proofs.lemmas.List.{get_or-set_same, get_or-set_other, length-set, take_more, take-map, map-append}
+use Rattle.std.proofs.lemmas.List.Sums.{sum_by-cons, sum_by_push, sum_by-take-le}
+use Rattle.wf_model.specs.Lists.{IsIn}
+use Rattle.wf_model.specs.Grammar.{Inner}
+use Rattle.wf_model.specs.WellFormed.{same_inner}
+use Rattle.wf_model.specs.Meaning.{inner_of}
+use Rattle.wf_model.specs.declared.body.Inner.{Inner as InnerHeld}
+use Rattle.wf_model.proofs.Lists.{in_map, at_in, is_at}
+use Rattle.wf_spec.specs.Ends.{IsPortOf, is_port_of, HaveFew, AreMetOnce, place_of, ends_at, IsTable, IsTwice}
+
+pub all_gives : {A : Type 0} (p : A → Bool) (xs : List A) → list_all p xs ≡ true → (x : A) → IsIn x xs → p x ≡ true
+all_gives p [] h x i = absurd i
+all_gives {A} p (y ∷ xs) h x i = go (λ k j. all_gives p xs k x j) (p y) refl h i
+  where
+    go : (list_all p xs ≡ true → IsIn x xs → p x ≡ true) → (b : Bool) → p y ≡ b → (b && list_all p xs) ≡ true → IsIn x (y ∷ xs) → p x ≡ true
+    go later true e k (inl d) = ap p d ∙ e
+    go later true e k (inr j) = later k j
+    go later false e k j = absurd (true≢false (sym k))
+
+pub all_from : {A : Type 0} (p : A → Bool) (xs : List A) → ((x : A) → IsIn x xs → p x ≡ true) → list_all p xs ≡ true
+all_from p [] h = refl
+all_from p (y ∷ xs) h = ap (λ b. b && list_all p xs) (h y (inl refl)) ∙ all_from p xs (λ x i. h x (inr i))
+
+pub same_or_not : (a b : ℕ) → (a ≡ b) ⊎ (a ≡ b → ⊥)
+same_or_not a b = go (a == b) refl
+  where
+    go : (t : Bool) → a == b ≡ t → (a ≡ b) ⊎ (a ≡ b → ⊥)
+    go true e = inl (grind (arith, nat_tests))
+    go false e = inr (λ (d : a ≡ b). (let z : a == b ≡ true = grind (arith, nat_tests) in true≢false (sym z ∙ e)))
+
+pub port_gives : (counts : List ℕ) (i : Inner) → is_port_of counts i ≡ true → IsPortOf counts i
+port_gives counts i h = grind (arith, nat_tests)
+
+pub port_from : (counts : List ℕ) (i : Inner) → IsPortOf counts i → is_port_of counts i ≡ true
+port_from counts i h = grind (arith, nat_tests)
+
+-- a position with a port is in range
+pub position_below : (counts : List ℕ) (i : Inner) → IsPortOf counts i → i.position < length counts
+position_below counts i h = go counts i.position i.port h
+  where
+    go : (counts : List ℕ) (k p : ℕ) → p < get_or counts k 0 → k < length counts
+    go [] k p h = absurd (omega arith)
+    go (n ∷ counts) zero p h = omega arith
+    go (n ∷ counts) (suc k) p h = let r = go counts k p h in omega arith
+
+pub place_below : (counts : List ℕ) → HaveFew counts → (i : Inner) → IsPortOf counts i → place_of i < length counts * 64
+place_below counts few i h = let r = position_below counts i h in let f = few i.position in omega arith
+
+test_same : (a b : ℕ) → a ≡ b → (a == b) ≡ true
+test_same a b e = grind (arith, nat_tests)
+
+test_other : (a b : ℕ) → (a ≡ b → ⊥) → (a == b) ≡ false
+test_other a b e = go (a == b) refl
+  where
+    go : (t : Bool) → a == b ≡ t → a == b ≡ false
+    go true d = absurd (e (grind (arith, nat_tests)))
+    go false d = d
+
+-- two ports are the same if their places are
+pub same_place : (i j : Inner) → i.port < 64 → j.port < 64 → same_inner i j ≡ (place_of j == place_of i)
+same_place i j a b =
+    ⊎_elim
+    (λ (e : i.position ≡ j.position). ⊎_elim
+    (λ (f : i.port ≡ j.port). both (test_same i.position j.position e) (test_same i.port j.port f) (test_same (place_of j) (place_of i) (omega arith)))
+    (λ f. by_port (test_other i.port j.port f) (test_other (place_of j) (place_of i) (λ (d : place_of j ≡ place_of i). f (omega arith))))
+    (same_or_not i.port j.port))
+    (λ e. by_position (test_other i.position j.position e) (test_other (place_of j) (place_of i) (λ (d : place_of j ≡ place_of i). e (omega arith))))
+    (same_or_not i.position j.position)
+  where
+    both : (i.position == j.position) ≡ true → (i.port == j.port) ≡ true → (place_of j == place_of i) ≡ true → same_inner i j ≡ (place_of j == place_of i)
+    both e f g = ap (λ x. x && (i.port == j.port)) e ∙ (f ∙ sym g)
+
+    by_position : (i.position == j.position) ≡ false → (place_of j == place_of i) ≡ false → same_inner i j ≡ (place_of j == place_of i)
+    by_position e g = ap (λ x. x && (i.port == j.port)) e ∙ sym g
+
+    by_port : (i.port == j.port) ≡ false → (place_of j == place_of i) ≡ false → same_inner i j ≡ (place_of j == place_of i)
+    by_port f g = last (i.position == j.position) (i.port == j.port) f ∙ sym g
+      where
+        last : (x y : Bool) → y ≡ false → (x && y) ≡ false
+        last true y e = e
+        last false y e = refl
+
+pub same_count : (i : Inner) (ends : List Inner) → i.port < 64 → ((j : Inner) → IsIn j ends → j.port < 64) → count_by (same_inner i) ends ≡ ends_at (place_of i) ends
+same_count i [] a b = refl
+same_count i (j ∷ ends) a b =
+    let p : count_by (same_inner i) (j ∷ ends) ≡ cond {A = ℕ} (same_inner i j) 1 0 + count_by (same_inner i) ends = sum_by-cons _ j ends in
+    let q : ends_at (place_of i) (j ∷ ends) ≡ cond {A = ℕ} (place_of j == place_of i) 1 0 + ends_at (place_of i) ends = sum_by-cons _ j ends in
+    p ∙ (ap (λ t. cond {A = ℕ} t 1 0 + count_by (same_inner i) ends) (same_place i j a (b j (inl refl)))
+    ∙ (ap (λ n. cond {A = ℕ} (place_of j == place_of i) 1 0 + n) (same_count i ends a (λ k h. b k (inr h))) ∙ sym q))
+
+push_count : (n : ℕ) (ends : List Inner) (i : Inner) → ends_at n (ends ++ i ∷ []) ≡ ends_at n ends + cond {A = ℕ} (place_of i == n) 1 0
+push_count n ends i = sum_by_push (λ (j : Inner). cond {A = ℕ} (place_of j == n) 1 0) ends i
+
+-- the flag of a new end is set
+pub table_more : (p : ℕ) (marks : List Bool) (ends : List Inner) (i : Inner) → IsTable p marks ends → place_of i < length marks → get_or marks (place_of i) false ≡ false → IsTable p (set marks (place_of i) true) (ends ++ i ∷ [])
+table_more p marks ends i t low off = record { count = length-set marks (place_of i) true ∙ t.count; each = λ n. ⊎_elim (at_it n) (at_other n) (same_or_not n (place_of i)) }
+  where
+    at_it : (n : ℕ) → n ≡ place_of i → ends_at n (ends ++ i ∷ []) ≡ cond {A = ℕ} (get_or (set marks (place_of i) true) n false) 1 0
+    at_it n e =
+        let z : ends_at n ends ≡ 0 = t.each n ∙ (ap (λ k. cond {A = ℕ} (get_or marks k false) 1 0) e ∙ ap (λ b. cond {A = ℕ} b 1 0) off) in
+        let o : cond {A = ℕ} (place_of i == n) 1 0 ≡ 1 = ap (λ b. cond {A = ℕ} b 1 0) (test_same (place_of i) n (sym e)) in
+        let s : get_or (set marks (place_of i) true) n false ≡ true = ap (λ k. get_or (set marks (place_of i) true) k false) e ∙ get_or-set_same marks (place_of i) true false low in
+        let r : ends_at n ends + cond {A = ℕ} (place_of i == n) 1 0 ≡ 1 = omega arith in
+        push_count n ends i ∙ (r ∙ sym (ap (λ b. cond {A = ℕ} b 1 0) s))
+
+    at_other : (n : ℕ) → (n ≡ place_of i → ⊥) → ends_at n (ends ++ i ∷ []) ≡ cond {A = ℕ} (get_or (set marks (place_of i) true) n false) 1 0
+    at_other n e =
+        let o : cond {A = ℕ} (place_of i == n) 1 0 ≡ 0 = ap (λ b. cond {A = ℕ} b 1 0) (test_other (place_of i) n (λ d. e (sym d))) in
+        let s : get_or (set marks (place_of i) true) n false ≡ get_or marks n false = get_or-set_other marks (place_of i) n true false e in
+        let r : ends_at n ends + cond {A = ℕ} (place_of i == n) 1 0 ≡ ends_at n ends = omega arith in
+        push_count n ends i ∙ (r ∙ (t.each n ∙ sym (ap (λ b. cond {A = ℕ} b 1 0) s)))
+
+-- where the flag is set before, two ends stand there
+pub table_twice : (p : ℕ) (marks : List Bool) (ends all : List Inner) (i : Inner) (k : ℕ) → IsTable p marks ends → get_or marks (place_of i) false ≡ true → take k all ≡ ends ++ i ∷ [] → IsIn i all → IsTwice all
+table_twice p marks ends all i k t on e h =
+    let one : ends_at (place_of i) ends ≡ 1 = t.each (place_of i) ∙ ap (λ b. cond {A = ℕ} b 1 0) on in
+    let o : cond {A = ℕ} (place_of i == place_of i) 1 0 ≡ 1 = ap (λ b. cond {A = ℕ} b 1 0) (test_same (place_of i) (place_of i) refl) in
+    let r = push_count (place_of i) ends i in
+    let q : ends_at (place_of i) (take k all) ≡ ends_at (place_of i) (ends ++ i ∷ []) = ap (ends_at (place_of i)) e in
+    let l : ends_at (place_of i) (take k all) ≤ ends_at (place_of i) all = sum_by-take-le _ all k in
+    (i, h, omega arith)
+
+few_port : (counts : List ℕ) → HaveFew counts → (i : Inner) → IsPortOf counts i → i.port < 64
+few_port counts few i h = let f = few i.position in omega arith
+
+-- an end that stands twice at a port breaks the rule
+pub once_not_twice : (counts : List ℕ) (ends : List Inner) → HaveFew counts → AreMetOnce counts ends → IsTwice ends → ⊥
+once_not_twice counts ends few m t =
+    let i = t.0 in
+    let c = same_count i ends (few_port counts few i (m.within i t.1)) (λ j h. few_port counts few j (m.within j h)) in
+    let o = m.once i (m.within i t.1) in
+    let two = t.2 in
+    omega arith
+
+pub met_from : (p : ℕ) (counts : List ℕ) (ends : List Inner) (marks : List Bool) → HaveFew counts → ((i : Inner) → IsIn i ends → IsPortOf counts i) → IsTable p marks ends → ((i : Inner) → IsPortOf counts i → get_or marks (place_of i) false ≡ true) → AreMetOnce counts ends
+met_from p counts ends marks few w t s = record {
+  within = w;
+  once = λ i h. same_count i ends (few_port counts few i h) (λ j k. few_port counts few j (w j k)) ∙ (t.each (place_of i) ∙ ap (λ b. cond {A = ℕ} b 1 0) (s i h));
+}
+
+pub met_gives : (p : ℕ) (counts : List ℕ) (ends : List Inner) (marks : List Bool) → HaveFew counts → IsTable p marks ends → AreMetOnce counts ends → (i : Inner) → IsPortOf counts i → get_or marks (place_of i) false ≡ true
+met_gives p counts ends marks few t m i h = go (get_or marks (place_of i) false) refl
+  where
+    one : ends_at (place_of i) ends ≡ 1
+    one = sym (same_count i ends (few_port counts few i h) (λ j k. few_port counts few j (m.within j k))) ∙ m.once i h
+
+    go : (b : Bool) → get_or marks (place_of i) false ≡ b → get_or marks (place_of i) false ≡ true
+    go true e = e
+    go false e = absurd (let z : ends_at (place_of i) ends ≡ 0 = t.each (place_of i) ∙ ap (λ c. cond {A = ℕ} c 1 0) e in let o = one in omega arith)
+
+pub there : (xs : List InnerHeld) (k : ℕ) (d : InnerHeld) → k < length xs → IsIn (inner_of (get_or xs k d)) (map inner_of xs)
+there xs k d h = in_map inner_of (get_or xs k d) xs (at_in (get_or xs k d) k xs (is_at k xs d h))
+
+-- one end more is seen
+pub one_more : (xs : List InnerHeld) (k : ℕ) (d : InnerHeld) → k < length xs →
+    (map inner_of (take (k + 1) xs) ≡ map inner_of (take k xs) ++ inner_of (get_or xs k d) ∷ []) × (take (k + 1) (map inner_of xs) ≡ map inner_of (take k xs) ++ inner_of (get_or xs k d) ∷ [])
+one_more xs k d h =
+    let e = ap (map inner_of) (take_more xs k d h) ∙ map-append inner_of (take k xs) (get_or xs k d ∷ []) in
+    (e, take-map inner_of (k + 1) xs ∙ e)
