@@ -8,8 +8,8 @@ use Rattle.wf_model.proofs.Walks.{walk_through, walk_one}
 use Rattle.wf_graph.specs.Graph.{HasEdge, IsReached, InRange}
 use Rattle.wf_flat.specs.declared.graph.Port.{Port as PortHeld}
 use Rattle.wf_flat.specs.declared.graph.Link.{Link as LinkHeld}
-use Rattle.wf_flat.specs.Graph.{named_port, named_link, named_links, AreWithin}
-use Rattle.wf_flat.specs.Flat.{IsIndex, numbered, numbered_link, numbered_links}
+use Rattle.wf_flat.specs.Graph.{named_port, named_link, named_links}
+use Rattle.wf_flat.specs.Flat.{AreWithin, IsIndex, numbered, numbered_link, numbered_links}
 
 numbered_same : (x y : PortHeld) → numbered x ≡ numbered y → x ≡ y
 numbered_same x y e = (λ t. record { instance = (e t).owner; side = (e t).side; port = record { 0 = (e t).number } })

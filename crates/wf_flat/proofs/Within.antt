@@ -10,7 +10,8 @@ use Rattle.wf_model.specs.Grammar.{Production}
 use Rattle.wf_model.specs.Meaning.{inner_of, edge_of}
 use Rattle.wf_model.proofs.Lists.{in_append_cases, in_map, in_map_from, in_flat_map_from}
 use Rattle.wf_flat.specs.declared.graph.Link.{Link}
-use Rattle.wf_flat.specs.Graph.{AreWithin, pair, row_links, matrix_links, edge_at, entries_at, exits_at, AreBelow}
+use Rattle.wf_flat.specs.Graph.{pair, row_links, matrix_links, edge_at, entries_at, exits_at, AreBelow}
+use Rattle.wf_flat.specs.Flat.{AreWithin}
 
 within_append : (n : ℕ) (xs ys : List Link) → AreWithin n xs → AreWithin n ys → AreWithin n (xs ++ ys)
 within_append n xs ys h k l i = ⊎_elim (λ a. h l a) (λ a. k l a) (in_append_cases l xs ys i)

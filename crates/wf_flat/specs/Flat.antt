@@ -21,6 +21,10 @@ numbered_link l = record { from = numbered l.from; to = numbered l.to }
 abbrev pub numbered_links : List LinkHeld → List (Link ℕ)
 numbered_links ls = map numbered_link ls
 
+-- the instances of the ports are below a number
+abbrev pub AreWithin : ℕ → List LinkHeld → Type 0
+AreWithin count ls = (l : LinkHeld) → IsIn l ls → (l.from.instance < count) × (l.to.instance < count)
+
 -- the ports are numbered, each once, and the graph has an edge between two numbers exactly where a link leads between the ports of these numbers
 pub record IsIndex (ls : List LinkHeld) (ports : List PortHeld) (graph : List (Vec ℕ Global)) : Type 0 where
   pub one_each : length graph ≡ length ports

@@ -88,10 +88,6 @@ Agree flags seen = (j : ℕ) → flag_of flags j ≡ some (λ c. c == j) seen
 abbrev pub inst_at : List Inst → ℕ → Instance
 inst_at xs k = instance_of (get_or xs k no_instance)
 
--- the instances of the ports are below a number
-abbrev pub AreWithin : ℕ → List LinkHeld → Type 0
-AreWithin count ls = (l : LinkHeld) → IsIn l ls → (l.from.instance < count) × (l.to.instance < count)
-
 -- an instance is not expanded, but its module is marked
 abbrev pub waits : List Bool → Inst → Bool
 waits flags x = not (is_some x.production) && flag_of flags x.module.0

@@ -1,14 +1,13 @@
 // The flat graph of a run.
-ghost use Rattle.std.specs.Prelude.{◌≡◌, ◌<◌, ◌↔◌, List, ℕ, length, IfOk, IsTrue};
+ghost use Rattle.std.specs.Prelude.{◌≡◌, ◌<◌, ◌≤◌, ◌^◌, ◌↔◌, ◌⊎◌, List, [], ℕ, length, IfOk, OnOk, IsTrue};
 ghost use Rattle.wf_model.specs.Lists.{IsAt, AllDiffer};
 ghost use Rattle.wf_model.specs.View.{View};
 ghost use Rattle.wf_model.specs.Links.{Path, links_with};
 ghost use Rattle.wf_model.specs.Meaning.{pairs_of};
 ghost use Rattle.wf_flat.specs.Table.{IsRunOf, events_of, names_in};
-ghost use Rattle.wf_flat.specs.Graph.{named_links, named_port, Marks, IsMadeFor, AreWithin};
+ghost use Rattle.wf_flat.specs.Graph.{named_links, named_port, Marks, IsMadeFor};
 ghost use Rattle.wf_graph.specs.Graph.{HasEdge, InRange};
-ghost use Rattle.wf_flat.specs.Flat.{numbered, numbered_links, IsIndex, KeepsIndex, KeepsPlaces, AddsLink, TellsPath};
-ghost use Rattle.std.specs.Prelude.{[], OnOk, ◌⊎◌, ◌≤◌, ◌^◌};
+ghost use Rattle.wf_flat.specs.Flat.{AreWithin, numbered, numbered_links, IsIndex, KeepsIndex, KeepsPlaces, AddsLink, TellsPath};
 
 use crate::graph::{Link, Port, links};
 use crate::table::PlainRun;

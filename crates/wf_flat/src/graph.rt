@@ -5,7 +5,8 @@ ghost use Rattle.wf_model.specs.View.{View};
 ghost use Rattle.wf_model.specs.Links.{pair_links, links_of, links_with, move_link, instance_at};
 ghost use Rattle.wf_model.specs.Meaning.{pairs_of};
 ghost use Rattle.wf_flat.specs.Table.{IsRunOf, events_of, names_in};
-ghost use Rattle.wf_flat.specs.Graph.{named_links, Marks, row_links, matrix_links, edge_at, entries_at, exits_at, AreBelow, wiring_of, IsMadeFor, AreWithin, inst_at};
+ghost use Rattle.wf_flat.specs.Graph.{named_links, Marks, row_links, matrix_links, edge_at, entries_at, exits_at, AreBelow, wiring_of, IsMadeFor, inst_at};
+ghost use Rattle.wf_flat.specs.Flat.{AreWithin};
 
 use crate::seen::{is_marked, seen};
 use crate::table::PlainRun;

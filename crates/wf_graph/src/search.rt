@@ -1,5 +1,5 @@
 // Search in a graph of numbered vertices.
-ghost use Rattle.std.specs.Prelude.{◌≡◌, ◌<◌, ◌≤◌, ◌+◌, ◌*◌, ◌++◌, ◌∷◌, ◌↔◌, [], List, ℕ, true, false, length, get_or, IfOk, OnOk, IsTrue, count_by, not, replicate};
+ghost use Rattle.std.specs.Prelude.{◌≡◌, ◌<◌, ◌↔◌, ℕ, true, false, length, get_or, IfOk, OnOk, IsTrue};
 ghost use Rattle.wf_graph.specs.Graph.{InRange, IsReached};
 ghost use Rattle.wf_graph.specs.Search.{Met, MetAll};
 ghost use Rattle.wf_model.specs.Lists.{IsIn};
@@ -30,17 +30,6 @@ fn meet_all(marks: &mut Vec<bool>, queue: &mut Vec<u32>, list: &[u32]) -> Result
     Ok(())
 }
 
-/// So many flags that are not set.
-fn unmarked(alloc: Global, count: usize) -> Result<Vec<bool>, AllocError>
-    ensures { IfOk result (λ v. v.items ≡ replicate count false) }
-{
-    let mut flags = Vec::new(alloc);
-    for k in 0..count {
-        flags.push(false)?;
-    }
-    Ok(flags)
-}
-
 /// Marks the vertices to which a walk from a vertex leads, itself among them.
 ///
 /// Cost: each edge is looked at once at most. Fails only for want of memory.
@@ -50,7 +39,7 @@ pub fn reached(alloc: Global, graph: &[Vec<u32>], from: u32) -> Result<Vec<bool>
     ensures count { IfOk result (λ marks. length marks.items ≡ length graph.now) }
     ensures reached { IfOk result (λ marks. (v : ℕ) → (get_or marks.items v false ≡ true) ↔ IsReached graph.now from v) }
 {
-    let mut marks = unmarked(alloc, graph.len())?;
+    let mut marks = vec![in alloc; false; graph.len()]?;
     let mut queue = Vec::new(alloc);
     meet(&mut marks, &mut queue, from)?;
     let mut done = 0;

@@ -3,7 +3,8 @@ use Rattle.wf_model.specs.View.{View}
 use Rattle.wf_model.specs.Links.{links_of}
 use Rattle.wf_model.specs.Meaning.{pairs_of}
 use Rattle.wf_flat.specs.Table.{names_in, events_of}
-use Rattle.wf_flat.specs.Graph.{Marks, inst_at, named_links, AreWithin}
+use Rattle.wf_flat.specs.Graph.{Marks, inst_at, named_links}
+use Rattle.wf_flat.specs.Flat.{AreWithin}
 use Rattle.wf_flat.proofs.graph.links.Given as goal
 
 abbrev pub invariant-loop-k : goal.invariant-loop-k

@@ -9,8 +9,9 @@ use Rattle.wf_graph.proofs.search.reached.Goals as goal
 pub loop-done-init : goal.loop-done-init
 loop-done-init c =
     let graph = c.args.graph.now in
+    let none = c.in_ok-marks.ensures.items_if_clones_equal (λ y e. e) in
     record {
-      search = search_first graph c.args.from (length graph) c.in_ok-marks.marks.items _ _ c.in_ok-marks.ensures refl (ap length c.in_ok-marks.ensures ∙ length-replicate (length graph) false) (subst (λ l. MetAll c.in_ok-marks.marks.items l (c.args.from ∷ []) c.meet.new.marks.items c.meet.new.queue.items) c.new-queue.ensures.items c.in_ok-meet.ensures);
+      search = search_first graph c.args.from (length graph) c.in_ok-marks.marks.items _ _ none refl (ap length none ∙ length-replicate (length graph) false) (subst (λ l. MetAll c.in_ok-marks.marks.items l (c.args.from ∷ []) c.meet.new.marks.items c.meet.new.queue.items) c.new-queue.ensures.items c.in_ok-meet.ensures);
       within = omega arith;
     }
 
