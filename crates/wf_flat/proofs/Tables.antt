@@ -59,7 +59,7 @@ kept_more most taken xs order o names qs k h f c e m =
       same_names = ap (λ l. l ++ names) k.same_names ∙ sym (names-with_children xs o names qs e);
       few = let a : length xs + length names ≤ most = m in let b : length (with_children xs o names qs) ≡ length xs + length names = n in omega arith;
       opened = λ q i. subst (λ l. IsOpenedIn l q) (sym n) (⊎_elim
-        (λ a. let r = k.opened q a in let r0 : q.instance < length xs = r.0 in let r1 : 0 < q.first = r.1 in let r2 : q.first + q.count ≤ length xs = r.2 in (omega arith, r1, omega arith))
-        (λ a. ⊎_elim (λ (d : q ≡ o). subst (λ z. IsOpenedIn (length xs + length names) z) (sym d) (omega arith, omega arith, omega arith)) (λ z. absurd z) a)
-        (in_append_cases q order (o ∷ []) i));
+          (λ a. let r = k.opened q a in let r0 : q.instance < length xs = r.0 in let r1 : 0 < q.first = r.1 in let r2 : q.first + q.count ≤ length xs = r.2 in (omega arith, r1, omega arith))
+          (λ a. ⊎_elim (λ (d : q ≡ o). subst (λ z. IsOpenedIn (length xs + length names) z) (sym d) (omega arith, omega arith, omega arith)) (λ z. absurd z) a)
+          (in_append_cases q order (o ∷ []) i));
     }

@@ -11,7 +11,12 @@ use std::alloc::Global;
 use wf_spec::{Event, Grammar, RunFault};
 
 /// The run of a list of events, or why its first event that does not extend the run is refused.
-pub fn take_all(alloc: Global, g: &Grammar, most: u32, events: &[Event]) -> Result<PlainRun, RunFault>
+pub fn take_all(
+    alloc: Global,
+    g: &Grammar,
+    most: u32,
+    events: &[Event],
+) -> Result<PlainRun, RunFault>
     ensures run { IfOk result (λ r. IsRunOf g.now r) }
     ensures events { IfOk result (λ r. events_of r ≡ events.now) }
     ensures refused { IfErr result (λ f. (f ≡ NoMemory) ⊎ ((k : ℕ) × (e : Event) × IsAt e k events.now × (fault_of g.now most (take k events.now) e ≡ Some f))) }

@@ -8,7 +8,6 @@ ghost use Rattle.wf_model.specs.Faults.{is_name_byte, is_short_name, some_twice,
 ghost use Rattle.wf_model.specs.Grammar.{body_of};
 ghost use Rattle.wf_flat.specs.Table.{Table, IsRunOf, events_of, names_in, children, with_children, root_instance, started_table, opened_table};
 
-
 use std::alloc::{AllocError, Global};
 use std::marker::Model;
 use wf_names::Names;
@@ -114,7 +113,13 @@ fn repeats(taken: &Names, names: &[Name]) -> bool
 }
 
 /// Appends the instances that an expansion makes. After an error some of them may be there.
-fn append_children(alloc: Global, instances: &mut Vec<Inst>, parent: u32, names: &[Name], body: &[Position]) -> Result<(), AllocError>
+fn append_children(
+    alloc: Global,
+    instances: &mut Vec<Inst>,
+    parent: u32,
+    names: &[Name],
+    body: &[Position],
+) -> Result<(), AllocError>
     requires { length names.now ≡ length body.now }
     ensures added { OnOk result (instances.new.items ≡ instances.old.items ++ children parent names.now body.now) }
     ensures begins { OnErr result (take (length instances.old.items) instances.new.items ≡ instances.old.items) }
@@ -134,7 +139,15 @@ fn append_children(alloc: Global, instances: &mut Vec<Inst>, parent: u32, names:
 }
 
 /// Adds an expansion and its children, or leaves all as it was.
-fn grow(alloc: Global, taken: &mut Names, instances: &mut Vec<Inst>, order: &mut Vec<Opened>, opened: Opened, names: &[Name], body: &[Position]) -> Result<(), AllocError>
+fn grow(
+    alloc: Global,
+    taken: &mut Names,
+    instances: &mut Vec<Inst>,
+    order: &mut Vec<Opened>,
+    opened: Opened,
+    names: &[Name],
+    body: &[Position],
+) -> Result<(), AllocError>
     requires there { opened.instance < length instances.old.items }
     requires one_each { length names.now ≡ length body.now }
     requires same_names { taken.old ≡ names_in instances.old.items }
@@ -167,7 +180,13 @@ fn grow(alloc: Global, taken: &mut Names, instances: &mut Vec<Inst>, order: &mut
 }
 
 /// Adds the root, or leaves all as it was.
-fn plant(alloc: Global, taken: &mut Names, instances: &mut Vec<Inst>, module: ModNo, name: &[u8]) -> Result<(), AllocError>
+fn plant(
+    alloc: Global,
+    taken: &mut Names,
+    instances: &mut Vec<Inst>,
+    module: ModNo,
+    name: &[u8],
+) -> Result<(), AllocError>
     requires no_names { taken.old ≡ [] }
     requires no_instances { instances.old.items ≡ [] }
     ensures names { OnOk result (taken.new ≡ name.now ∷ []) }
@@ -290,7 +309,13 @@ impl PlainRun {
         None
     }
 
-    fn take_expand(&mut self, g: &Grammar, instance: &[u8], production: u64, names: &[Name]) -> Result<(), RunFault>
+    fn take_expand(
+        &mut self,
+        g: &Grammar,
+        instance: &[u8],
+        production: u64,
+        names: &[Name],
+    ) -> Result<(), RunFault>
         requires { IsRunOf g.now self.old }
         ensures taken { OnOk result (events_of self.new ≡ events_of self.old ++ Expand instance.now production names.now ∷ []) }
         ensures extends { OnOk result (fault_of g.now self.old.most (events_of self.old) (Expand instance.now production names.now) ≡ None) }
@@ -307,7 +332,13 @@ impl PlainRun {
     }
 
     /// The number of the instance that an event may expand.
-    fn place(&self, g: &Grammar, instance: &[u8], production: u64, names: &[Name]) -> Result<u32, RunFault>
+    fn place(
+        &self,
+        g: &Grammar,
+        instance: &[u8],
+        production: u64,
+        names: &[Name],
+    ) -> Result<u32, RunFault>
         requires { IsRunOf g.now self.now }
         ensures refused { IfErr result (λ f. fault_of g.now self.now.most (events_of self.now) (Expand instance.now production names.now) ≡ Some f) }
         ensures extends { OnOk result (fault_of g.now self.now.most (events_of self.now) (Expand instance.now production names.now) ≡ None) }
@@ -353,11 +384,23 @@ impl PlainRun {
         ensures started { OnOk result (self.new ≡ started_table self.old.most «module» name.now) }
         ensures unchanged { OnErr result (self.new ≡ self.old) }
     {
-        plant(self.alloc, &mut self.names, &mut self.instances, module, name)?;
+        plant(
+            self.alloc,
+            &mut self.names,
+            &mut self.instances,
+            module,
+            name,
+        )?;
         Ok(())
     }
 
-    fn expand(&mut self, k: u32, production: ProdNo, names: &[Name], body: &[Position]) -> Result<(), AllocError>
+    fn expand(
+        &mut self,
+        k: u32,
+        production: ProdNo,
+        names: &[Name],
+        body: &[Position],
+    ) -> Result<(), AllocError>
         requires there { k < length self.old.instances }
         requires one_each { length names.now ≡ length body.now }
         requires fresh { some_twice (names_in self.old.instances) names.now ≡ false }
@@ -374,7 +417,15 @@ impl PlainRun {
             first: before as u32,
             count: names.len() as u32,
         };
-        grow(self.alloc, &mut self.names, &mut self.instances, &mut self.order, opened, names, body)?;
+        grow(
+            self.alloc,
+            &mut self.names,
+            &mut self.instances,
+            &mut self.order,
+            opened,
+            names,
+            body,
+        )?;
         Ok(())
     }
 }
