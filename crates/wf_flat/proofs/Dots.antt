@@ -6,7 +6,6 @@ use Rattle.std.proofs.lemmas.Bool.Decides.{nat_tests}
 use Rattle.std.proofs.lemmas.List.Quantifiers.{position-Some}
 use Rattle.std.proofs.lemmas.List.Sums.{prefix_len-le-length}
 use Rattle.wf_model.specs.Lists.{IsIn}
-use Rattle.wf_model.specs.Run.{IsName, IsNameByte}
 use Rattle.wf_model.specs.Items.{dotted}
 use Rattle.wf_model.proofs.Lists.{in_append_right}
 
@@ -31,41 +30,15 @@ none_passes p xs e x h t = all_fail p xs (by (position_or_len p xs) (length xs) 
         go ih false q (inr i) = let f : position_or_len p (y ∷ xs) ≡ 1 + position_or_len p xs = grind arith in
             let g : position_or_len p xs ≡ length xs = omega arith in ih g x i t
 
-no_dot_byte : (b : ℕ) → IsNameByte b → 46 ≡ b → ⊥
-no_dot_byte b (inl h) e = let l : 97 ≤ b = h.0 in absurd (omega arith)
-no_dot_byte b (inr (inl h)) e = let l : 65 ≤ b = h.0 in absurd (omega arith)
-no_dot_byte b (inr (inr (inl h))) e = let l : 48 ≤ b = h.0 in absurd (omega arith)
-no_dot_byte b (inr (inr (inr (inl h)))) e = absurd (omega arith)
-no_dot_byte b (inr (inr (inr (inr h)))) e = absurd (omega arith)
-
--- a name has no dot
-pub dotless : (n : List ℕ) → IsName n → IsIn 46 n → ⊥
-dotless n h i = no_dot_byte 46 (h.1 46 i) refl
-
 dotted_is : (a b : List ℕ) → dotted a b ≡ a ++ 46 ∷ b
 dotted_is a b = append_assoc a (46 ∷ []) b
-
-parts_same : (a b c d : List ℕ) → (IsIn 46 a → ⊥) → (IsIn 46 c → ⊥) → a ++ 46 ∷ b ≡ c ++ 46 ∷ d → (a ≡ c) × (b ≡ d)
-parts_same [] b [] d h k e = let f : 46 ∷ b ≡ 46 ∷ d = e in (refl, cc)
-parts_same [] b (y ∷ c) d h k e = let f : 46 ∷ b ≡ y ∷ (c ++ 46 ∷ d) = e in absurd (k (inl (cc)))
-parts_same (x ∷ a) b [] d h k e = let f : x ∷ (a ++ 46 ∷ b) ≡ 46 ∷ d = e in absurd (h (inl (cc)))
-parts_same (x ∷ a) b (y ∷ c) d h k e =
-    let f : x ∷ (a ++ 46 ∷ b) ≡ y ∷ (c ++ 46 ∷ d) = e in
-    let p : x ≡ y = cc in
-    let q : a ++ 46 ∷ b ≡ c ++ 46 ∷ d = cc in
-    let r = parts_same a b c d (λ i. h (inr i)) (λ i. k (inr i)) q in
-    (ap (λ z. z ∷ a) p ∙ ap (λ l. y ∷ l) r.0, r.1)
-
--- two names that are each split at their first dot have the same parts
-pub split_same : (a b c d : List ℕ) → (IsIn 46 a → ⊥) → (IsIn 46 c → ⊥) → dotted a b ≡ dotted c d → (a ≡ c) × (b ≡ d)
-split_same a b c d h k e = parts_same a b c d h k (sym (dotted_is a b) ∙ (e ∙ dotted_is c d))
 
 dot_in : (a b : List ℕ) → IsIn 46 (dotted a b)
 dot_in a b = subst (IsIn 46) (sym (dotted_is a b)) (in_append_right 46 a (46 ∷ b) (inl refl))
 
--- a name without a place of a dot is no name of an item
-pub no_dot : (name a b : List ℕ) → position (λ (z : ℕ). z == 46) name ≡ None → dotted a b ≡ name → ⊥
-no_dot name a b e h = none_passes (λ (z : ℕ). z == 46) name e 46 (subst (IsIn 46) h (dot_in a b)) refl
+-- a name in which the dot has no place is not split by one
+pub not_dotted : (name a b : List ℕ) → position (λ (z : ℕ). z == 46) name ≡ None → dotted a b ≡ name → ⊥
+not_dotted name a b e h = none_passes (λ (z : ℕ). z == 46) name e 46 (subst (IsIn 46) h (dot_in a b)) refl
 
 parts : (name : List ℕ) (k : ℕ) → k < length name → get_or name k 0 ≡ 46 → name ≡ take k name ++ 46 ∷ drop (suc k) name
 parts [] k h e = absurd (omega arith)

@@ -1,4 +1,4 @@
--- Which event of a run gave a name.
+-- The events that give the names of a run's instances.
 use Rattle.std.proofs.Common.{◌≡◌, ℕ, zero, suc, ◌<◌, ◌⊎◌, Bool, true, false, cond, List, [], ◌∷◌, ◌++◌, map, length, Option, Some, None, refl, ap, sym, subst, ◌∙◌, arith, inl, inr, ⊎_elim, bytes_eq}
 use Rattle.std.proofs.lemmas.List.{map-append}
 use Rattle.wf_model.specs.declared.event.Event.{Event}
@@ -9,12 +9,6 @@ use Rattle.wf_model.specs.Run.{Instance, Expanded, named, made_by, made, names_o
 use Rattle.wf_model.proofs.Lists.{in_append_cases, in_append_left, in_append_right, in_map_from, same_bytes}
 use Rattle.wf_model.proofs.Runs.{named_names}
 
-pub differ_parts : (xs ys : List (List ℕ)) → AllDiffer (xs ++ ys) → AllDiffer ys × ((n : List ℕ) → IsIn n xs → IsIn n ys → ⊥)
-differ_parts [] ys h = (h, λ n a b. a)
-differ_parts (x ∷ xs) ys h =
-    let r = differ_parts xs ys h.1 in
-    (r.0, λ n a b. ⊎_elim (λ (e : n ≡ x). h.0 (subst (λ z. IsIn z (xs ++ ys)) e (in_append_right n xs ys b))) (λ i. r.1 n i b) a)
-
 module _ (g : Grammar) (m : ℕ) where
   made_first : (e : Event) (a : List Event) → names_of (made g m (e ∷ a)) ≡ names_of (made_by g m e) ++ names_of (made g m a)
   made_first e a = map-append (λ (i : Instance). i.name) (made_by g m e) (made g m a)
@@ -24,26 +18,6 @@ module _ (g : Grammar) (m : ℕ) where
   given_made [] e n h k = absurd h
   given_made (d ∷ a) e n (inl q) k = subst (IsIn n) (sym (made_first d a)) (in_append_left n _ _ (subst (λ z. IsIn n (names_of (made_by g m z))) q k))
   given_made (d ∷ a) e n (inr h) k = subst (IsIn n) (sym (made_first d a)) (in_append_right n (names_of (made_by g m d)) _ (given_made a e n h k))
-
-  -- a name is given by one event
-  pub one_giver : (a : List Event) → AllDiffer (names_of (made g m a)) → (e d : Event) (n : List ℕ) → IsIn e a → IsIn d a → IsIn n (names_of (made_by g m e)) → IsIn n (names_of (made_by g m d)) → e ≡ d
-  one_giver [] v e d n h k p q = absurd h
-  one_giver (x ∷ a) v e d n h k p q = cases (one_giver a) h k
-    where
-      both : AllDiffer (names_of (made g m a)) × ((n : List ℕ) → IsIn n (names_of (made_by g m x)) → IsIn n (names_of (made g m a)) → ⊥)
-      both = differ_parts (names_of (made_by g m x)) (names_of (made g m a)) (subst AllDiffer (made_first x a) v)
-
-      cases : (AllDiffer (names_of (made g m a)) → (e d : Event) (n : List ℕ) → IsIn e a → IsIn d a → IsIn n (names_of (made_by g m e)) → IsIn n (names_of (made_by g m d)) → e ≡ d) → (e ≡ x) ⊎ IsIn e a → (d ≡ x) ⊎ IsIn d a → e ≡ d
-      cases ih (inl s) (inl t) = s ∙ sym t
-      cases ih (inl s) (inr t) = absurd (both.1 n (subst (λ z. IsIn n (names_of (made_by g m z))) s p) (given_made a d n t q))
-      cases ih (inr s) (inl t) = absurd (both.1 n (subst (λ z. IsIn n (names_of (made_by g m z))) t q) (given_made a e n s p))
-      cases ih (inr s) (inr t) = ih both.0 e d n s t p q
-
-  -- each event of a run extends the events before it
-  pub extends_before : (b a : List Event) (e : Event) → AllExtend g m b a → IsIn e a → (c : List Event) × Extends g m c e
-  extends_before b [] e x h = absurd h
-  extends_before b (d ∷ a) e x (inl q) = (b, subst (Extends g m b) (sym q) x.0)
-  extends_before b (d ∷ a) e x (inr h) = extends_before (b ++ d ∷ []) a e x.1 h
 
 -- what a name of a run's instance is
 pub made_name : (g : Grammar) (m : ℕ) (b a : List Event) (n : List ℕ) → AllExtend g m b a → IsIn n (names_of (made g m a)) → IsName n

@@ -18,6 +18,7 @@ use Rattle.wf_model.proofs.Lists.{in_append_cases, in_append_left, in_append_rig
 use Rattle.wf_model.proofs.Runs.{named_at, names-named, name_in}
 use Rattle.wf_model.proofs.Differ.{one_of_name}
 use Rattle.wf_model.proofs.Taking.{run_differs}
+use Rattle.wf_model.proofs.ItemNames.{no_dot, dotted_same, extends_before, made_once, ports_differ}
 use Rattle.wf_flat.specs.declared.table.Inst.{Inst}
 use Rattle.wf_flat.specs.declared.graph.Port.{Port as PortHeld}
 use Rattle.wf_flat.specs.declared.item.Item.{Item as ItemHeld}
@@ -26,8 +27,12 @@ use Rattle.wf_flat.specs.Graph.{named_port}
 use Rattle.wf_flat.specs.Item.{named_item, IsItemWithin, IsItemOfEdge}
 use Rattle.wf_flat.proofs.Tests.{at_map, same_names}
 use Rattle.wf_flat.proofs.OfInstance.{module_there, production_there}
-use Rattle.wf_flat.proofs.Dots.{dotless, split_same, none_passes, no_dot, split_at}
-use Rattle.wf_flat.proofs.Givers.{differ_parts, given_made, one_giver, extends_before, made_name, expanding}
+use Rattle.wf_flat.proofs.Dots.{none_passes, not_dotted, split_at}
+use Rattle.wf_flat.proofs.Givers.{given_made, made_name, expanding}
+
+differ_last : (xs ys : List (List ℕ)) → AllDiffer (xs ++ ys) → AllDiffer ys
+differ_last [] ys h = h
+differ_last (x ∷ xs) ys h = differ_last xs ys h.1
 
 in_inputs : (t : Item) (r : List ℕ) (k : ℕ) (ns : List (List ℕ)) → IsIn t (input_items r k ns) → (n : List ℕ) × IsIn n ns × (t.name ≡ dotted r n)
 in_inputs t r k [] h = absurd h
@@ -75,7 +80,7 @@ named_so g a t owner port wf x h d e =
         (λ s. let p = in_inputs t r 0 (module_at g g.start).inputs s in (p.0, in_append_left p.0 (module_at g g.start).inputs (module_at g g.start).outputs p.1, p.2))
         (λ s. let p = in_outputs t r 0 (module_at g g.start).outputs s in (p.0, in_append_right p.0 (module_at g g.start).inputs (module_at g g.start).outputs p.1, p.2))
         (in_append_cases t (input_items r 0 (module_at g g.start).inputs) (output_items r 0 (module_at g g.start).outputs) k) in
-        let z = split_same r q.0 owner port (dotless r y.1) d (sym q.2 ∙ e) in
+        let z = dotted_same r q.0 owner port (no_dot r y.1) d (sym q.2 ∙ e) in
         inl (record {
           event = subst (λ n. IsIn (Start n) a) z.0 i;
           named = subst (λ n. IsIn n ((module_at g g.start).inputs ++ (module_at g g.start).outputs)) z.1 q.1;
@@ -87,7 +92,7 @@ named_so g a t owner port wf x h d e =
         let low : f.position < length (body_of g p) = at_below out.0 f.position (body_of g p) out.1 in
         let l : f.position < length ns = subst (λ n. f.position < n) (sym y.one_each) low in
         let at = is_at f.position ns [] l in
-        let z = split_same (get_or ns f.position []) (get_or (module_at g (get_or (body_of g p) f.position 0)).outputs f.port []) owner port (dotless (get_or ns f.position []) (y.good (get_or ns f.position []) (at_in (get_or ns f.position []) f.position ns at))) d (sym (ap (λ (z : Item). z.name) q.2) ∙ e) in
+        let z = dotted_same (get_or ns f.position []) (get_or (module_at g (get_or (body_of g p) f.position 0)).outputs f.port []) owner port (no_dot (get_or ns f.position []) (y.good (get_or ns f.position []) (at_in (get_or ns f.position []) f.position ns at))) d (sym (ap (λ (z : Item). z.name) q.2) ∙ e) in
         inr (record {
           parent = i;
           production = p;
@@ -125,12 +130,12 @@ item_name g a t wf x h =
 pub no_instance_named : (g : Grammar) (t : Table) (i : Item) (owner port : List ℕ) → IsRunOf g t → IsWellFormed g → position (bytes_eq owner) (names_in t.instances) ≡ None → (IsIn 46 owner → ⊥) → IsIn i (items g g.start (events_of t)) → i.name ≡ dotted owner port → ⊥
 no_instance_named g t i owner port run wf w d h e =
     let r = item_name g (events_of t) i wf run.accepted.0 h in
-    let s = split_same r.0 r.1 owner port (dotless r.0 (made_name g g.start [] (events_of t) r.0 run.accepted.0 r.3)) d (sym r.2 ∙ e) in
+    let s = dotted_same r.0 r.1 owner port (no_dot r.0 (made_name g g.start [] (events_of t) r.0 run.accepted.0 r.3)) d (sym r.2 ∙ e) in
     none_passes (bytes_eq owner) (names_in t.instances) w owner (subst (IsIn owner) (same_names g t run) (subst (λ n. IsIn n (names_of (made g g.start (events_of t)))) s.0 r.3)) (bytes_same owner owner refl)
 
 -- a name without a dot names no item
 pub no_dot_named : (g : Grammar) (t : Table) (i : Item) (name : List ℕ) → IsRunOf g t → IsWellFormed g → position (λ (z : ℕ). z == 46) name ≡ None → IsIn i (items g g.start (events_of t)) → i.name ≡ name → ⊥
-no_dot_named g t i name run wf w h e = let r = item_name g (events_of t) i wf run.accepted.0 h in no_dot name r.0 r.1 w (sym r.2 ∙ e)
+no_dot_named g t i name run wf w h e = let r = item_name g (events_of t) i wf run.accepted.0 h in not_dotted name r.0 r.1 w (sym r.2 ∙ e)
 
 -- a name is that of an instance, a dot and the rest
 pub split_found : (name : List ℕ) (names : List (List ℕ)) (dot k : ℕ) → position (λ (z : ℕ). z == 46) name ≡ Some dot → position (bytes_eq (take dot name)) names ≡ Some k → dotted (get_or names k []) (take (length name - (dot + 1)) (drop (dot + 1) name)) ≡ name
@@ -160,7 +165,7 @@ module _ (g : Grammar) (t : Table) (run : IsRunOf g t) (wf : IsWellFormed g) (k 
   x_made = subst (IsIn (instance_of x)) run.made (at_in (instance_of x) k (map instance_of t.instances) (at_map instance_of x k t.instances x_at))
 
   own_dotless : IsIn 46 own → ⊥
-  own_dotless = dotless own (made_name g g.start [] (events_of t) own run.accepted.0 (subst (λ n. IsIn n (names_of (made g g.start (events_of t)))) (sym own_name) (name_in (instance_of x) (made g g.start (events_of t)) x_made)))
+  own_dotless = no_dot own (made_name g g.start [] (events_of t) own run.accepted.0 (subst (λ n. IsIn n (names_of (made g g.start (events_of t)))) (sym own_name) (name_in (instance_of x) (made g g.start (events_of t)) x_made)))
 
   -- the module of an instance of this name
   own_module : (m : ℕ) → IsIn (record { name = own; module_no = m }) (made g g.start (events_of t)) → m ≡ x.module.0
@@ -206,7 +211,7 @@ module _ (g : Grammar) (t : Table) (run : IsRunOf g t) (wf : IsWellFormed g) (k 
         edge s =
             let c = extends_before g g.start [] (events_of t) (Expand s.parent s.production s.names) run.accepted.0 s.event in
             let n : IsIn own (names_of (named s.names (body_of g s.production))) = subst (IsIn own) (sym (names-named s.names (body_of g s.production) c.1.one_each)) (at_in own s.edge.from.position s.names s.place) in
-            let q : Start own ≡ Expand s.parent s.production s.names = one_giver g g.start (events_of t) differ (Start own) (Expand s.parent s.production s.names) own starts s.event (inl refl) n in
+            let q : Start own ≡ Expand s.parent s.production s.names = made_once g g.start own (events_of t) differ (Start own) (Expand s.parent s.production s.names) starts s.event (inl refl) n in
             cc
 
   -- an instance below the root
@@ -316,13 +321,13 @@ module _ (g : Grammar) (t : Table) (run : IsRunOf g t) (wf : IsWellFormed g) (k 
           given_own = subst (IsIn own) (sym (names-named given (body_of g q.0) can.1.one_each)) (at_in own (k - y.first_child) given own_place)
 
           start : IsOfStart g (events_of t) own port → (e : Edge) × IsIn e (production_at g q.0).edges × (e.from.position ≡ k - y.first_child) × IsAt port e.from.port (module_at g x.module.0).outputs
-          start s = let d : Start own ≡ Expand y.name q.0 given = one_giver g g.start (events_of t) differ (Start own) (Expand y.name q.0 given) own s.event gives (inl refl) given_own in absurd (cc)
+          start s = let d : Start own ≡ Expand y.name q.0 given = made_once g g.start own (events_of t) differ (Start own) (Expand y.name q.0 given) s.event gives (inl refl) given_own in absurd (cc)
 
           edge : IsOfEdge g (events_of t) own port → (e : Edge) × IsIn e (production_at g q.0).edges × (e.from.position ≡ k - y.first_child) × IsAt port e.from.port (module_at g x.module.0).outputs
           edge s =
               let c = extends_before g g.start [] (events_of t) (Expand s.parent s.production s.names) run.accepted.0 s.event in
               let n : IsIn own (names_of (named s.names (body_of g s.production))) = subst (IsIn own) (sym (names-named s.names (body_of g s.production) c.1.one_each)) (at_in own s.edge.from.position s.names s.place) in
-              let d : Expand s.parent s.production s.names ≡ Expand y.name q.0 given = one_giver g g.start (events_of t) differ (Expand s.parent s.production s.names) (Expand y.name q.0 given) own s.event gives n given_own in
+              let d : Expand s.parent s.production s.names ≡ Expand y.name q.0 given = made_once g g.start own (events_of t) differ (Expand s.parent s.production s.names) (Expand y.name q.0 given) s.event gives n given_own in
               let a : s.production ≡ q.0 = cc in
               let b : s.names ≡ given = cc in
               let f = s.edge.from in
@@ -347,7 +352,7 @@ module _ (g : Grammar) (t : Table) (run : IsRunOf g t) (wf : IsWellFormed g) (k 
           let r = child_edge port i h e in
           let v = position-Some (bytes_eq port) outputs o [] w in
           let at : IsAt port o outputs = subst (λ z. IsAt z o outputs) (sym (same_bytes port (get_or outputs o []) v.1)) (is_at o outputs [] v.0) in
-          let same : r.0.from.port ≡ o = differ_at port r.0.from.port o outputs (differ_parts (module_at g x.module.0).inputs outputs module_formed.ports_differ).0 r.3 at in
+          let same : r.0.from.port ≡ o = differ_at port r.0.from.port o outputs (differ_last (module_at g x.module.0).inputs outputs (ports_differ g wf x.module.0)) r.3 at in
           lacks r.0 r.1 (λ z. record { position = r.2 z; port = same z })
 
 -- what holds of a value that may be there, and what follows from it

@@ -58,10 +58,10 @@ events_more names new order o k h f c =
         ap (λ n. Expand n o.production.0 (given_names (names ++ new) o)) (get_or_append_left names new [] o.instance h)
         ∙ ap (λ l. Expand (get_or names o.instance []) o.production.0 l) (part_new o.first o.count names new f c)
 
-pub at_append : {A : Type 0} (x : A) (k : ℕ) (xs ys : List A) → IsAt x k (xs ++ ys) → IsAt x k xs ⊎ IsIn x ys
-at_append x k [] ys h = inr (at_in x k ys h)
-at_append x zero (y ∷ xs) ys h = inl h
-at_append x (suc k) (y ∷ xs) ys h = at_append x k xs ys h
+at_place : {A : Type 0} (x : A) (k : ℕ) (xs ys : List A) → IsAt x k (xs ++ ys) → IsAt x k xs ⊎ ((m : ℕ) × (k ≡ length xs + m) × IsAt x m ys)
+at_place x k [] ys h = inr (k, omega arith, h)
+at_place x zero (y ∷ xs) ys h = inl h
+at_place x (suc k) (y ∷ xs) ys h = ⊎_elim (λ a. inl a) (λ b. inr (b.0, (let e : k ≡ length xs + b.0 = b.1 in omega arith), b.2)) (at_place x k xs ys h)
 
 at_set : {A : Type 0} (x y : A) (j k : ℕ) (xs : List A) → IsAt x j (set xs k y) → (IsAt x j xs × (j ≡ k → ⊥)) ⊎ ((x ≡ y) × (j ≡ k))
 at_set x y j k [] h = absurd h
@@ -76,12 +76,6 @@ new_child x k [] qs h = absurd h
 new_child x k (n ∷ ns) [] h = absurd h
 new_child x k (n ∷ ns) (q ∷ qs) (inl e) = (ap (λ (y : Inst). y.production) e, inl (ap (λ (y : Inst). y.name) e))
 new_child x k (n ∷ ns) (q ∷ qs) (inr h) = let r = new_child x k ns qs h in (r.0, inr r.1)
-
--- an instance after an expansion is one from before, or a child
-at_place : {A : Type 0} (x : A) (k : ℕ) (xs ys : List A) → IsAt x k (xs ++ ys) → IsAt x k xs ⊎ ((m : ℕ) × (k ≡ length xs + m) × IsAt x m ys)
-at_place x k [] ys h = inr (k, omega arith, h)
-at_place x zero (y ∷ xs) ys h = inl h
-at_place x (suc k) (y ∷ xs) ys h = ⊎_elim (λ a. inl a) (λ b. inr (b.0, (let e : k ≡ length xs + b.0 = b.1 in omega arith), b.2)) (at_place x k xs ys h)
 
 -- the parent of the children of an expansion
 child_parent : (x : Inst) (j k : ℕ) (names : List (List ℕ)) (qs : List Position) → IsAt x j (children k names qs) → (x.parent ≡ Some k) × (j < length names)
@@ -153,8 +147,8 @@ module _ (g : Grammar) (t : Table) (run : IsRunOf g t) (kept : (q : Opened) → 
   sorts j x h =
       ⊎_elim
       (λ a. ⊎_elim (λ b. inl b) (λ b. inr (inl b.0)) (at_set x (expanded_by_no p (length t.instances) (get_or t.instances k no_instance)) j k t.instances a))
-      (λ a. inr (inr (new_child x k new body a)))
-      (at_append x j (set t.instances k (expanded_by_no p (length t.instances) (get_or t.instances k no_instance))) (children k new body) h)
+      (λ a. inr (inr (new_child x k new body (at_in x a.0 (children k new body) a.2))))
+      (at_place x j (set t.instances k (expanded_by_no p (length t.instances) (get_or t.instances k no_instance))) (children k new body) h)
 
   expanded_after : (j : ℕ) (x : Inst) → IsAt x j after.instances → expanded_by (events_of t ++ Expand i p.0 new ∷ []) x.name ≡ expansion_at g (names ++ new) x
   expanded_after j x h = ⊎_elim old (λ a. ⊎_elim this child a) (sorts j x h)
