@@ -10,7 +10,9 @@ use crate::table::PlainRun;
 use std::alloc::Global;
 use wf_spec::{Event, Grammar, RunFault};
 
-/// The run of a list of events, or why its first event that does not extend the run is refused.
+/// The run of a list of events, of at most `most` instances, or why the first event that does not extend the run is refused, as `PlainRun::take` says.
+///
+/// Cost: that of `PlainRun::take` for each event up to that one.
 pub fn take_all(
     alloc: Global,
     g: &Grammar,

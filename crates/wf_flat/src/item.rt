@@ -11,7 +11,7 @@ use crate::graph::Port;
 use crate::table::PlainRun;
 use wf_spec::{Edge, Grammar, Inner, Module, Name, PortNo, PosNo, ProdNo, Side};
 
-/// A data item: the instance that made it (none for a port of the root), the port that produces it and the port that consumes it.
+/// A data item of a run: the instance that made it (none for a port of the root), the port that produces it (none for an input of the root) and the port that consumes it (none for an output of the root).
 #[derive(Clone, Copy, Debug, PartialEq, Eq, Drop)]
 pub struct Item {
     pub maker: Option<u32>,
@@ -92,7 +92,14 @@ fn root_item(rule: &Module, k: u32, port: &[u8]) -> Option<Item>
 }
 
 /// The item of the edge that leaves an output of instance `k`, whose parent was expanded by a production into instances from `first` on.
-fn edge_item(g: &Grammar, production: ProdNo, parent: u32, first: u32, k: u32, o: u8) -> Option<Item>
+fn edge_item(
+    g: &Grammar,
+    production: ProdNo,
+    parent: u32,
+    first: u32,
+    k: u32,
+    o: u8,
+) -> Option<Item>
     requires in_range { production.0 < length g.now.productions }
     requires first { first ≤ k }
     requires last { k < first + length (body_of g.now production.0) }
@@ -160,7 +167,7 @@ fn item_at(g: &Grammar, run: &PlainRun, k: u32, port: &[u8]) -> Option<Item>
     }
 }
 
-/// The item of a name: an instance's name, a dot and a port's name. A port of the root is an item that the root made; any other item is that of an edge, and is named by the port that it leaves.
+/// The item of a name, which is an instance's name, a dot and the name of a port. A port of the root is an item that no instance made: an input is consumed by it, an output is produced. The other items are those of edges: each is named by the output that its edge leaves, and was made by the parent of the two instances. An output that leaves its body by an exit names no item, nor does an input of an instance below the root.
 ///
 /// Cost: one look-up by hashing, the ports of one module and the edges of one body. Takes no memory.
 pub fn find_item(g: &Grammar, run: &PlainRun, name: &[u8]) -> Option<Item>

@@ -13,7 +13,7 @@ use std::marker::Model;
 use wf_names::Names;
 use wf_spec::{Event, Grammar, ModNo, Name, Position, ProdNo, RunFault};
 
-/// An instance. The children of one that is expanded are consecutive.
+/// An instance of a run. The root alone has no parent. The children of an instance that is expanded stand one after the other, from `first_child` on, in order of the positions; before that `first_child` is 0.
 #[derive(Drop)]
 pub struct Inst {
     pub name: Name,
@@ -23,7 +23,7 @@ pub struct Inst {
     pub first_child: u32,
 }
 
-/// An expansion: of which instance, by what, and where its children stand.
+/// An expansion: the number of the instance, the production, and the numbers of the children, `count` of them from `first` on.
 #[derive(Clone, Copy, Drop)]
 pub struct Opened {
     pub instance: u32,
@@ -32,7 +32,7 @@ pub struct Opened {
     pub count: u32,
 }
 
-/// A run, as a table of numbered instances.
+/// A run, as a table of instances, numbered from 0 in order of making, and of the expansions that made them. Names are found by hashing.
 #[derive(Drop)]
 pub struct PlainRun {
     alloc: Global,
@@ -214,7 +214,7 @@ impl PlainRun {
     ghost use Rattle.wf_model.specs.Lists.{IsIn};
     ghost use Rattle.wf_flat.specs.declared.table.Opened.{Opened};
 
-    /// A run before its start.
+    /// A run before its start, of at most `most` instances. Takes no memory.
     pub fn new(alloc: Global, most: u32) -> PlainRun
         ensures { result ≡ record { most = most; instances = []; order = [] } }
     {
@@ -245,7 +245,7 @@ impl PlainRun {
         &self.order
     }
 
-    /// The number of the instance of a name.
+    /// The number of the instance of a name, by one look-up.
     pub fn find(&self, name: &[u8]) -> Option<u32>
         ensures place { result ≡ position (bytes_eq name.now) (names_in self.now.instances) }
         ensures within { IfSome result (λ i. i < length self.now.instances) }
@@ -257,7 +257,11 @@ impl PlainRun {
         Some(i as u32)
     }
 
-    /// Takes an event, if it extends the run.
+    /// Takes an event, if it extends the run of the grammar. After an error the run is as it was.
+    ///
+    /// Errors of a start, in order of trial: `StartedTwice`, `NameBad` (a name has 1 to 64 letters, digits, `_` or `-`), `TooManyInstances`. Of an expansion: `NotStarted`, `UnknownInstance`, `UnknownProduction`, `WrongHead` (the production is not one of the instance's module), `AlreadyExpanded`, `PositionsWrong` (not one name for each position), `NameBad`, `NameTwice` (a name that the run or the event has already), `TooManyInstances`. Last `NoMemory`.
+    ///
+    /// Cost: one look-up for each name of the event, which is also compared with the names before it in the event, at most 63.
     pub fn take(&mut self, g: &Grammar, e: &Event) -> Result<(), RunFault>
         requires { IsRunOf g.now self.old }
         ensures taken { OnOk result (events_of self.new ≡ events_of self.old ++ e.now ∷ []) }

@@ -13,9 +13,9 @@ returns-then-eq-clause-found c = (at_in _ c.loop-e.e-index c.args.edges.now (is_
 pub loop-e-preserved : goal.loop-e-preserved
 loop-e-preserved c =
     λ e h s.
-      let n : c.loop-e.e-index + 1 ≡ suc c.loop-e.e-index = omega arith in
-      ⊎_elim (λ a. c.loop-e.invariant e a s) (λ q. other_port _ c.args.from c.if-eq.ensures (ap (λ (z : EdgeHeld). z.from) (sym q) ∙ s))
-      (in_take_more e _ c.loop-e.e-index c.args.edges.now (subst (λ k. IsIn e (take k c.args.edges.now)) n h))
+    let n : c.loop-e.e-index + 1 ≡ suc c.loop-e.e-index = omega arith in
+    ⊎_elim (λ a. c.loop-e.invariant e a s) (λ q. other_port _ c.args.from c.if-eq.ensures (ap (λ (z : EdgeHeld). z.from) (sym q) ∙ s))
+    (in_take_more e _ c.loop-e.e-index c.args.edges.now (subst (λ k. IsIn e (take k c.args.edges.now)) n h))
 
 pub returns-clause-none : goal.returns-clause-none
 returns-clause-none c =

@@ -43,8 +43,7 @@ returns-clause-found c =
     let p = c.args.production.0 in
     let ps = c.productions.ensures.productions in
     let rule = production_read g _ p c.index-productions-production.result ps (subst (λ l. p < length l) (sym ps) c.requires.in_range) c.index-productions-production.is in
-    let e = c.in-Some.e in
-    (
+    let e = c.in-Some.e in (
       edge_of e,
       subst (IsIn (edge_of e)) (c.edges.ensures ∙ ap (λ (r : Production). r.edges) rule) (in_map edge_of e c.edges.result.now c.in-Some.ensures.found.0),
       record { leaves = ap inner_of c.in-Some.ensures.found.1; maker = refl; from = refl; to = refl },

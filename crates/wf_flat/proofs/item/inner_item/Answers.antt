@@ -26,8 +26,8 @@ returns-in_default-clause-none c =
     let outs = c.outputs.ensures ∙ ap (λ (z : Module). z.outputs) m in
     let parent = parent_at c.args.g.now c.args.run.now c.requires.run wf c.args.k c.requires.there c.args.parent c.requires.parent in
     λ z i h e.
-      no_output c.args.g.now c.args.run.now c.requires.run wf c.args.k c.requires.there c.args.parent c.requires.parent parent.production parent.expanded c.args.port.now i
-      (ap (position (bytes_eq c.args.port.now)) (sym outs) ∙ sym c.in_default.ensures.place) h e
+    no_output c.args.g.now c.args.run.now c.requires.run wf c.args.k c.requires.there c.args.parent c.requires.parent parent.production parent.expanded c.args.port.now i
+    (ap (position (bytes_eq c.args.port.now)) (sym outs) ∙ sym c.in_default.ensures.place) h e
 
 pub bounds-all-parent : goal.bounds-all-parent
 bounds-all-parent c =

@@ -44,7 +44,7 @@ returns-in-None-clause-found c =
     let root = ap (λ (z : Inst). z.parent) (sym x) ∙ c.in-None.is in
     if_some c.root_item.result _ (λ i. IsIn (named_item names (dotted own c.args.port.now) i) (items g g.start (events_of t)))
     (λ i h. root_found g t run wf k there root (named_item names (dotted own c.args.port.now) i)
-      (subst (λ (z : Module). IsIn (named_item names (dotted own c.args.port.now) i) (input_items own 0 z.inputs ++ output_items own 0 z.outputs)) m (h names)))
+    (subst (λ (z : Module). IsIn (named_item names (dotted own c.args.port.now) i) (input_items own 0 z.inputs ++ output_items own 0 z.outputs)) m (h names)))
     c.root_item.ensures.found
 
 pub returns-in-None-clause-none : goal.returns-in-None-clause-none
