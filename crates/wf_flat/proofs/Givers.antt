@@ -1,9 +1,9 @@
 -- The events that give the names of a run's instances.
-use Rattle.std.proofs.Common.{◌≡◌, ℕ, zero, suc, ◌<◌, ◌⊎◌, Bool, true, false, cond, List, [], ◌∷◌, ◌++◌, map, length, Option, Some, None, refl, ap, sym, subst, ◌∙◌, arith, inl, inr, ⊎_elim, bytes_eq}
+use Rattle.std.proofs.Common.{◌≡◌, ℕ, ◌⊎◌, Bool, true, false, cond, List, [], ◌∷◌, ◌++◌, Some, refl, ap, sym, subst, ◌∙◌, inl, inr, bytes_eq}
 use Rattle.std.proofs.lemmas.List.{map-append}
 use Rattle.wf_model.specs.declared.event.Event.{Event}
 use Rattle.wf_model.specs.declared.event.Event.TheVariants.{Start, Expand}
-use Rattle.wf_model.specs.Lists.{IsIn, IsAt, AllDiffer}
+use Rattle.wf_model.specs.Lists.{IsIn}
 use Rattle.wf_model.specs.Grammar.{Grammar, body_of}
 use Rattle.wf_model.specs.Run.{Instance, Expanded, named, made_by, made, names_of, expanded_by, Extends, AllExtend, IsName}
 use Rattle.wf_model.proofs.Lists.{in_append_cases, in_append_left, in_append_right, in_map_from, same_bytes}

@@ -1,17 +1,16 @@
 -- The items of a run that are named by the ports of an instance.
-use Rattle.std.proofs.Common.{◌≡◌, ℕ, zero, suc, ◌+◌, ◌-◌, ◌<◌, ◌≤◌, ◌⊎◌, Bool, true, false, cond, List, [], ◌∷◌, ◌++◌, map, take, drop, length, get_or, Option, Some, None, refl, ap, sym, subst, ◌∙◌, arith, inl, inr, ⊎_elim, bytes_eq}
+use Rattle.std.proofs.Common.{◌≡◌, ℕ, zero, suc, ◌+◌, ◌-◌, ◌<◌, ◌≤◌, ◌⊎◌, List, [], ◌∷◌, ◌++◌, map, take, drop, length, get_or, Option, Some, None, refl, ap, sym, subst, ◌∙◌, arith, inl, inr, ⊎_elim, bytes_eq}
 use Rattle.std.specs.Prelude.{position, option_map, IfSome, ◌==◌}
 use Rattle.std.proofs.lemmas.Option.{MatchOption-at_none, MatchOption-at_some}
-use Rattle.std.proofs.lemmas.List.{length-map, get_or-map, get_or-take, get_or-drop, get_or_read, get_or_default, length-drop, take_all}
+use Rattle.std.proofs.lemmas.List.{get_or-map, get_or-take, get_or-drop, get_or_read, get_or_default, length-drop, take_all}
 use Rattle.std.proofs.lemmas.List.Quantifiers.{position-Some}
 use Rattle.wf_model.specs.declared.event.Event.{Event}
 use Rattle.wf_model.specs.declared.event.Event.TheVariants.{Start, Expand}
 use Rattle.wf_model.specs.declared.numbers.ProdNo.{ProdNo}
-use Rattle.wf_model.specs.declared.numbers.Side.TheVariants.{Input, Output}
 use Rattle.wf_model.specs.Lists.{IsIn, IsAt, AllDiffer}
 use Rattle.wf_model.specs.Grammar.{Grammar, Module, Inner, Edge, production_at, module_at, body_of, outputs_of}
 use Rattle.wf_model.specs.WellFormed.{IsWellFormed, IsWellFormedModule, IsInnerOutput}
-use Rattle.wf_model.specs.Run.{Instance, Expanded, named, made, made_by, names_of, expanded_by, CanExpand, Extends, AllExtend}
+use Rattle.wf_model.specs.Run.{Instance, Expanded, named, made, made_by, names_of, CanExpand, Extends, AllExtend}
 use Rattle.wf_model.specs.Links.{Port, input, output}
 use Rattle.wf_model.specs.Items.{Item, dotted, input_items, output_items, edge_item, items_by, items}
 use Rattle.wf_model.proofs.Lists.{in_append_cases, in_append_left, in_append_right, in_map, in_map_from, in_flat_map, in_flat_map_from, at_in, at_is, at_below, is_at, differ_at, same_bytes, bytes_same}
@@ -22,7 +21,7 @@ use Rattle.wf_model.proofs.ItemNames.{no_dot, dotted_same, extends_before, made_
 use Rattle.wf_flat.specs.declared.table.Inst.{Inst}
 use Rattle.wf_flat.specs.declared.graph.Port.{Port as PortHeld}
 use Rattle.wf_flat.specs.declared.item.Item.{Item as ItemHeld}
-use Rattle.wf_flat.specs.Table.{Table, IsRunOf, IsParentAt, instance_of, names_in, events_of, events_by, expansion_at, no_instance}
+use Rattle.wf_flat.specs.Table.{Table, IsRunOf, IsParentAt, instance_of, names_in, events_of, events_by, no_instance}
 use Rattle.wf_flat.specs.Graph.{named_port}
 use Rattle.wf_flat.specs.Item.{named_item, IsItemWithin, IsItemOfEdge}
 use Rattle.wf_flat.proofs.Tests.{at_map, same_names}

@@ -1,14 +1,11 @@
 -- The items of the root's ports, by number.
-use Rattle.std.proofs.Common.{◌≡◌, ℕ, zero, suc, ◌+◌, ◌<◌, ◌⊎◌, Bool, true, false, List, [], ◌∷◌, ◌++◌, length, get_or, Option, Some, None, refl, ap, sym, subst, ◌∙◌, arith, inl, inr, ⊎_elim, bytes_eq}
+use Rattle.std.proofs.Common.{◌≡◌, ℕ, zero, suc, ◌+◌, ◌<◌, List, [], ◌∷◌, ◌++◌, length, get_or, Some, None, refl, ap, sym, subst, ◌∙◌, arith, inl, inr, ⊎_elim, bytes_eq}
 use Rattle.std.specs.Prelude.{position}
 use Rattle.std.proofs.lemmas.List.Quantifiers.{position-Some}
-use Rattle.wf_model.specs.declared.numbers.Side.TheVariants.{Input, Output}
 use Rattle.wf_model.specs.Lists.{IsIn}
-use Rattle.wf_model.specs.Links.{Port, input, output}
+use Rattle.wf_model.specs.Links.{input, output}
 use Rattle.wf_model.specs.Items.{Item, dotted, input_items, output_items}
 use Rattle.wf_model.proofs.Lists.{in_append_cases, in_append_left, in_append_right, same_bytes, bytes_same}
-use Rattle.wf_flat.specs.declared.item.Item.{Item as ItemHeld}
-use Rattle.wf_flat.specs.Item.{named_item}
 use Rattle.wf_flat.proofs.Dots.{none_passes}
 
 abbrev input_item : List ℕ → ℕ → List ℕ → Item

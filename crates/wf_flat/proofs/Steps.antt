@@ -1,8 +1,7 @@
 -- A table that stands for a run goes on standing for it, an event later.
-use Rattle.std.proofs.Common.{◌≡◌, ℕ, zero, suc, ◌+◌, ◌<◌, ◌≤◌, ◌⊎◌, Bool, true, false, not, cond, List, [], ◌∷◌, ◌++◌, map, take, drop, set, get_or, length, Option, Some, None, refl, ap, sym, subst, ◌∙◌, arith, inl, inr, ⊎_elim, true≢false, append_assoc, append-nil, length-append}
-use Rattle.std.specs.Prelude.{position, bytes_eq, option_map, MatchOption}
-use Rattle.std.proofs.lemmas.List.{length-map, map-append, take-append-le, drop-append-le, drop_at, take_all, get_or_append_left, get_or-set_same, get_or-set_other, length-set, length-drop, length-take, take_at}
-use Rattle.wf_model.specs.declared.event.Event.{Event}
+use Rattle.std.proofs.Common.{◌≡◌, ℕ, zero, suc, ◌+◌, ◌<◌, ◌≤◌, ◌⊎◌, false, cond, List, [], ◌∷◌, ◌++◌, map, take, drop, set, get_or, length, Option, Some, None, refl, ap, sym, subst, ◌∙◌, arith, inl, inr, ⊎_elim, append_assoc, length-append}
+use Rattle.std.specs.Prelude.{option_map, MatchOption}
+use Rattle.std.proofs.lemmas.List.{length-map, map-append, take-append-le, drop-append-le, drop_at, take_all, get_or_append_left, get_or-set_same, get_or-set_other, length-set, length-drop}
 use Rattle.wf_model.specs.declared.event.Event.TheVariants.{Start, Expand}
 use Rattle.wf_model.specs.declared.numbers.ProdNo.{ProdNo}
 use Rattle.wf_model.specs.declared.numbers.ModNo.{ModNo}
@@ -11,15 +10,14 @@ use Rattle.wf_model.specs.Lists.{IsIn, IsAt, AllDiffer}
 use Rattle.wf_model.specs.Grammar.{Grammar, Production, Position as PositionSeen, body_of}
 use Rattle.wf_model.specs.Meaning.{position_of}
 use Rattle.wf_model.specs.Faults.{some_twice, fault_of}
-use Rattle.wf_model.specs.Run.{Instance, Expanded, named, made, made_by, names_of, expanded_by, CanExpand, IsRun, IsAccepted}
-use Rattle.wf_model.proofs.Lists.{in_append_cases, in_append_left, at_below, at_in, at_is, is_at, in_at, differ_at, same_bytes, bytes_same}
-use Rattle.wf_model.proofs.Runs.{made_more, expansion_later, expansion_other, IsState, run_state, AllExtend-append}
-use Rattle.wf_model.proofs.Level.{opening}
+use Rattle.wf_model.specs.Run.{Instance, Expanded, named, made, names_of, expanded_by, CanExpand, IsAccepted}
+use Rattle.wf_model.proofs.Lists.{in_append_cases, at_below, at_in, at_is, is_at, differ_at, bytes_same}
+use Rattle.wf_model.proofs.Runs.{made_more, expansion_later, expansion_other, run_state, AllExtend-append}
 use Rattle.wf_model.proofs.Taking.{run_differs, length-named, twice_from, taking_law}
 use Rattle.wf_flat.specs.declared.table.Inst.{Inst}
 use Rattle.wf_flat.specs.declared.table.Opened.{Opened}
-use Rattle.wf_flat.specs.Table.{Table, IsRunOf, IsParentAt, IsKept, IsOpenedIn, instance_of, names_in, given_names, expansion_of, events_by, events_of, expansion_at, children, expanded_by_no, no_instance, with_children, opened_table, root_instance, started_table}
-use Rattle.wf_flat.proofs.Tables.{names-with_children, instances-with_children, length-with_children, names-children}
+use Rattle.wf_flat.specs.Table.{Table, IsRunOf, IsParentAt, IsKept, IsOpenedIn, instance_of, names_in, given_names, expansion_of, events_by, events_of, expansion_at, children, expanded_by_no, no_instance, opened_table, root_instance, started_table}
+use Rattle.wf_flat.proofs.Tables.{names-with_children, instances-with_children, length-with_children}
 use Rattle.wf_flat.proofs.Tests.{at_map, map-map, same_names, same_count, body_read}
 
 map_same : {A B : Type 0} (f h : A → B) (xs : List A) → ((x : A) → IsIn x xs → f x ≡ h x) → map f xs ≡ map h xs

@@ -1,19 +1,17 @@
 -- The tests of an event, read from the table.
-use Rattle.std.proofs.Common.{◌≡◌, ℕ, zero, suc, ◌+◌, ◌<◌, ◌≤◌, ◌⊎◌, Bool, true, false, not, ◌||◌, cond, List, [], ◌∷◌, ◌++◌, map, take, drop, set, get_or, length, Option, Some, None, refl, ap, sym, subst, ◌∙◌, arith, inl, inr, ⊎_elim, true≢false}
+use Rattle.std.proofs.Common.{◌≡◌, ℕ, zero, suc, ◌+◌, ◌<◌, ◌≤◌, Bool, true, false, not, ◌||◌, cond, List, [], ◌∷◌, map, get_or, length, Option, Some, None, refl, ap, sym, subst, ◌∙◌, arith}
 use Rattle.std.specs.Prelude.{position, bytes_eq, is_some, nat_lt, nat_le, ◌==◌, option_map}
-use Rattle.std.specs.List.{position_or_len, list_all}
+use Rattle.std.specs.List.{list_all}
 use Rattle.std.proofs.lemmas.List.{length-map, get_or-map, get_or_read}
 use Rattle.std.proofs.lemmas.List.Quantifiers.{position-Some}
-use Rattle.wf_model.specs.declared.numbers.ProdNo.{ProdNo}
-use Rattle.wf_model.specs.Lists.{IsIn, IsAt, some}
+use Rattle.wf_model.specs.Lists.{IsAt, some}
 use Rattle.wf_model.specs.Grammar.{Grammar, Production, Position, production_at, body_of, head_of}
-use Rattle.wf_model.specs.Run.{Instance, Expanded, made, names_of, expanded_by}
+use Rattle.wf_model.specs.Run.{Instance, made, names_of, expanded_by}
 use Rattle.wf_model.specs.Faults.{is_nil, is_one_of, module_in, is_short_name, some_twice, fault_of}
 use Rattle.wf_model.specs.declared.event.Event.TheVariants.{Expand}
 use Rattle.wf_model.specs.declared.event.RunFault.{RunFault}
-use Rattle.wf_model.specs.declared.event.RunFault.TheVariants.{NotStarted, UnknownInstance, UnknownProduction, WrongHead, AlreadyExpanded, PositionsWrong, NameBad, NameTwice, TooManyInstances}
+use Rattle.wf_model.specs.declared.event.RunFault.TheVariants.{UnknownProduction, WrongHead, AlreadyExpanded, PositionsWrong, NameBad, NameTwice, TooManyInstances}
 use Rattle.std.proofs.lemmas.Bool.Decides.{nat_tests}
-use Rattle.std.proofs.lemmas.List.Sums.{prefix_len-le-length}
 use Rattle.wf_model.proofs.Lists.{is_at, same_bytes, bytes_same, among_gives}
 use Rattle.wf_flat.proofs.Dots.{none_passes}
 use Rattle.wf_flat.specs.declared.table.Inst.{Inst}

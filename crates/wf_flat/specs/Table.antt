@@ -94,9 +94,15 @@ pub record IsParentAt (g : Grammar) (xs : List Inst) (p k : ℕ) : Type 0 where
 
 -- the table stands for an accepted run of the grammar
 pub record IsRunOf (g : Grammar) (t : Table) : Type 0 where
+  -- its events are a run of the grammar within the limit
   pub accepted : IsAccepted g t.most (events_of t)
+  -- its instances are those that the events make, in their order
   pub made : map instance_of t.instances ≡ made g g.start (events_of t)
+  -- each instance is expanded as the events say: by its production, into the instances from its first child on
   pub expanded : (k : ℕ) (x : Inst) → IsAt x k t.instances → expanded_by (events_of t) x.name ≡ expansion_at g (names_in t.instances) x
+  -- the children of an expanded instance are there
   pub children : (k : ℕ) (x : Inst) (p : ProdNo) → IsAt x k t.instances → x.production ≡ Some p → x.first_child + length (body_of g p.0) ≤ length t.instances
+  -- each expansion made instances of the modules of its body
   pub ordered : (o : Opened) → IsIn o t.order → take o.count (drop o.first (map instance_of t.instances)) ≡ named (given_names (names_in t.instances) o) (body_of g o.production.0)
+  -- the root alone has no parent, and each other instance was made by the expansion of its parent
   pub parents : (k : ℕ) (x : Inst) → IsAt x k t.instances → MatchOption x.parent (k ≡ 0) (λ p. IsParentAt g t.instances p k)

@@ -1,10 +1,9 @@
-use Rattle.std.proofs.Common.{◌≡◌, ℕ, suc, ◌+◌, ◌≤◌, take, length, refl, ap, sym, subst, ◌∙◌, arith, ⊎_elim}
+use Rattle.std.proofs.Common.{◌≡◌, suc, ◌+◌, ◌≤◌, take, length, ap, sym, subst, ◌∙◌, arith, ⊎_elim}
 use Rattle.std.proofs.lemmas.List.{take_all}
 use Rattle.wf_model.specs.declared.body.Edge.{Edge as EdgeHeld}
-use Rattle.wf_model.specs.declared.body.Inner.{Inner as InnerHeld}
 use Rattle.wf_model.specs.Lists.{IsIn}
 use Rattle.wf_model.proofs.Lists.{is_at, at_in}
-use Rattle.wf_flat.proofs.Leaving.{same_port, other_port, in_take_more, none_leaves}
+use Rattle.wf_flat.proofs.Leaving.{same_port, other_port, in_take_more}
 use Rattle.wf_flat.proofs.item.edge_from.Goals as goal
 
 pub returns-then-eq-clause-found : goal.returns-then-eq-clause-found

@@ -1,8 +1,6 @@
-use Rattle.std.proofs.Common.{◌≡◌, ℕ, ◌-◌, ◌+◌, ◌<◌, ◌≤◌, ◌∙◌, refl, ap, sym, subst, arith, length, map}
-use Rattle.wf_model.specs.declared.body.Edge.{Edge as EdgeHeld}
-use Rattle.wf_model.specs.declared.body.Inner.{Inner as InnerHeld}
+use Rattle.std.proofs.Common.{◌-◌, ◌<◌, ◌∙◌, refl, ap, sym, subst, arith, length}
 use Rattle.wf_model.specs.Lists.{IsIn}
-use Rattle.wf_model.specs.Grammar.{Edge, Inner, Production, production_at, body_of}
+use Rattle.wf_model.specs.Grammar.{Production, production_at, body_of}
 use Rattle.wf_model.specs.Meaning.{edge_of, inner_of}
 use Rattle.wf_model.proofs.Lists.{in_map, at_below}
 use Rattle.wf_flat.proofs.Tests.{production_read}

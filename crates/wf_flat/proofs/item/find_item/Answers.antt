@@ -1,7 +1,7 @@
-use Rattle.std.proofs.Common.{◌≡◌, ℕ, ◌+◌, [], take, drop, get_or, refl, ap, sym, subst, ◌∙◌}
+use Rattle.std.proofs.Common.{◌+◌, take, drop, sym, subst, ◌∙◌}
 use Rattle.std.specs.Prelude.{IfSome}
 use Rattle.wf_model.specs.Lists.{IsIn}
-use Rattle.wf_model.specs.Items.{dotted, items}
+use Rattle.wf_model.specs.Items.{items}
 use Rattle.wf_flat.specs.Table.{names_in, events_of}
 use Rattle.wf_flat.specs.Item.{named_item}
 use Rattle.wf_flat.proofs.Dots.{split_at}

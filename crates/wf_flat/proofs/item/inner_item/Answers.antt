@@ -1,8 +1,7 @@
-use Rattle.std.proofs.Common.{◌≡◌, ℕ, ◌<◌, ◌≤◌, length, get_or, refl, ap, sym, subst, ◌∙◌, arith}
-use Rattle.std.specs.Prelude.{position, bytes_eq, Some, None, Option, ◌+◌}
+use Rattle.std.proofs.Common.{◌≡◌, ◌<◌, ◌≤◌, length, ap, sym, subst, ◌∙◌, arith}
+use Rattle.std.specs.Prelude.{position, bytes_eq, Some, None}
 use Rattle.wf_model.specs.Grammar.{Module}
 use Rattle.wf_flat.specs.declared.table.Inst.{Inst}
-use Rattle.wf_flat.specs.Table.{no_instance}
 use Rattle.wf_flat.proofs.Named.{inst_read, module_low, module_read, module_formed, parent_at, parent_there, no_output, answer_found, answer_within, answer_none, starts_low, ends_high, has_room, in_productions}
 use Rattle.wf_flat.proofs.item.inner_item.Goals as goal
 

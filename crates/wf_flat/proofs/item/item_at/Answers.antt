@@ -1,11 +1,9 @@
-use Rattle.std.proofs.Common.{◌≡◌, ℕ, ◌<◌, ◌≤◌, ◌++◌, [], List, length, get_or, refl, ap, sym, subst, ◌∙◌, arith}
-use Rattle.std.specs.Prelude.{position, bytes_eq, Some, None, Option}
+use Rattle.std.proofs.Common.{◌≤◌, ◌++◌, [], length, get_or, ap, sym, subst, ◌∙◌}
 use Rattle.wf_model.specs.Grammar.{Module}
 use Rattle.wf_model.specs.Lists.{IsIn}
-use Rattle.wf_model.specs.Items.{Item, dotted, input_items, output_items, items}
+use Rattle.wf_model.specs.Items.{dotted, input_items, output_items, items}
 use Rattle.wf_flat.specs.declared.table.Inst.{Inst}
-use Rattle.wf_flat.specs.declared.item.Item.{Item as ItemHeld}
-use Rattle.wf_flat.specs.Table.{no_instance, names_in, events_of}
+use Rattle.wf_flat.specs.Table.{names_in, events_of}
 use Rattle.wf_flat.specs.Item.{named_item}
 use Rattle.wf_flat.proofs.Named.{inst_read, module_low, module_read, module_formed, root_found, root_none, if_some}
 use Rattle.wf_flat.proofs.item.item_at.Goals as goal

@@ -1,4 +1,4 @@
-use Rattle.std.proofs.Common.{◌≡◌, [], get_or, sym}
+use Rattle.std.proofs.Common.{[], get_or}
 use Rattle.wf_flat.proofs.RootItems.{of_input, of_output, of_neither}
 use Rattle.wf_flat.proofs.item.root_item.Goals as goal
 
