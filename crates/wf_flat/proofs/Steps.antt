@@ -1,8 +1,7 @@
 -- A table that stands for a run goes on standing for it, an event later.
-use Rattle.std.proofs.Common.{◌≡◌, ℕ, zero, suc, ◌+◌, ◌<◌, ◌≤◌, ◌⊎◌, Bool, true, false, not, cond, List, [], ◌∷◌, ◌++◌, map, take, drop, set, get_or, length, Option, Some, None, refl, ap, sym, subst, ◌∙◌, arith, inl, inr, ⊎_elim, true≢false, append_assoc, append-nil, length-append}
-use Rattle.std.specs.Prelude.{position, bytes_eq, option_map}
-use Rattle.std.proofs.lemmas.List.{length-map, map-append, take-append-le, drop-append-le, drop_at, take_all, get_or_append_left, length-drop, length-take, take_at}
-use Rattle.wf_model.specs.declared.event.Event.{Event}
+use Rattle.std.proofs.Common.{◌≡◌, ℕ, zero, suc, ◌+◌, ◌<◌, ◌≤◌, ◌⊎◌, false, cond, List, [], ◌∷◌, ◌++◌, map, take, drop, set, get_or, length, Option, Some, None, refl, ap, sym, subst, ◌∙◌, arith, inl, inr, ⊎_elim, append_assoc, length-append}
+use Rattle.std.specs.Prelude.{option_map, MatchOption}
+use Rattle.std.proofs.lemmas.List.{length-map, map-append, take-append-le, drop-append-le, drop_at, take_all, get_or_append_left, get_or-set_same, get_or-set_other, length-set, length-drop}
 use Rattle.wf_model.specs.declared.event.Event.TheVariants.{Start, Expand}
 use Rattle.wf_model.specs.declared.numbers.ProdNo.{ProdNo}
 use Rattle.wf_model.specs.declared.numbers.ModNo.{ModNo}
@@ -11,15 +10,14 @@ use Rattle.wf_model.specs.Lists.{IsIn, IsAt, AllDiffer}
 use Rattle.wf_model.specs.Grammar.{Grammar, Production, Position as PositionSeen, body_of}
 use Rattle.wf_model.specs.Meaning.{position_of}
 use Rattle.wf_model.specs.Faults.{some_twice, fault_of}
-use Rattle.wf_model.specs.Run.{Instance, Expanded, named, made, made_by, names_of, expanded_by, CanExpand, IsRun, IsAccepted}
-use Rattle.wf_model.proofs.Lists.{in_append_cases, in_append_left, at_below, at_in, at_is, is_at, in_at, differ_at, same_bytes, bytes_same}
-use Rattle.wf_model.proofs.Runs.{made_more, expansion_later, expansion_other, IsState, run_state, AllExtend-append}
-use Rattle.wf_model.proofs.Level.{opening}
+use Rattle.wf_model.specs.Run.{Instance, Expanded, named, made, names_of, expanded_by, CanExpand, IsAccepted}
+use Rattle.wf_model.proofs.Lists.{in_append_cases, at_below, at_in, at_is, is_at, differ_at, bytes_same}
+use Rattle.wf_model.proofs.Runs.{made_more, expansion_later, expansion_other, run_state, AllExtend-append}
 use Rattle.wf_model.proofs.Taking.{run_differs, length-named, twice_from, taking_law}
 use Rattle.wf_flat.specs.declared.table.Inst.{Inst}
 use Rattle.wf_flat.specs.declared.table.Opened.{Opened}
-use Rattle.wf_flat.specs.Table.{Table, IsRunOf, IsKept, IsOpenedIn, instance_of, names_in, given_names, expansion_of, events_by, events_of, expansion_at, children, expanded_by_no, no_instance, with_children, opened_table, root_instance, started_table}
-use Rattle.wf_flat.proofs.Tables.{names-with_children, instances-with_children, length-with_children, names-children}
+use Rattle.wf_flat.specs.Table.{Table, IsRunOf, IsParentAt, IsKept, IsOpenedIn, instance_of, names_in, given_names, expansion_of, events_by, events_of, expansion_at, children, expanded_by_no, no_instance, opened_table, root_instance, started_table}
+use Rattle.wf_flat.proofs.Tables.{names-with_children, instances-with_children, length-with_children}
 use Rattle.wf_flat.proofs.Tests.{at_map, map-map, same_names, same_count, body_read}
 
 map_same : {A B : Type 0} (f h : A → B) (xs : List A) → ((x : A) → IsIn x xs → f x ≡ h x) → map f xs ≡ map h xs
@@ -58,10 +56,10 @@ events_more names new order o k h f c =
         ap (λ n. Expand n o.production.0 (given_names (names ++ new) o)) (get_or_append_left names new [] o.instance h)
         ∙ ap (λ l. Expand (get_or names o.instance []) o.production.0 l) (part_new o.first o.count names new f c)
 
-pub at_append : {A : Type 0} (x : A) (k : ℕ) (xs ys : List A) → IsAt x k (xs ++ ys) → IsAt x k xs ⊎ IsIn x ys
-at_append x k [] ys h = inr (at_in x k ys h)
-at_append x zero (y ∷ xs) ys h = inl h
-at_append x (suc k) (y ∷ xs) ys h = at_append x k xs ys h
+at_place : {A : Type 0} (x : A) (k : ℕ) (xs ys : List A) → IsAt x k (xs ++ ys) → IsAt x k xs ⊎ ((m : ℕ) × (k ≡ length xs + m) × IsAt x m ys)
+at_place x k [] ys h = inr (k, omega arith, h)
+at_place x zero (y ∷ xs) ys h = inl h
+at_place x (suc k) (y ∷ xs) ys h = ⊎_elim (λ a. inl a) (λ b. inr (b.0, (let e : k ≡ length xs + b.0 = b.1 in omega arith), b.2)) (at_place x k xs ys h)
 
 at_set : {A : Type 0} (x y : A) (j k : ℕ) (xs : List A) → IsAt x j (set xs k y) → (IsAt x j xs × (j ≡ k → ⊥)) ⊎ ((x ≡ y) × (j ≡ k))
 at_set x y j k [] h = absurd h
@@ -76,6 +74,18 @@ new_child x k [] qs h = absurd h
 new_child x k (n ∷ ns) [] h = absurd h
 new_child x k (n ∷ ns) (q ∷ qs) (inl e) = (ap (λ (y : Inst). y.production) e, inl (ap (λ (y : Inst). y.name) e))
 new_child x k (n ∷ ns) (q ∷ qs) (inr h) = let r = new_child x k ns qs h in (r.0, inr r.1)
+
+-- the parent of the children of an expansion
+child_parent : (x : Inst) (j k : ℕ) (names : List (List ℕ)) (qs : List Position) → IsAt x j (children k names qs) → (x.parent ≡ Some k) × (j < length names)
+child_parent x j k [] qs h = absurd h
+child_parent x j k (n ∷ ns) [] h = absurd h
+child_parent x zero k (n ∷ ns) (q ∷ qs) h = (ap (λ (y : Inst). y.parent) h, omega arith)
+child_parent x (suc j) k (n ∷ ns) (q ∷ qs) h = let r = child_parent x j k ns qs h in let l : j < length ns = r.1 in (r.0, omega arith)
+
+-- what holds of a value that may be there follows from what held
+lifted : {A : Type 0} (o : Option A) (P R : Type 0) (Q S : A → Type 0) → (P → R) → ((x : A) → Q x → S x) → MatchOption o P Q → MatchOption o R S
+lifted None P R Q S f h m = f m
+lifted (Some x) P R Q S f h m = h x m
 
 abbrev some_expanded : Expanded → Option Expanded
 some_expanded x = Some x
@@ -135,8 +145,8 @@ module _ (g : Grammar) (t : Table) (run : IsRunOf g t) (kept : (q : Opened) → 
   sorts j x h =
       ⊎_elim
       (λ a. ⊎_elim (λ b. inl b) (λ b. inr (inl b.0)) (at_set x (expanded_by_no p (length t.instances) (get_or t.instances k no_instance)) j k t.instances a))
-      (λ a. inr (inr (new_child x k new body a)))
-      (at_append x j (set t.instances k (expanded_by_no p (length t.instances) (get_or t.instances k no_instance))) (children k new body) h)
+      (λ a. inr (inr (new_child x k new body (at_in x a.0 (children k new body) a.2))))
+      (at_place x j (set t.instances k (expanded_by_no p (length t.instances) (get_or t.instances k no_instance))) (children k new body) h)
 
   expanded_after : (j : ℕ) (x : Inst) → IsAt x j after.instances → expanded_by (events_of t ++ Expand i p.0 new ∷ []) x.name ≡ expansion_at g (names ++ new) x
   expanded_after j x h = ⊎_elim old (λ a. ⊎_elim this child a) (sorts j x h)
@@ -208,6 +218,82 @@ module _ (g : Grammar) (t : Table) (run : IsRunOf g t) (kept : (q : Opened) → 
           (part_new (length t.instances) (length new) (map instance_of t.instances) (named new (body_of g p.0)) (sym (length-map t.instances instance_of)) (sym (length-named new (body_of g p.0) can.one_each))
           ∙ ap (λ l. named l (body_of g p.0)) (sym (part_new (length t.instances) (length new) names new (sym count) refl)))
 
+  place_left : k < length (set t.instances k (expanded_by_no p (length t.instances) (get_or t.instances k no_instance)))
+  place_left = let h = there in omega (arith, length-set t.instances k (expanded_by_no p (length t.instances) (get_or t.instances k no_instance)))
+
+  -- the instance that was expanded, afterwards
+  changed : get_or after.instances k no_instance ≡ expanded_by_no p (length t.instances) (get_or t.instances k no_instance)
+  changed =
+      get_or_append_left (set t.instances k (expanded_by_no p (length t.instances) (get_or t.instances k no_instance))) (children k new body) no_instance k place_left
+      ∙ get_or-set_same t.instances k (expanded_by_no p (length t.instances) (get_or t.instances k no_instance)) no_instance there
+
+  -- another instance is as it was
+  kept_at : (q : ℕ) → q < length t.instances → (q ≡ k → ⊥) → get_or after.instances q no_instance ≡ get_or t.instances q no_instance
+  kept_at q h d =
+      get_or_append_left (set t.instances k (expanded_by_no p (length t.instances) (get_or t.instances k no_instance))) (children k new body) no_instance q (omega (arith, length-set t.instances k (expanded_by_no p (length t.instances) (get_or t.instances k no_instance))))
+      ∙ get_or-set_other t.instances k q (expanded_by_no p (length t.instances) (get_or t.instances k no_instance)) no_instance d
+
+  -- the instance was not expanded before
+  waiting : (r : ProdNo) → (get_or t.instances k no_instance).production ≡ Some r → ⊥
+  waiting r e =
+      let a : expanded_by (events_of t) i ≡ expansion_at g (names_in t.instances) (get_or t.instances k no_instance) = ap (expanded_by (events_of t)) named_so ∙ run.expanded k (get_or t.instances k no_instance) (is_at k t.instances no_instance there) in
+      let b : expansion_at g (names_in t.instances) (get_or t.instances k no_instance) ≡ some_expanded (record { production = r.0; names = take (length (body_of g r.0)) (drop (get_or t.instances k no_instance).first_child (names_in t.instances)) }) =
+      ap (option_map {U = Expanded} (λ (r : ProdNo). record { production = r.0; names = take (length (body_of g r.0)) (drop (get_or t.instances k no_instance).first_child (names_in t.instances)) })) e in
+      none (sym can.open_end ∙ (a ∙ b))
+    where
+      none : {x : Expanded} → None ≡ some_expanded x → ⊥
+      none h = cc
+
+  -- a parent from before is one afterwards
+  parent_kept : (q j : ℕ) → j < length t.instances → IsParentAt g t.instances q j → IsParentAt g after.instances q j
+  parent_kept q j l h =
+      let b : q < j = h.before in
+      let e = kept_at q (omega arith) (λ d. waiting h.production (subst (λ z. (get_or t.instances z no_instance).production ≡ Some h.production) d h.expanded)) in
+      record {
+        before = h.before;
+        production = h.production;
+        expanded = ap (λ (y : Inst). y.production) e ∙ h.expanded;
+        first = subst (λ (y : Inst). y.first_child ≤ j) (sym e) h.first;
+        last = subst (λ (y : Inst). j < y.first_child + length (body_of g h.production.0)) (sym e) h.last;
+      }
+
+  -- the parent of a child
+  parent_new : (m : ℕ) → m < length new → IsParentAt g after.instances k (length t.instances + m)
+  parent_new m l =
+      let h = there in
+      let c : length new ≡ length (body_of g p.0) = can.one_each in
+      record {
+        before = omega arith;
+        production = p;
+        expanded = ap (λ (y : Inst). y.production) changed;
+        first = subst (λ (y : Inst). y.first_child ≤ length t.instances + m) (sym changed) (omega arith);
+        last = subst (λ (y : Inst). length t.instances + m < y.first_child + length (body_of g p.0)) (sym changed) (omega arith);
+      }
+
+  parents_after : (j : ℕ) (x : Inst) → IsAt x j after.instances → MatchOption x.parent (j ≡ 0) (λ q. IsParentAt g after.instances q j)
+  parents_after j x h =
+      ⊎_elim
+      (λ a. ⊎_elim (λ b. old b.0) (λ b. this b.0 b.1) (at_set x (expanded_by_no p (length t.instances) (get_or t.instances k no_instance)) j k t.instances a))
+      (λ a. child a.0 (a.1 ∙ ap (λ n. n + a.0) (length-set t.instances k (expanded_by_no p (length t.instances) (get_or t.instances k no_instance)))) (child_parent x a.0 k new body a.2))
+      (at_place x j (set t.instances k (expanded_by_no p (length t.instances) (get_or t.instances k no_instance))) (children k new body) h)
+    where
+      from_before : (y : Inst) → IsAt y j t.instances → MatchOption y.parent (j ≡ 0) (λ q. IsParentAt g after.instances q j)
+      from_before y a =
+          lifted y.parent (j ≡ 0) (j ≡ 0) (λ q. IsParentAt g t.instances q j) (λ q. IsParentAt g after.instances q j) (λ e. e) (λ q b. parent_kept q j (at_below y j t.instances a) b) (run.parents j y a)
+
+      old : IsAt x j t.instances → MatchOption x.parent (j ≡ 0) (λ q. IsParentAt g after.instances q j)
+      old a = from_before x a
+
+      this : x ≡ expanded_by_no p (length t.instances) (get_or t.instances k no_instance) → j ≡ k → MatchOption x.parent (j ≡ 0) (λ q. IsParentAt g after.instances q j)
+      this e d =
+          subst (λ (o : Option ℕ). MatchOption o (j ≡ 0) (λ q. IsParentAt g after.instances q j)) (sym (ap (λ (y : Inst). y.parent) e))
+          (from_before (get_or t.instances k no_instance) (subst (λ z. IsAt (get_or t.instances k no_instance) z t.instances) (sym d) (is_at k t.instances no_instance there)))
+
+      child : (m : ℕ) → j ≡ length t.instances + m → (x.parent ≡ Some k) × (m < length new) → MatchOption x.parent (j ≡ 0) (λ q. IsParentAt g after.instances q j)
+      child m e a =
+          subst (λ (o : Option ℕ). MatchOption o (j ≡ 0) (λ q. IsParentAt g after.instances q j)) (sym a.0)
+          (subst (IsParentAt g after.instances k) (sym e) (parent_new m a.1))
+
   pub run_expanded : (events_of after ≡ events_of t ++ Expand i p.0 new ∷ []) × IsRunOf g after
   run_expanded = (
     all_events,
@@ -217,6 +303,7 @@ module _ (g : Grammar) (t : Table) (run : IsRunOf g t) (kept : (q : Opened) → 
       expanded = λ j x h. ap (λ l. expanded_by l x.name) all_events ∙ (expanded_after j x h ∙ ap (λ l. expansion_at g l x) (sym all_names));
       children = children_after;
       ordered = λ q h. ordered_after q h ∙ ap (λ l. named (given_names l q) (body_of g q.production.0)) (sym all_names);
+      parents = parents_after;
     },
   )
 
@@ -228,8 +315,13 @@ run_started g most m name e acc = record {
   expanded = λ j x h. at_root j x h;
   children = λ j x r h q. absurd (none j x r h q);
   ordered = λ q h. absurd h;
+  parents = λ j x h. at_first j x h;
 }
   where
+    at_first : (j : ℕ) (x : Inst) → IsAt x j (root_instance m name ∷ []) → MatchOption x.parent (j ≡ 0) (λ q. IsParentAt g (root_instance m name ∷ []) q j)
+    at_first zero x h = subst (λ (o : Option ℕ). MatchOption o (◌≡◌ {A = ℕ} 0 0) (λ q. IsParentAt g (root_instance m name ∷ []) q 0)) (sym (ap (λ (y : Inst). y.parent) h)) refl
+    at_first (suc j) x h = absurd h
+
     one : Instance → List Instance
     one i = i ∷ []
 
@@ -280,4 +372,5 @@ run_none g most = record {
   expanded = λ k x h. absurd h;
   children = λ k x p h e. absurd h;
   ordered = λ o h. absurd h;
+  parents = λ k x h. absurd h;
 }

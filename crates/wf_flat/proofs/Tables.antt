@@ -1,16 +1,13 @@
 -- What an expansion does to a table.
-use Rattle.std.proofs.Common.{◌≡◌, ℕ, zero, suc, ◌+◌, ◌<◌, ◌≤◌, ◌⊎◌, Bool, true, false, List, [], ◌∷◌, ◌++◌, map, take, drop, set, get_or, length, Option, Some, None, refl, ap, sym, subst, ◌∙◌, arith, inl, inr, ⊎_elim, length-append}
-use Rattle.std.proofs.lemmas.List.{length-map, set-append_left, get_or_append_left, get_or_read, map-append, take-append-le, drop-append-le, take_all, drop_at, length-drop}
+use Rattle.std.proofs.Common.{◌≡◌, ℕ, ◌+◌, ◌<◌, ◌≤◌, List, [], ◌∷◌, ◌++◌, map, set, get_or, length, refl, ap, sym, subst, ◌∙◌, arith, ⊎_elim, length-append}
+use Rattle.std.proofs.lemmas.List.{length-map, set-append_left, get_or_append_left, get_or_read, map-append}
 use Rattle.std.proofs.Math.Seq.{map-set_same}
-use Rattle.wf_model.specs.Lists.{IsIn}
 use Rattle.wf_model.specs.Run.{Instance, named}
 use Rattle.wf_model.proofs.Lists.{in_append_cases}
 use Rattle.wf_model.specs.declared.body.Position.{Position}
-use Rattle.wf_model.specs.declared.event.Event.{Event}
-use Rattle.wf_model.specs.declared.event.Event.TheVariants.{Start, Expand}
 use Rattle.wf_flat.specs.declared.table.Inst.{Inst}
 use Rattle.wf_flat.specs.declared.table.Opened.{Opened}
-use Rattle.wf_flat.specs.Table.{Table, instance_of, names_in, given_names, expansion_of, events_by, IsOpenedIn, IsKept, children, expanded_by_no, no_instance, with_children}
+use Rattle.wf_flat.specs.Table.{instance_of, names_in, IsOpenedIn, IsKept, children, expanded_by_no, no_instance, with_children}
 
 abbrev module_of : Position → ℕ
 module_of q = q.module.0
@@ -59,7 +56,7 @@ kept_more most taken xs order o names qs k h f c e m =
       same_names = ap (λ l. l ++ names) k.same_names ∙ sym (names-with_children xs o names qs e);
       few = let a : length xs + length names ≤ most = m in let b : length (with_children xs o names qs) ≡ length xs + length names = n in omega arith;
       opened = λ q i. subst (λ l. IsOpenedIn l q) (sym n) (⊎_elim
-        (λ a. let r = k.opened q a in let r0 : q.instance < length xs = r.0 in let r1 : 0 < q.first = r.1 in let r2 : q.first + q.count ≤ length xs = r.2 in (omega arith, r1, omega arith))
-        (λ a. ⊎_elim (λ (d : q ≡ o). subst (λ z. IsOpenedIn (length xs + length names) z) (sym d) (omega arith, omega arith, omega arith)) (λ z. absurd z) a)
-        (in_append_cases q order (o ∷ []) i));
+          (λ a. let r = k.opened q a in let r0 : q.instance < length xs = r.0 in let r1 : 0 < q.first = r.1 in let r2 : q.first + q.count ≤ length xs = r.2 in (omega arith, r1, omega arith))
+          (λ a. ⊎_elim (λ (d : q ≡ o). subst (λ z. IsOpenedIn (length xs + length names) z) (sym d) (omega arith, omega arith, omega arith)) (λ z. absurd z) a)
+          (in_append_cases q order (o ∷ []) i));
     }

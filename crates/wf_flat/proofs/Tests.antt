@@ -1,37 +1,25 @@
 -- The tests of an event, read from the table.
-use Rattle.std.proofs.Common.{◌≡◌, ℕ, zero, suc, ◌+◌, ◌<◌, ◌≤◌, ◌⊎◌, Bool, true, false, not, ◌||◌, cond, List, [], ◌∷◌, ◌++◌, map, take, drop, set, get_or, length, Option, Some, None, refl, ap, sym, subst, ◌∙◌, arith, inl, inr, ⊎_elim, true≢false}
+use Rattle.std.proofs.Common.{◌≡◌, ℕ, zero, suc, ◌+◌, ◌<◌, ◌≤◌, Bool, true, false, not, ◌||◌, cond, List, [], ◌∷◌, map, get_or, length, Option, Some, None, refl, ap, sym, subst, ◌∙◌, arith}
 use Rattle.std.specs.Prelude.{position, bytes_eq, is_some, nat_lt, nat_le, ◌==◌, option_map}
-use Rattle.std.specs.List.{position_or_len, list_all}
+use Rattle.std.specs.List.{list_all}
 use Rattle.std.proofs.lemmas.List.{length-map, get_or-map, get_or_read}
 use Rattle.std.proofs.lemmas.List.Quantifiers.{position-Some}
-use Rattle.wf_model.specs.declared.numbers.ProdNo.{ProdNo}
-use Rattle.wf_model.specs.Lists.{IsIn, IsAt, some}
+use Rattle.wf_model.specs.Lists.{IsAt, some}
 use Rattle.wf_model.specs.Grammar.{Grammar, Production, Position, production_at, body_of, head_of}
-use Rattle.wf_model.specs.Run.{Instance, Expanded, made, names_of, expanded_by}
+use Rattle.wf_model.specs.Run.{Instance, made, names_of, expanded_by}
 use Rattle.wf_model.specs.Faults.{is_nil, is_one_of, module_in, is_short_name, some_twice, fault_of}
 use Rattle.wf_model.specs.declared.event.Event.TheVariants.{Expand}
 use Rattle.wf_model.specs.declared.event.RunFault.{RunFault}
-use Rattle.wf_model.specs.declared.event.RunFault.TheVariants.{NotStarted, UnknownInstance, UnknownProduction, WrongHead, AlreadyExpanded, PositionsWrong, NameBad, NameTwice, TooManyInstances}
+use Rattle.wf_model.specs.declared.event.RunFault.TheVariants.{UnknownProduction, WrongHead, AlreadyExpanded, PositionsWrong, NameBad, NameTwice, TooManyInstances}
 use Rattle.std.proofs.lemmas.Bool.Decides.{nat_tests}
-use Rattle.std.proofs.lemmas.List.Sums.{prefix_len-le-length}
-use Rattle.wf_model.proofs.Lists.{is_at, same_bytes}
+use Rattle.wf_model.proofs.Lists.{is_at, same_bytes, bytes_same, among_gives}
+use Rattle.wf_flat.proofs.Dots.{none_passes}
 use Rattle.wf_flat.specs.declared.table.Inst.{Inst}
 use Rattle.wf_flat.specs.Table.{Table, IsRunOf, instance_of, names_in, no_instance, events_of, expansion_at}
 
 pub map-map : {A B C : Type 0} (f : B → C) (h : A → B) (xs : List A) → map f (map h xs) ≡ map (λ x. f (h x)) xs
 map-map f h [] = refl
 map-map f h (x ∷ xs) = ap (λ l. f (h x) ∷ l) (map-map f h xs)
-
--- a name that has no place is not there
-pub no_place : (n : List ℕ) (ns : List (List ℕ)) → position_or_len (bytes_eq n) ns ≡ length ns → some (bytes_eq n) ns ≡ false
-no_place n [] e = refl
-no_place n (m ∷ ns) e = go (no_place n ns) (bytes_eq n m) refl
-  where
-    go : (position_or_len (bytes_eq n) ns ≡ length ns → some (bytes_eq n) ns ≡ false) → (b : Bool) → bytes_eq n m ≡ b → bytes_eq n m || some (bytes_eq n) ns ≡ false
-    go ih true t = let f : position_or_len (bytes_eq n) (m ∷ ns) ≡ 0 = grind arith in absurd (omega arith)
-    go ih false t = let f : position_or_len (bytes_eq n) (m ∷ ns) ≡ 1 + position_or_len (bytes_eq n) ns = grind arith in
-        let g : position_or_len (bytes_eq n) ns ≡ length ns = omega arith in
-        ap (λ b. b || some (bytes_eq n) ns) t ∙ ih g
 
 pub placed : (n : List ℕ) (ns : List (List ℕ)) (k : ℕ) → k < length ns → bytes_eq n (get_or ns k []) ≡ true → some (bytes_eq n) ns ≡ true
 placed n [] k h e = absurd (omega arith)
@@ -92,14 +80,11 @@ module _ (g : Grammar) (t : Table) (run : IsRunOf g t) where
   same_count = ap length (sym run.made) ∙ length-map t.instances instance_of
 
   pub unknown : (i : List ℕ) → position (bytes_eq i) (names_in t.instances) ≡ None → is_one_of (names_of (made g g.start (events_of t))) i ≡ false
-  unknown i e = ap (λ l. is_one_of l i) same_names ∙ no_place i (names_in t.instances) (by (position_or_len (bytes_eq i) (names_in t.instances)) (length (names_in t.instances)) (prefix_len-le-length (λ x. not (bytes_eq i x)) (names_in t.instances)) e)
+  unknown i e = ap (λ l. is_one_of l i) same_names ∙ go (is_one_of (names_in t.instances) i) refl
     where
-      by : (a b : ℕ) → a ≤ b → cond {A = Option ℕ} (nat_lt a b) (Some a) None ≡ None → a ≡ b
-      by a b l h = go (nat_lt a b) refl h
-        where
-          go : (t : Bool) → nat_lt a b ≡ t → cond {A = Option ℕ} t (Some a) None ≡ None → a ≡ b
-          go true e h = absurd (cc)
-          go false e h = let r : b ≤ a = grind (arith, nat_tests) in omega arith
+      go : (b : Bool) → is_one_of (names_in t.instances) i ≡ b → is_one_of (names_in t.instances) i ≡ false
+      go true q = absurd (none_passes (bytes_eq i) (names_in t.instances) e i (among_gives i (names_in t.instances) q) (bytes_same i i refl))
+      go false q = q
 
   pub known : (i : List ℕ) (k : ℕ) → position (bytes_eq i) (names_in t.instances) ≡ Some k → is_one_of (names_of (made g g.start (events_of t))) i ≡ true
   known i k e = let p = position-Some (bytes_eq i) (names_in t.instances) k [] e in ap (λ l. is_one_of l i) same_names ∙ placed i (names_in t.instances) k p.0 p.1

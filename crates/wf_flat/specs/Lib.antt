@@ -1,3 +1,4 @@
 pub mod Table
 pub mod Graph
 pub mod Flat
+pub mod Item

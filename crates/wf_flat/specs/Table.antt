@@ -1,5 +1,5 @@
 -- A run as a table of numbered instances.
-use Rattle.std.specs.Prelude.{◌≡◌, ℕ, ◌<◌, ◌≤◌, ◌+◌, List, [], ◌∷◌, ◌++◌, map, take, drop, length, get_or, set, Option, Some, None, option_map}
+use Rattle.std.specs.Prelude.{◌≡◌, ℕ, ◌<◌, ◌≤◌, ◌+◌, List, [], ◌∷◌, ◌++◌, map, take, drop, length, get_or, set, Option, Some, None, option_map, MatchOption}
 use Rattle.wf_model.specs.declared.event.Event.{Event}
 use Rattle.wf_model.specs.declared.event.Event.TheVariants.{Start, Expand}
 use Rattle.wf_model.specs.declared.numbers.ProdNo.{ProdNo}
@@ -84,10 +84,25 @@ abbrev pub expansion_at : Grammar → List (List ℕ) → Inst → Option Expand
 expansion_at g names x =
     option_map (λ (p : ProdNo). record { production = p.0; names = take (length (body_of g p.0)) (drop x.first_child names) }) x.production
 
+-- instance p, made before instance k, was expanded, and k stands among the instances that this made
+pub record IsParentAt (g : Grammar) (xs : List Inst) (p k : ℕ) : Type 0 where
+  pub before : p < k
+  pub production : ProdNo
+  pub expanded : (get_or xs p no_instance).production ≡ Some production
+  pub first : (get_or xs p no_instance).first_child ≤ k
+  pub last : k < (get_or xs p no_instance).first_child + length (body_of g production.0)
+
 -- the table stands for an accepted run of the grammar
 pub record IsRunOf (g : Grammar) (t : Table) : Type 0 where
+  -- its events are a run of the grammar within the limit
   pub accepted : IsAccepted g t.most (events_of t)
+  -- its instances are those that the events make, in their order
   pub made : map instance_of t.instances ≡ made g g.start (events_of t)
+  -- each instance is expanded as the events say: by its production, into the instances from its first child on
   pub expanded : (k : ℕ) (x : Inst) → IsAt x k t.instances → expanded_by (events_of t) x.name ≡ expansion_at g (names_in t.instances) x
+  -- the children of an expanded instance are there
   pub children : (k : ℕ) (x : Inst) (p : ProdNo) → IsAt x k t.instances → x.production ≡ Some p → x.first_child + length (body_of g p.0) ≤ length t.instances
+  -- each expansion made instances of the modules of its body
   pub ordered : (o : Opened) → IsIn o t.order → take o.count (drop o.first (map instance_of t.instances)) ≡ named (given_names (names_in t.instances) o) (body_of g o.production.0)
+  -- the root alone has no parent, and each other instance was made by the expansion of its parent
+  pub parents : (k : ℕ) (x : Inst) → IsAt x k t.instances → MatchOption x.parent (k ≡ 0) (λ p. IsParentAt g t.instances p k)

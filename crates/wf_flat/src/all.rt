@@ -10,8 +10,15 @@ use crate::table::PlainRun;
 use std::alloc::Global;
 use wf_spec::{Event, Grammar, RunFault};
 
-/// The run of a list of events, or why its first event that does not extend the run is refused.
-pub fn take_all(alloc: Global, g: &Grammar, most: u32, events: &[Event]) -> Result<PlainRun, RunFault>
+/// The run of a list of events, of at most `most` instances, or why the first event that does not extend the run is refused, as `PlainRun::take` says.
+///
+/// Cost: that of `PlainRun::take` for each event up to that one.
+pub fn take_all(
+    alloc: Global,
+    g: &Grammar,
+    most: u32,
+    events: &[Event],
+) -> Result<PlainRun, RunFault>
     ensures run { IfOk result (λ r. IsRunOf g.now r) }
     ensures events { IfOk result (λ r. events_of r ≡ events.now) }
     ensures refused { IfErr result (λ f. (f ≡ NoMemory) ⊎ ((k : ℕ) × (e : Event) × IsAt e k events.now × (fault_of g.now most (take k events.now) e ≡ Some f))) }

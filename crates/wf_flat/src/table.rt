@@ -8,13 +8,12 @@ ghost use Rattle.wf_model.specs.Faults.{is_name_byte, is_short_name, some_twice,
 ghost use Rattle.wf_model.specs.Grammar.{body_of};
 ghost use Rattle.wf_flat.specs.Table.{Table, IsRunOf, events_of, names_in, children, with_children, root_instance, started_table, opened_table};
 
-
 use std::alloc::{AllocError, Global};
 use std::marker::Model;
 use wf_names::Names;
 use wf_spec::{Event, Grammar, ModNo, Name, Position, ProdNo, RunFault};
 
-/// An instance. The children of one that is expanded are consecutive.
+/// An instance of a run. The root alone has no parent. The children of an instance that is expanded stand one after the other, from `first_child` on, in order of the positions; before that `first_child` is 0.
 #[derive(Drop)]
 pub struct Inst {
     pub name: Name,
@@ -24,7 +23,7 @@ pub struct Inst {
     pub first_child: u32,
 }
 
-/// An expansion: of which instance, by what, and where its children stand.
+/// An expansion: the number of the instance, the production, and the numbers of the children, `count` of them from `first` on.
 #[derive(Clone, Copy, Drop)]
 pub struct Opened {
     pub instance: u32,
@@ -33,7 +32,7 @@ pub struct Opened {
     pub count: u32,
 }
 
-/// A run, as a table of numbered instances.
+/// A run, as a table of instances, numbered from 0 in order of making, and of the expansions that made them. Names are found by hashing.
 #[derive(Drop)]
 pub struct PlainRun {
     alloc: Global,
@@ -114,7 +113,13 @@ fn repeats(taken: &Names, names: &[Name]) -> bool
 }
 
 /// Appends the instances that an expansion makes. After an error some of them may be there.
-fn append_children(alloc: Global, instances: &mut Vec<Inst>, parent: u32, names: &[Name], body: &[Position]) -> Result<(), AllocError>
+fn append_children(
+    alloc: Global,
+    instances: &mut Vec<Inst>,
+    parent: u32,
+    names: &[Name],
+    body: &[Position],
+) -> Result<(), AllocError>
     requires { length names.now ≡ length body.now }
     ensures added { OnOk result (instances.new.items ≡ instances.old.items ++ children parent names.now body.now) }
     ensures begins { OnErr result (take (length instances.old.items) instances.new.items ≡ instances.old.items) }
@@ -134,7 +139,15 @@ fn append_children(alloc: Global, instances: &mut Vec<Inst>, parent: u32, names:
 }
 
 /// Adds an expansion and its children, or leaves all as it was.
-fn grow(alloc: Global, taken: &mut Names, instances: &mut Vec<Inst>, order: &mut Vec<Opened>, opened: Opened, names: &[Name], body: &[Position]) -> Result<(), AllocError>
+fn grow(
+    alloc: Global,
+    taken: &mut Names,
+    instances: &mut Vec<Inst>,
+    order: &mut Vec<Opened>,
+    opened: Opened,
+    names: &[Name],
+    body: &[Position],
+) -> Result<(), AllocError>
     requires there { opened.instance < length instances.old.items }
     requires one_each { length names.now ≡ length body.now }
     requires same_names { taken.old ≡ names_in instances.old.items }
@@ -167,7 +180,13 @@ fn grow(alloc: Global, taken: &mut Names, instances: &mut Vec<Inst>, order: &mut
 }
 
 /// Adds the root, or leaves all as it was.
-fn plant(alloc: Global, taken: &mut Names, instances: &mut Vec<Inst>, module: ModNo, name: &[u8]) -> Result<(), AllocError>
+fn plant(
+    alloc: Global,
+    taken: &mut Names,
+    instances: &mut Vec<Inst>,
+    module: ModNo,
+    name: &[u8],
+) -> Result<(), AllocError>
     requires no_names { taken.old ≡ [] }
     requires no_instances { instances.old.items ≡ [] }
     ensures names { OnOk result (taken.new ≡ name.now ∷ []) }
@@ -195,7 +214,7 @@ impl PlainRun {
     ghost use Rattle.wf_model.specs.Lists.{IsIn};
     ghost use Rattle.wf_flat.specs.declared.table.Opened.{Opened};
 
-    /// A run before its start.
+    /// A run before its start, of at most `most` instances. Takes no memory.
     pub fn new(alloc: Global, most: u32) -> PlainRun
         ensures { result ≡ record { most = most; instances = []; order = [] } }
     {
@@ -226,7 +245,7 @@ impl PlainRun {
         &self.order
     }
 
-    /// The number of the instance of a name.
+    /// The number of the instance of a name, by one look-up.
     pub fn find(&self, name: &[u8]) -> Option<u32>
         ensures place { result ≡ position (bytes_eq name.now) (names_in self.now.instances) }
         ensures within { IfSome result (λ i. i < length self.now.instances) }
@@ -238,7 +257,11 @@ impl PlainRun {
         Some(i as u32)
     }
 
-    /// Takes an event, if it extends the run.
+    /// Takes an event, if it extends the run of the grammar. After an error the run is as it was.
+    ///
+    /// Errors of a start, in order of trial: `StartedTwice`, `NameBad` (a name has 1 to 64 letters, digits, `_` or `-`), `TooManyInstances`. Of an expansion: `NotStarted`, `UnknownInstance`, `UnknownProduction`, `WrongHead` (the production is not one of the instance's module), `AlreadyExpanded`, `PositionsWrong` (not one name for each position), `NameBad`, `NameTwice` (a name that the run or the event has already), `TooManyInstances`. Last `NoMemory`.
+    ///
+    /// Cost: one look-up for each name of the event, which is also compared with the names before it in the event, at most 63.
     pub fn take(&mut self, g: &Grammar, e: &Event) -> Result<(), RunFault>
         requires { IsRunOf g.now self.old }
         ensures taken { OnOk result (events_of self.new ≡ events_of self.old ++ e.now ∷ []) }
@@ -290,7 +313,13 @@ impl PlainRun {
         None
     }
 
-    fn take_expand(&mut self, g: &Grammar, instance: &[u8], production: u64, names: &[Name]) -> Result<(), RunFault>
+    fn take_expand(
+        &mut self,
+        g: &Grammar,
+        instance: &[u8],
+        production: u64,
+        names: &[Name],
+    ) -> Result<(), RunFault>
         requires { IsRunOf g.now self.old }
         ensures taken { OnOk result (events_of self.new ≡ events_of self.old ++ Expand instance.now production names.now ∷ []) }
         ensures extends { OnOk result (fault_of g.now self.old.most (events_of self.old) (Expand instance.now production names.now) ≡ None) }
@@ -307,7 +336,13 @@ impl PlainRun {
     }
 
     /// The number of the instance that an event may expand.
-    fn place(&self, g: &Grammar, instance: &[u8], production: u64, names: &[Name]) -> Result<u32, RunFault>
+    fn place(
+        &self,
+        g: &Grammar,
+        instance: &[u8],
+        production: u64,
+        names: &[Name],
+    ) -> Result<u32, RunFault>
         requires { IsRunOf g.now self.now }
         ensures refused { IfErr result (λ f. fault_of g.now self.now.most (events_of self.now) (Expand instance.now production names.now) ≡ Some f) }
         ensures extends { OnOk result (fault_of g.now self.now.most (events_of self.now) (Expand instance.now production names.now) ≡ None) }
@@ -353,11 +388,23 @@ impl PlainRun {
         ensures started { OnOk result (self.new ≡ started_table self.old.most «module» name.now) }
         ensures unchanged { OnErr result (self.new ≡ self.old) }
     {
-        plant(self.alloc, &mut self.names, &mut self.instances, module, name)?;
+        plant(
+            self.alloc,
+            &mut self.names,
+            &mut self.instances,
+            module,
+            name,
+        )?;
         Ok(())
     }
 
-    fn expand(&mut self, k: u32, production: ProdNo, names: &[Name], body: &[Position]) -> Result<(), AllocError>
+    fn expand(
+        &mut self,
+        k: u32,
+        production: ProdNo,
+        names: &[Name],
+        body: &[Position],
+    ) -> Result<(), AllocError>
         requires there { k < length self.old.instances }
         requires one_each { length names.now ≡ length body.now }
         requires fresh { some_twice (names_in self.old.instances) names.now ≡ false }
@@ -374,7 +421,15 @@ impl PlainRun {
             first: before as u32,
             count: names.len() as u32,
         };
-        grow(self.alloc, &mut self.names, &mut self.instances, &mut self.order, opened, names, body)?;
+        grow(
+            self.alloc,
+            &mut self.names,
+            &mut self.instances,
+            &mut self.order,
+            opened,
+            names,
+            body,
+        )?;
         Ok(())
     }
 }

@@ -1,4 +1,4 @@
-use Rattle.std.proofs.Common.{◌≡◌, ◌⊎◌, refl, sym, ap, subst, ◌∙◌, arith, take, get_or, inl, inr, ⊎_elim}
+use Rattle.std.proofs.Common.{sym, ap, subst, ◌∙◌, inl, inr, ⊎_elim}
 use Rattle.wf_model.proofs.Lists.{is_at}
 use Rattle.wf_model.specs.Lists.{IsAt}
 use Rattle.wf_model.specs.Faults.{fault_of}

@@ -1,4 +1,4 @@
-use Rattle.std.proofs.Common.{◌≡◌, ◌++◌, take, drop, length}
+use Rattle.std.proofs.Common.{◌≡◌, ◌++◌, take, drop}
 use Rattle.wf_model.specs.Faults.{some_twice}
 use Rattle.wf_flat.proofs.table.repeats.Given as goal
 

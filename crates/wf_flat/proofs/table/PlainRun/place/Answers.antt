@@ -1,9 +1,9 @@
-use Rattle.std.proofs.Common.{◌≡◌, ◌<◌, ◌≤◌, ◌+◌, Bool, true, false, not, refl, ap, sym, subst, ◌∙◌, arith, length, get_or, List, Option, ℕ}
-use Rattle.std.specs.Prelude.{◌==◌, nat_lt}
+use Rattle.std.proofs.Common.{◌<◌, ◌≤◌, ◌+◌, not, refl, ap, sym, subst, ◌∙◌, arith, length}
+use Rattle.std.specs.Prelude.{◌==◌}
 use Rattle.std.proofs.lemmas.List.{length-map}
 use Rattle.wf_model.specs.Meaning.{position_of}
 use Rattle.wf_model.specs.Faults.{some_twice}
-use Rattle.wf_flat.specs.Table.{Table, no_instance, names_in}
+use Rattle.wf_flat.specs.Table.{Table, names_in}
 use Rattle.wf_flat.proofs.Tests.{step, stop, not_nil, unknown, passed_two, passed, until_names, head_read, length_read, below_count, above_count, differ_test, same_test, over_test, under_test, empty_test}
 use Rattle.wf_flat.proofs.table.PlainRun.place.Goals as goal
 
