@@ -3,6 +3,7 @@ use Rattle.std.specs.Prelude.{◌≡◌, ℕ, List, [], ◌∷◌, map, Some, No
 use Prim.Native.String.{String}
 use Rattle.wf_model.specs.Grammar.{Grammar, Assignment, is_given}
 use Rattle.wf_model.specs.View.{View}
+use Rattle.wf_model.specs.DefaultView.{default_view}
 use Rattle.wf_model.specs.declared.event.Event.{Event}
 use Rattle.wf_model.specs.declared.event.Event.TheVariants.{Start, Expand}
 use Rattle.wf_model.specs.Run.{Instance, IsAccepted, seen_in}
@@ -26,9 +27,9 @@ twisting = record {
   given = record { module_no = 2; pairs = (0, 1) ∷ (1, 0) ∷ [] } ∷ record { module_no = 3; pairs = (0, 0) ∷ (1, 1) ∷ [] } ∷ [];
 }
 
--- S and L are expanded; W and T keep the pairs given to them
+-- the default view: S and L are expanded; W and T keep the pairs given to them
 abbrev pub whole_view : View
-whole_view = record { expanded = 0 ∷ 1 ∷ []; shown = [] ∷ [] ∷ ((0, 1) ∷ (1, 0) ∷ []) ∷ ((0, 0) ∷ (1, 1) ∷ []) ∷ [] }
+whole_view = default_view twisting
 
 -- S alone is expanded, and L has all pairs
 abbrev pub outer_view : View
