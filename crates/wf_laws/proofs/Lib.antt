@@ -16,3 +16,5 @@ pub mod Accepted
 pub mod LineGrammar
 pub mod TwistingGrammar
 pub mod Conditions
+pub mod Order
+pub mod Depth

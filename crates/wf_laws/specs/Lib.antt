@@ -3,6 +3,8 @@ pub mod ItemNames
 pub mod Views
 pub mod Conditions
 pub mod Splits
+pub mod Order
+pub mod Depth
 pub mod Examples
 pub mod LineGrammar
 pub mod TwistingGrammar

@@ -1,6 +1,7 @@
 // Laws of runs: which events extend one, how it is finished, and what stays the same as it grows.
 ghost use Rattle.wf_laws.specs.Conditions.{ConditionsLaw};
 ghost use Rattle.wf_laws.specs.Finished.{AllSeenLaw, FinishedLaw, IdleLaw, NoOtherFinishingLaw};
+ghost use Rattle.wf_laws.specs.Order.{OrderLaw};
 ghost use Rattle.wf_model.specs.Faults.{TakingLaw};
 ghost use Rattle.wf_model.specs.Finishing.{FinishingLaw};
 ghost use Rattle.wf_model.specs.Open.{OpenLaw};
@@ -28,6 +29,11 @@ pub fn conditions_law()
 /// The root is seen, the children of an open instance are seen, and nothing else is.
 pub fn open_law()
     ensures { OpenLaw }
+{}
+
+/// Two runs with the same events, in whatever order, have the same instances, links, paths and items, and of them the same are seen, pending and visible.
+pub fn order_law()
+    ensures { OrderLaw }
 {}
 
 /// Each run of a proper grammar can be finished under each view.
