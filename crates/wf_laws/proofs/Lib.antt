@@ -18,3 +18,4 @@ pub mod TwistingGrammar
 pub mod Conditions
 pub mod Order
 pub mod Depth
+pub mod Rename

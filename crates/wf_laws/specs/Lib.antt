@@ -5,6 +5,7 @@ pub mod Conditions
 pub mod Splits
 pub mod Order
 pub mod Depth
+pub mod Rename
 pub mod Examples
 pub mod LineGrammar
 pub mod TwistingGrammar

@@ -2,6 +2,7 @@
 ghost use Rattle.wf_laws.specs.Conditions.{ConditionsLaw};
 ghost use Rattle.wf_laws.specs.Finished.{AllSeenLaw, FinishedLaw, IdleLaw, NoOtherFinishingLaw};
 ghost use Rattle.wf_laws.specs.Order.{OrderLaw};
+ghost use Rattle.wf_laws.specs.Rename.{RenameLaw};
 ghost use Rattle.wf_model.specs.Faults.{TakingLaw};
 ghost use Rattle.wf_model.specs.Finishing.{FinishingLaw};
 ghost use Rattle.wf_model.specs.Open.{OpenLaw};
@@ -34,6 +35,11 @@ pub fn open_law()
 /// Two runs with the same events, in whatever order, have the same instances, links, paths and items, and of them the same are seen, pending and visible.
 pub fn order_law()
     ensures { OrderLaw }
+{}
+
+/// With other names for its instances, different ones for different ones, a run is a run from the same module, with the same links but for the names, in the same order.
+pub fn rename_law()
+    ensures { RenameLaw }
 {}
 
 /// Each run of a proper grammar can be finished under each view.
