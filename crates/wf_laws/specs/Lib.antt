@@ -6,6 +6,8 @@ pub mod Splits
 pub mod Order
 pub mod Depth
 pub mod Rename
+pub mod Chosen
+pub mod NoReturn
 pub mod Examples
 pub mod LineGrammar
 pub mod TwistingGrammar
