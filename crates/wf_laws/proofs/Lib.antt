@@ -19,3 +19,4 @@ pub mod Conditions
 pub mod Order
 pub mod Depth
 pub mod Rename
+pub mod Grown

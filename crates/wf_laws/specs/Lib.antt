@@ -6,6 +6,7 @@ pub mod Splits
 pub mod Order
 pub mod Depth
 pub mod Rename
+pub mod Grown
 pub mod Chosen
 pub mod NoReturn
 pub mod Examples
