@@ -27,11 +27,12 @@ pub record OtherExpansion (g : Grammar) (u : View) (d : Assignment) (Chosen : �
   pub by : IsByOther g u (head_of g p) Chosen p events
   pub joins : (i o : ℕ) → BodyJoins g d p i o ↔ Joins g u (head_of g p) events i o
 
--- Let chosen productions, by which each seen module ends, induce an assignment. Then each seen module has an expansion in which all is chosen, and each production of a seen, expanded module has one that begins with it and in which all else is chosen
+-- The two kinds of expansions. Each seen module has one in which all is chosen, and each production of a seen, expanded module has one that begins with it
 pub record HasBothExpansions (g : Grammar) (u : View) (d : Assignment) (choice : List (ℕ × ℕ)) : Type 0 where
   pub chosen : (m : ℕ) → IsSeenModule g u m → ChosenExpansion g u d (IsChosen choice) m
   pub other : (p : ℕ) → p < length g.productions → IsSeenModule g u (head_of g p) → IsTrue (expands u (head_of g p)) → OtherExpansion g u d (IsChosen choice) p
 
+-- where chosen productions, by which each seen module ends, induce an assignment, there are expansions of both kinds
 abbrev pub ChosenLaw : Type 0
 ChosenLaw =
     (g : Grammar) (u : View) (d : Assignment) (choice : List (ℕ × ℕ)) → IsWellFormed g →

@@ -39,16 +39,19 @@ shut_view = record { expanded = []; shown = ((0, 0) ∷ []) ∷ ((0, 0) ∷ []) 
 abbrev pub events : List Event
 events = Start (codes "r") ∷ Expand (codes "r") 0 (codes "i1" ∷ codes "i2" ∷ []) ∷ []
 
--- its items: the input and the output of r, and the edge from i1 to i2
+-- its items: the input of r
 abbrev pub r_a : Item
 r_a = record { name = codes "r.a"; maker = None; produced = None; consumed = Some (into "r" 0) }
 
+-- the output of r
 abbrev pub r_b : Item
 r_b = record { name = codes "r.b"; maker = None; produced = Some (out "r" 0); consumed = None }
 
+-- the edge from i1 to i2
 abbrev pub i1_y : Item
 i1_y = record { name = codes "i1.y"; maker = Some (codes "r"); produced = Some (out "i1" 0); consumed = Some (into "i2" 0) }
 
+-- the grammar, the run, its links and items, and which item depends on which
 pub record LineGrammarIsWorked : Type 0 where
   pub well_formed : IsWellFormed line
   pub proper : IsProper line
