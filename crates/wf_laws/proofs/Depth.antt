@@ -5,12 +5,11 @@ use Rattle.wf_model.specs.Grammar.{Grammar}
 use Rattle.wf_model.specs.View.{View}
 use Rattle.wf_model.specs.declared.event.Event.{Event}
 use Rattle.wf_model.specs.declared.event.Event.TheVariants.{Start, Expand}
-use Rattle.wf_model.specs.Run.{Instance, Expanded, made, names_of, expanded_by, CanExpand, Extends, AllExtend, IsRun, root_of}
+use Rattle.wf_model.specs.Run.{Expanded, made, names_of, expanded_by, CanExpand, AllExtend, IsRun, root_of}
 use Rattle.wf_model.specs.Reach.{Step}
 use Rattle.wf_model.specs.Routes.{IsAddress}
 use Rattle.wf_model.proofs.Lists.{same_bytes, bytes_same, is_at, at_in}
-use Rattle.wf_model.proofs.Runs.{expansion_later, expansion_other, expansion_start, name_in, name_kept, IsState, run_state}
-use Rattle.wf_model.proofs.Level.{opening}
+use Rattle.wf_model.proofs.Runs.{expansion_later, expansion_other, name_in, run_state}
 use Rattle.wf_model.proofs.Taking.{extended}
 use Rattle.wf_laws.specs.Depth.{DepthLaw}
 

@@ -1,18 +1,18 @@
 -- What is there in a run stays as it was in each run that goes on from it.
-use Rattle.std.proofs.Common.{◌≡◌, ℕ, ◌↔◌, ◌&&◌, ◌||◌, Bool, true, false, cond, IsTrue, List, [], ◌∷◌, ◌++◌, bytes_eq, Option, Some, None, refl, sym, ap, ◌∙◌, subst, inl, inr, ⊎_elim, true≢false, append_assoc, append-nil}
+use Rattle.std.proofs.Common.{◌≡◌, ℕ, ◌↔◌, ◌&&◌, IsTrue, List, [], ◌∷◌, ◌++◌, bytes_eq, Option, Some, None, refl, sym, subst, ⊎_elim}
 use Rattle.std.proofs.lemmas.Bool.{and_parts}
 use Rattle.std.proofs.lemmas.List.Concat.{flat_map-append}
-use Rattle.wf_model.specs.Lists.{IsIn, some}
+use Rattle.wf_model.specs.Lists.{IsIn}
 use Rattle.wf_model.specs.Grammar.{Grammar, body_of}
 use Rattle.wf_model.specs.View.{View, expands}
 use Rattle.wf_model.specs.declared.event.Event.{Event}
 use Rattle.wf_model.specs.declared.event.Event.TheVariants.{Start, Expand}
-use Rattle.wf_model.specs.Run.{Instance, Expanded, named, made_by, made, names_of, expanded_by, Extends, AllExtend, IsRun, opens, newly_seen, see_all, seen_in}
+use Rattle.wf_model.specs.Run.{Instance, made, names_of, Extends, AllExtend, IsRun, opens, newly_seen, see_all, seen_in}
 use Rattle.wf_model.specs.Items.{Item, items_by, items, IsVisible, IsMadeOpen}
 use Rattle.wf_model.proofs.Lists.{in_append_left, in_append_cases, some_from, some_gives, same_bytes}
 use Rattle.wf_model.proofs.Runs.{made-append, named_names, name_in, name_kept, see_all-append, AllExtend-append, expansion_kept, newly-made}
 use Rattle.wf_model.proofs.Open.{maker_made}
-use Rattle.wf_laws.specs.Grown.{StaysAsItWas, GrownLaw}
+use Rattle.wf_laws.specs.Grown.{GrownLaw}
 
 module _ (g : Grammar) (u : View) (m : ℕ) where
   -- what comes into sight has a new name

@@ -2,7 +2,7 @@
 use Rattle.std.proofs.Common.{◌≡◌, ◌↔◌, IsTrue, ℕ, zero, suc, ◌<◌, ◌≤◌, ◌⊎◌, true, false, List, [], ◌∷◌, length, codes, get_or, ap, subst, refl, sym, ◌∙◌, inl, inr, ⊎_elim, arith, lit<, lit≤, ◌≢◌, count_by, true≢false, bytes_eq}
 use Rattle.wf_model.proofs.Lists.{same_bytes, bytes_same}
 use Rattle.wf_model.specs.Lists.{IsIn, IsAt, Walk, here, onward}
-use Rattle.wf_model.specs.Grammar.{Position, Inner, Edge, Assignment, inputs_of, outputs_of, head_of, body_of, IsProductionOf, IsAtomic}
+use Rattle.wf_model.specs.Grammar.{Position, Inner, Edge, inputs_of, outputs_of, head_of, body_of, IsProductionOf, IsAtomic}
 use Rattle.wf_model.specs.WellFormed.{IsWellFormed, IsWellFormedBody, IsWellFormedModule, IsShortName, IsInnerInput, IsInnerOutput, IsFollowedBy, same_inner}
 use Rattle.wf_model.specs.declared.event.Event.TheVariants.{Start, Expand}
 use Rattle.wf_model.specs.Run.{IsName, IsAccepted}

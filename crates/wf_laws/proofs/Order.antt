@@ -1,18 +1,18 @@
 -- Runs with the same events in another order have the same instances, links and items.
-use Rattle.std.proofs.Common.{◌≡◌, ◌≢◌, ℕ, ◌<◌, ◌↔◌, ◌&&◌, Bool, true, false, cond, IsTrue, List, [], ◌∷◌, ◌++◌, length, get_or, bytes_eq, Option, Some, None, refl, sym, ap, ◌∙◌, subst, inl, inr, ⊎_elim, append_assoc}
-use Rattle.wf_model.specs.Lists.{IsIn, some}
-use Rattle.wf_model.specs.Grammar.{Grammar, Assignment, head_of}
+use Rattle.std.proofs.Common.{◌≡◌, ◌≢◌, ℕ, ◌↔◌, ◌&&◌, Bool, true, false, cond, IsTrue, List, [], ◌∷◌, ◌++◌, get_or, bytes_eq, Option, Some, None, refl, sym, ap, ◌∙◌, subst, inl, inr, append_assoc}
+use Rattle.wf_model.specs.Lists.{IsIn}
+use Rattle.wf_model.specs.Grammar.{Grammar, Assignment}
 use Rattle.wf_model.specs.View.{View, expands}
 use Rattle.wf_model.specs.declared.event.Event.{Event}
 use Rattle.wf_model.specs.declared.event.Event.TheVariants.{Start, Expand}
 use Rattle.wf_model.specs.Run.{Instance, Expanded, made_by, made, expanded_by, Extends, AllExtend, IsRun, opens, seen_in, IsPending, root_of}
 use Rattle.wf_model.specs.Links.{Port, Link, pair_links, opened_links, links_of, links_with, IsLinked, Path}
-use Rattle.wf_model.specs.Reach.{Step, module_along, IsAlong}
-use Rattle.wf_model.specs.Items.{Item, items_by, items, IsVisible, IsMadeOpen}
+use Rattle.wf_model.specs.Reach.{Step, IsAlong}
+use Rattle.wf_model.specs.Items.{Item, items_by, items, IsMadeOpen}
 use Rattle.wf_model.proofs.Lists.{in_flat_map, in_flat_map_from, some_from, some_gives, same_bytes, bytes_same}
 use Rattle.wf_model.proofs.Runs.{expansion_kept, expansion_later}
 use Rattle.wf_model.proofs.Walks.{walk_through, walk_one}
-use Rattle.wf_laws.specs.Order.{HaveTheSame, OrderLaw}
+use Rattle.wf_laws.specs.Order.{OrderLaw}
 use Rattle.wf_laws.proofs.Address.{seen_law}
 
 -- what tells how an instance is expanded is an event

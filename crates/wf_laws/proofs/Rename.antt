@@ -1,18 +1,17 @@
 -- A run with other names of instances is a run, and is the same but for the names.
-use Rattle.std.proofs.Common.{◌≡◌, ℕ, zero, suc, ◌<◌, ◌↔◌, ◌&&◌, ◌||◌, Bool, true, false, cond, IsTrue, List, [], ◌∷◌, ◌++◌, map, length, flat_map, get_or, bytes_eq, Option, Some, None, refl, sym, ap, ◌∙◌, subst, inl, inr, ⊎_elim, arith, true≢false, append-nil, append_assoc}
+use Rattle.std.proofs.Common.{◌≡◌, ℕ, zero, suc, ◌<◌, ◌↔◌, ◌&&◌, ◌||◌, Bool, true, false, cond, List, [], ◌∷◌, ◌++◌, map, length, flat_map, get_or, bytes_eq, Option, Some, None, refl, sym, ap, ◌∙◌, subst, inl, inr, arith}
 use Rattle.std.proofs.lemmas.List.{map-append, length-map}
 use Rattle.wf_model.specs.Lists.{IsIn, AllDiffer, some, numbers_from}
-use Rattle.wf_model.specs.Grammar.{Grammar, Assignment, inputs_of, outputs_of, head_of, body_of}
+use Rattle.wf_model.specs.Grammar.{Grammar, Assignment, inputs_of, outputs_of, body_of}
 use Rattle.wf_model.specs.WellFormed.{IsWellFormed}
 use Rattle.wf_model.specs.View.{View, expands}
 use Rattle.wf_model.specs.declared.event.Event.{Event}
 use Rattle.wf_model.specs.declared.event.Event.TheVariants.{Start, Expand}
-use Rattle.wf_model.specs.Run.{Instance, Expanded, IsName, named, made_by, made, names_of, expanded_by, CanExpand, Extends, AllExtend, IsRun, opens, newly_seen, see_all, seen_in, IsPending}
-use Rattle.wf_model.specs.Links.{Port, Link, input, output, wiring, pair_links, instance_at, move_port, move_link, opened_links, links_of, links_with}
+use Rattle.wf_model.specs.Run.{Instance, Expanded, IsName, named, made_by, made, names_of, expanded_by, Extends, AllExtend, IsRun, opens, newly_seen, see_all, seen_in, IsPending}
+use Rattle.wf_model.specs.Links.{Port, Link, input, output, wiring, pair_links, instance_at, move_link, opened_links, links_of, links_with}
 use Rattle.wf_model.proofs.Lists.{in_map, in_map_from, same_bytes, bytes_same, at_below}
-use Rattle.wf_model.proofs.Runs.{name_in, name_from}
 use Rattle.wf_model.proofs.Level.{opening, wiring_from, wiring_to, IsSource, IsTarget}
-use Rattle.wf_laws.specs.Rename.{rename_event, rename_instance, IsRenaming, IsRenamed, RenameLaw}
+use Rattle.wf_laws.specs.Rename.{rename_event, rename_instance, IsRenaming, RenameLaw}
 
 map_same : {A B : Type 0} (h k : A → B) (xs : List A) → ((x : A) → IsIn x xs → h x ≡ k x) → map h xs ≡ map k xs
 map_same h k [] e = refl

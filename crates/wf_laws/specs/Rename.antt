@@ -1,6 +1,5 @@
 -- The law of renaming: what a run is and what it links does not hang on the names of its instances.
 use Rattle.std.specs.Prelude.{◌≡◌, ◌↔◌, ℕ, List, map}
-use Rattle.wf_model.specs.Lists.{IsIn}
 use Rattle.wf_model.specs.Grammar.{Grammar, Assignment}
 use Rattle.wf_model.specs.WellFormed.{IsWellFormed}
 use Rattle.wf_model.specs.View.{View}
