@@ -20,3 +20,4 @@ pub mod Order
 pub mod Depth
 pub mod Rename
 pub mod Grown
+pub mod Alike

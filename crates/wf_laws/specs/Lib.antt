@@ -7,6 +7,7 @@ pub mod Order
 pub mod Depth
 pub mod Rename
 pub mod Grown
+pub mod Alike
 pub mod Chosen
 pub mod NoReturn
 pub mod Examples

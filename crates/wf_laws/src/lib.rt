@@ -10,8 +10,8 @@ mod views;
 
 pub use addresses::{address_law, depth_law, routes_law, seen_law};
 pub use examples::{line_grammar_is_worked, twisting_grammar_is_worked};
-pub use items::{depends_law, item_names_law, items_law, visible_law};
-pub use paths::{crossing_law, no_return_law, pending_law, splits_law};
+pub use items::{alike_law, depends_law, item_names_law, items_law, visible_law};
+pub use paths::{crossing_law, no_return_law, own_pairs_law, pending_law, splits_law};
 pub use runs::{
     all_seen_law, conditions_law, finished_law, finishing_law, grown_law, idle_law,
     no_other_finishing_law, open_law, order_law, rename_law, sub_run_law, taking_law,
