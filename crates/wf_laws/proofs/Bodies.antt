@@ -7,6 +7,7 @@ use Rattle.wf_model.specs.declared.numbers.Side.TheVariants.{Input, Output}
 use Rattle.wf_model.specs.Links.{Port, Link, input, output, edge_link, entry_links, exit_links, wiring, place_links, body_links, IsLinked, Path}
 use Rattle.wf_model.proofs.Lists.{in_append_cases, in_map_from}
 use Rattle.wf_model.proofs.Level.{in_entry_links, in_exit_links, pair_links_from, place_links_from}
+use Rattle.wf_laws.specs.NoReturn.{NoReturnLaw}
 
 -- the four kinds of links of a body
 abbrev pub Kinds : Grammar → ℕ → Port (Option ℕ) → Port (Option ℕ) → Type 0
@@ -72,3 +73,6 @@ module _ (g : Grammar) (d : Assignment) (p : ℕ) where
 
   pub no_return : IsWellFormedBody g p → (k j i : ℕ) → Path (body_links g d p) (output (Some k) j) (input (Some k) i) → ⊥
   no_return wf k j i w = let f = from_output w k j k i refl refl in wf.acyclic k f.0 f.1 f.2
+
+pub no_return_law : NoReturnLaw
+no_return_law g d p wf k j i w = no_return g d p wf k j i w

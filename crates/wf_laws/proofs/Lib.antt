@@ -16,3 +16,8 @@ pub mod Accepted
 pub mod LineGrammar
 pub mod TwistingGrammar
 pub mod Conditions
+pub mod Order
+pub mod Depth
+pub mod Rename
+pub mod Grown
+pub mod Alike

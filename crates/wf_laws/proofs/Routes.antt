@@ -202,7 +202,7 @@ grow g m (s ∷ a) e i run here route fits = ⊎_elim (shut (grow g m a)) (opene
         λ j z q. first_of_way p new ((e ++ ev ∷ []) ++ r.0) j z q (bytes_eq i.name j) refl in
         let done : IsGrown e ((e ++ ev ∷ []) ++ r.0) i.name (s ∷ a) = record {
           has = (r.2.has.0, (new, kept, hk, r.2.has.1));
-          only = λ j y h. ⊎_elim (λ z. old j z.0 z.1) (λ z. inr (s ∷ z.0, z.1, z.2, ap (λ l. s ∷ l) z.3, (new, kept, hk, z.4))) (r.2.only j y h);
+          only = λ j y h. ⊎_elim (λ z. old j z.0 z.1) (λ z. inr (s ∷ z.0, z.1, z.2, ap (λ l. s ∷ l) {y = z.0 ++ z.1 ∷ z.2} z.3, (new, kept, hk, z.4))) (r.2.only j y h);
         } in
         (ev ∷ r.0, (can, r.1), subst (λ l. IsGrown e l i.name (s ∷ a)) (append_assoc e (ev ∷ []) r.0) done)
       where
@@ -223,7 +223,7 @@ grow g m (s ∷ a) e i run here route fits = ⊎_elim (shut (grow g m a)) (opene
           r.1,
           record {
             has = (r.2.has.0, (f.0, kept, hk, r.2.has.1));
-            only = λ j y h. ⊎_elim (λ z. inl z) (λ z. inr (s ∷ z.0, z.1, z.2, ap (λ l. s ∷ l) z.3, (f.0, kept, hk, z.4))) (r.2.only j y h);
+            only = λ j y h. ⊎_elim (λ z. inl z) (λ z. inr (s ∷ z.0, z.1, z.2, ap (λ l. s ∷ l) {y = z.0 ++ z.1 ∷ z.2} z.3, (f.0, kept, hk, z.4))) (r.2.only j y h);
           },
         )
 

@@ -1,7 +1,7 @@
 -- A view is safe exactly if every production passes its test.
-use Rattle.std.proofs.Common.{◌≡◌, ℕ, ◌<◌, ◌⊎◌, ◌↔◌, true, List, [], ◌∷◌, length, Option, Some, None, refl, sym, ap, ◌∙◌, subst, inl, inr, ⊎_elim, arith}
+use Rattle.std.proofs.Common.{◌≡◌, ℕ, ◌<◌, ◌⊎◌, ◌↔◌, true, IsTrue, List, [], ◌∷◌, length, Option, Some, None, refl, sym, ap, ◌∙◌, subst, inl, inr, ⊎_elim, arith}
 use Rattle.wf_model.specs.Lists.{IsIn, AllDiffer}
-use Rattle.wf_model.specs.Grammar.{Grammar, Assignment, head_of, body_of}
+use Rattle.wf_model.specs.Grammar.{Grammar, Assignment, inputs_of, outputs_of, head_of, body_of}
 use Rattle.wf_model.specs.WellFormed.{IsWellFormed}
 use Rattle.wf_model.specs.View.{View, expands, IsSeenModule, in_body}
 use Rattle.wf_model.specs.declared.event.Event.{Event}
@@ -12,6 +12,7 @@ use Rattle.wf_model.specs.Safe.{IsExpansion, Joins, BodyJoins, IsSafe, IsInduced
 use Rattle.wf_model.specs.SubRun.{is_among}
 use Rattle.wf_model.proofs.Lists.{in_append_left, in_append_cases, in_filter_from, among_gives, at_in, is_at}
 use Rattle.wf_model.proofs.Runs.{named_names, names-named, run_state, expansion_other, at_named}
+use Rattle.wf_laws.specs.Chosen.{IsByOther, ChosenLaw}
 use Rattle.wf_laws.proofs.Parts.{child, opened_run}
 use Rattle.wf_laws.proofs.Root.{kid_module, kid_run, kid_law, kid_follows, root_apart}
 use Rattle.wf_laws.proofs.Safe.{KidsJoin, open_joins, agrees, passes_by, filled_expansion, one_test_suffices}
@@ -63,6 +64,7 @@ module _ (g : Grammar) (u : View) (d : Assignment) (Chosen : ℕ → ℕ → Typ
   record OtherRun (p : ℕ) : Type 0 where
     events : List Event
     expansion_of : IsExpansion g u (head_of g p) events
+    by : IsByOther g u (head_of g p) Chosen p events
     joins : (i o : ℕ) → BodyJoins g d p i o ↔ Joins g u (head_of g p) events i o
 
   other_run : (p : ℕ) → p < length g.productions → IsSeenModule g u (head_of g p) → expands u (head_of g p) ≡ true → OtherRun p
@@ -131,8 +133,16 @@ module _ (g : Grammar) (u : View) (d : Assignment) (Chosen : ℕ → ℕ → Typ
           record {
             events = opened_run first_name p new r.0;
             expansion_of = record { run = run; started = λ e. (cc); finished = fin };
+            by = record {
+              root = λ x h. let z : Some (record { production = p; names = new }) ≡ Some x = sym told ∙ h in
+                  let e : ◌≡◌ {A = Expanded} (record { production = p; names = new }) x = cc in ap (λ (y : Expanded). y.production) (sym e);
+              others = λ j q other e x h. ⊎_elim (λ z. absurd (other (ap (λ (k : Instance). k.name) z))) (λ st. settled_by g u Chosen (opened_run first_name p new r.0) j st e x h) (below j q);
+            };
             joins = λ i o. open_joins g u (perceived u) d first_name p new r.0 wf run ex kids i o;
           }
+
+  chosen_agrees : (m : ℕ) → IsSeenModule g u m → (a : ChosenRun g u Chosen m) → (i o : ℕ) → i < inputs_of g m → o < outputs_of g m → IsTrue (d m i o) ↔ Joins g u m a.events i o
+  chosen_agrees m seen a i o hi ho = agrees g u (perceived u) Chosen d wf (passes_by g u Chosen d ind) (length a.events) m seen a.events (omega arith) (filled_expansion g u d m a.events a.expansion_of) a.by i o hi ho
 
   safe_induced : IsSafe g u → IsInduced g u d
   safe_induced safe = record {
@@ -141,7 +151,7 @@ module _ (g : Grammar) (u : View) (d : Assignment) (Chosen : ℕ → ℕ → Typ
         let n = ends (head_of g p) seen in
         let a = chosen_run g u Chosen n.0 (head_of g p) n.1 in
         let b = other_run p hp seen ex in
-        let ag = agrees g u (perceived u) Chosen d wf (passes_by g u Chosen d ind) (length a.events) (head_of g p) seen a.events (omega arith) (filled_expansion g u d (head_of g p) a.events a.expansion_of) a.by i o hi ho in
+        let ag = chosen_agrees (head_of g p) seen a i o hi ho in
         let jo = b.joins i o in (
           (λ t. jo.1 (safe (head_of g p) seen a.events b.events a.expansion_of b.expansion_of i o hi ho (ag.0 t))),
           (λ w. ag.1 (safe (head_of g p) seen b.events a.events b.expansion_of a.expansion_of i o hi ho (jo.0 w))),
@@ -155,3 +165,12 @@ safety_law g u d choice wf ends ind = (
       let full = one_test_suffices g u d wf all m seen in
       (full f y i o hi ho).0 ((full e x i o hi ho).1 w)),
 )
+
+pub chosen_law : ChosenLaw
+chosen_law g u d choice wf ends ind = record {
+  chosen = λ m seen. let n = ends m seen in
+      let a = chosen_run g u (IsChosen choice) n.0 m n.1 in
+      record { events = a.events; expansion_of = a.expansion_of; by = a.by; joins = chosen_agrees g u d (IsChosen choice) wf ends ind m seen a };
+  other = λ p hp seen ex. let b = other_run g u d (IsChosen choice) wf ends ind p hp seen ex in
+      record { events = b.events; expansion_of = b.expansion_of; by = b.by; joins = b.joins };
+}

@@ -20,10 +20,11 @@ port k i = record { position = k; port = i }
 abbrev pub edge : ℕ → ℕ → ℕ → ℕ → Edge
 edge k i l j = record { from = port k i; to = port l j }
 
--- an input and an output of an instance
+-- an input of an instance
 abbrev pub into : String → ℕ → Port (List ℕ)
 into n i = input (codes n) i
 
+-- an output of an instance
 abbrev pub out : String → ℕ → Port (List ℕ)
 out n i = output (codes n) i
 

@@ -3,6 +3,13 @@ pub mod ItemNames
 pub mod Views
 pub mod Conditions
 pub mod Splits
+pub mod Order
+pub mod Depth
+pub mod Rename
+pub mod Grown
+pub mod Alike
+pub mod Chosen
+pub mod NoReturn
 pub mod Examples
 pub mod LineGrammar
 pub mod TwistingGrammar

@@ -1,13 +1,16 @@
 -- The line grammar: S is expanded to a P and a Q, one after the other. A run of it, its links and its dependencies.
-use Rattle.std.specs.Prelude.{◌≡◌, List, [], ◌∷◌, Some, None, codes}
-use Rattle.wf_model.specs.Grammar.{Grammar}
+use Rattle.std.specs.Prelude.{◌≡◌, true, List, [], ◌∷◌, Some, None, codes}
+use Rattle.wf_model.specs.Grammar.{Grammar, Assignment}
 use Rattle.wf_model.specs.WellFormed.{IsWellFormed}
+use Rattle.wf_model.specs.Proper.{IsProper}
+use Rattle.wf_model.specs.Linear.{IsLinear}
 use Rattle.wf_model.specs.View.{View}
+use Rattle.wf_model.specs.DefaultView.{default_view}
 use Rattle.wf_model.specs.declared.event.Event.{Event}
 use Rattle.wf_model.specs.declared.event.Event.TheVariants.{Start, Expand}
 use Rattle.wf_model.specs.Run.{IsAccepted}
 use Rattle.wf_model.specs.Links.{links}
-use Rattle.wf_model.specs.Safe.{IsExpansion}
+use Rattle.wf_model.specs.Safe.{IsExpansion, IsFull}
 use Rattle.wf_model.specs.Items.{Item, items, Depends}
 use Rattle.wf_laws.specs.Examples.{a_module, at, port, edge, into, out, link}
 
@@ -20,9 +23,13 @@ line = record {
   given = [];
 }
 
--- S is expanded; P and Q have all pairs
+-- the default view: S is expanded; P and Q have all pairs
 abbrev pub whole_view : View
-whole_view = record { expanded = 0 ∷ []; shown = [] ∷ ((0, 0) ∷ []) ∷ ((0, 0) ∷ []) ∷ [] }
+whole_view = record { expanded = 0 ∷ []; shown = ((0, 0) ∷ []) ∷ ((0, 0) ∷ []) ∷ ((0, 0) ∷ []) ∷ [] }
+
+-- every pair of every module
+abbrev pub all_pairs : Assignment
+all_pairs m i o = true
 
 -- nothing is expanded
 abbrev pub shut_view : View
@@ -32,18 +39,26 @@ shut_view = record { expanded = []; shown = ((0, 0) ∷ []) ∷ ((0, 0) ∷ []) 
 abbrev pub events : List Event
 events = Start (codes "r") ∷ Expand (codes "r") 0 (codes "i1" ∷ codes "i2" ∷ []) ∷ []
 
--- its items: the input and the output of r, and the edge from i1 to i2
+-- its items: the input of r
 abbrev pub r_a : Item
 r_a = record { name = codes "r.a"; maker = None; produced = None; consumed = Some (into "r" 0) }
 
+-- the output of r
 abbrev pub r_b : Item
 r_b = record { name = codes "r.b"; maker = None; produced = Some (out "r" 0); consumed = None }
 
+-- the edge from i1 to i2
 abbrev pub i1_y : Item
 i1_y = record { name = codes "i1.y"; maker = Some (codes "r"); produced = Some (out "i1" 0); consumed = Some (into "i2" 0) }
 
+-- the grammar, the run, its links and items, and which item depends on which
 pub record LineGrammarIsWorked : Type 0 where
   pub well_formed : IsWellFormed line
+  pub proper : IsProper line
+  pub linear : IsLinear line
+  pub default : default_view line ≡ whole_view
+  -- each of S, P and Q joins its input to its output in all expansions
+  pub full : IsFull line whole_view all_pairs
   pub accepted : IsAccepted line 3 events
   pub expansion : IsExpansion line whole_view 0 events
   pub items_are : items line 0 events ≡ r_a ∷ r_b ∷ i1_y ∷ []

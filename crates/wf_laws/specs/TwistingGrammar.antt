@@ -3,6 +3,7 @@ use Rattle.std.specs.Prelude.{◌≡◌, ℕ, List, [], ◌∷◌, map, Some, No
 use Prim.Native.String.{String}
 use Rattle.wf_model.specs.Grammar.{Grammar, Assignment, is_given}
 use Rattle.wf_model.specs.View.{View}
+use Rattle.wf_model.specs.DefaultView.{default_view}
 use Rattle.wf_model.specs.declared.event.Event.{Event}
 use Rattle.wf_model.specs.declared.event.Event.TheVariants.{Start, Expand}
 use Rattle.wf_model.specs.Run.{Instance, IsAccepted, seen_in}
@@ -11,6 +12,7 @@ use Rattle.wf_model.specs.Safe.{IsExpansion, BodyJoins}
 use Rattle.wf_model.specs.Items.{Item, items, IsVisible, Depends}
 use Rattle.wf_laws.specs.Examples.{a_module, at, port, edge, into, out}
 
+-- two names
 abbrev pub two : String → String → List (List ℕ)
 two a b = codes a ∷ codes b ∷ []
 
@@ -26,9 +28,9 @@ twisting = record {
   given = record { module_no = 2; pairs = (0, 1) ∷ (1, 0) ∷ [] } ∷ record { module_no = 3; pairs = (0, 0) ∷ (1, 1) ∷ [] } ∷ [];
 }
 
--- S and L are expanded; W and T keep the pairs given to them
+-- the default view: S and L are expanded; W and T keep the pairs given to them
 abbrev pub whole_view : View
-whole_view = record { expanded = 0 ∷ 1 ∷ []; shown = [] ∷ [] ∷ ((0, 1) ∷ (1, 0) ∷ []) ∷ ((0, 0) ∷ (1, 1) ∷ []) ∷ [] }
+whole_view = default_view twisting
 
 -- S alone is expanded, and L has all pairs
 abbrev pub outer_view : View
@@ -44,16 +46,19 @@ events =
     Expand (codes "l2") 1 (codes "w2" ∷ codes "l3" ∷ codes "v2" ∷ []) ∷
     Expand (codes "l3") 2 (codes "t" ∷ []) ∷ []
 
--- an input and an output of the root r, and the item of an edge, made by an instance
+-- the item of an input of the root r
 abbrev pub root_input : String → ℕ → Item
 root_input n k = record { name = codes n; maker = None; produced = None; consumed = Some (into "r" k) }
 
+-- the item of an output of the root r
 abbrev pub root_output : String → ℕ → Item
 root_output n k = record { name = codes n; maker = None; produced = Some (out "r" k); consumed = None }
 
+-- the item of an edge, made by an instance
 abbrev pub edge_made_by : String → String → Port (List ℕ) → Port (List ℕ) → Item
 edge_made_by i n x y = record { name = codes n; maker = Some (codes i); produced = Some x; consumed = Some y }
 
+-- the items that are asked for; first three ports of the root
 abbrev pub r_a1 : Item
 r_a1 = root_input "r.a1" 0
 
@@ -63,6 +68,7 @@ r_b1 = root_output "r.b1" 0
 abbrev pub r_b2 : Item
 r_b2 = root_output "r.b2" 1
 
+-- edges of l0: from w0 to l1, and from l1 to v0
 abbrev pub w0_y1 : Item
 w0_y1 = edge_made_by "l0" "w0.y1" (out "w0" 0) (into "l1" 0)
 
@@ -75,6 +81,7 @@ l1_y1 = edge_made_by "l0" "l1.y1" (out "l1" 0) (into "v0" 0)
 abbrev pub l1_y2 : Item
 l1_y2 = edge_made_by "l0" "l1.y2" (out "l1" 1) (into "v0" 1)
 
+-- edges of l1: from w1 to l2, and from l2 to v1
 abbrev pub w1_y1 : Item
 w1_y1 = edge_made_by "l1" "w1.y1" (out "w1" 0) (into "l2" 0)
 
@@ -87,6 +94,7 @@ l2_y1 = edge_made_by "l1" "l2.y1" (out "l2" 0) (into "v1" 0)
 abbrev pub l2_y2 : Item
 l2_y2 = edge_made_by "l1" "l2.y2" (out "l2" 1) (into "v1" 1)
 
+-- an edge of l2: from w2 to l3
 abbrev pub w2_y1 : Item
 w2_y1 = edge_made_by "l2" "w2.y1" (out "w2" 0) (into "l3" 0)
 
@@ -94,6 +102,7 @@ w2_y1 = edge_made_by "l2" "w2.y1" (out "w2" 0) (into "l3" 0)
 abbrev pub straight : Assignment
 straight m i o = is_given (record { module_no = 0; pairs = (0, 0) ∷ (1, 1) ∷ [] } ∷ record { module_no = 1; pairs = (0, 0) ∷ (1, 1) ∷ [] } ∷ twisting.given) m i o
 
+-- the run, the links of one body, the items, and which of them depends on which
 pub record TwistingGrammarIsWorked : Type 0 where
   pub accepted : IsAccepted twisting 12 events
   pub expansion : IsExpansion twisting whole_view 0 events

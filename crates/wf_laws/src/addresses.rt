@@ -1,4 +1,5 @@
 // Laws of addresses: the lists of steps that lead from the root of a run to its instances.
+ghost use Rattle.wf_laws.specs.Depth.{DepthLaw};
 ghost use Rattle.wf_model.specs.Address.{SeenLaw};
 ghost use Rattle.wf_model.specs.Routes.{AddressLaw, RoutesLaw};
 
@@ -12,6 +13,11 @@ pub fn seen_law()
 /// Source of the idea: Bao, Davidson, Milo, "Labeling Recursive Workflow Executions On-the-Fly", SIGMOD 2011 (labels that name the derivation of a vertex).
 pub fn address_law()
     ensures { AddressLaw }
+{}
+
+/// An address has at most as many steps as the run has expand events.
+pub fn depth_law()
+    ensures { DepthLaw }
 {}
 
 /// Two lists of steps are addresses of one run wherever they name one production for each instance that both leave.

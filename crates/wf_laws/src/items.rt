@@ -1,4 +1,5 @@
 // Laws of items: their names, their addresses, and how one depends on another.
+ghost use Rattle.wf_laws.specs.Alike.{AlikeLaw};
 ghost use Rattle.wf_laws.specs.ItemNames.{ItemNamesLaw};
 ghost use Rattle.wf_model.specs.Depends.{DependsLaw, ItemsLaw};
 ghost use Rattle.wf_model.specs.Open.{VisibleLaw};
@@ -23,4 +24,11 @@ pub fn items_law()
 /// Source of the idea: Bao, Davidson, Milo, "Labeling Workflow Views with Fine-Grained Dependencies", VLDB 2012 (view-adaptive labels of data).
 pub fn depends_law()
     ensures { DependsLaw }
+{}
+
+/// Two items of a finished run depend on one another exactly if two items at the same addresses do so in any other finished run.
+///
+/// So the answer for two addresses rests on no run.
+pub fn alike_law()
+    ensures { AlikeLaw }
 {}

@@ -1,6 +1,9 @@
 // Laws of runs: which events extend one, how it is finished, and what stays the same as it grows.
 ghost use Rattle.wf_laws.specs.Conditions.{ConditionsLaw};
 ghost use Rattle.wf_laws.specs.Finished.{AllSeenLaw, FinishedLaw, IdleLaw, NoOtherFinishingLaw};
+ghost use Rattle.wf_laws.specs.Grown.{GrownLaw};
+ghost use Rattle.wf_laws.specs.Order.{OrderLaw};
+ghost use Rattle.wf_laws.specs.Rename.{RenameLaw};
 ghost use Rattle.wf_model.specs.Faults.{TakingLaw};
 ghost use Rattle.wf_model.specs.Finishing.{FinishingLaw};
 ghost use Rattle.wf_model.specs.Open.{OpenLaw};
@@ -28,6 +31,21 @@ pub fn conditions_law()
 /// The root is seen, the children of an open instance are seen, and nothing else is.
 pub fn open_law()
     ensures { OpenLaw }
+{}
+
+/// Two runs with the same events, in whatever order, have the same instances, links, paths and items, and of them the same are seen, pending and visible.
+pub fn order_law()
+    ensures { OrderLaw }
+{}
+
+/// With other names for its instances, different ones for different ones, a run is a run from the same module, with the same links but for the names, in the same order.
+pub fn rename_law()
+    ensures { RenameLaw }
+{}
+
+/// In each run that goes on from a run, the instances and items of the first are there as they were: seen or not, expanded as they were, and visible or not.
+pub fn grown_law()
+    ensures { GrownLaw }
 {}
 
 /// Each run of a proper grammar can be finished under each view.

@@ -1,4 +1,5 @@
 // Laws of views: the default one, and safe ones.
+ghost use Rattle.wf_laws.specs.Chosen.{ChosenLaw};
 ghost use Rattle.wf_laws.specs.Views.{DefaultViewLaw};
 ghost use Rattle.wf_model.specs.Safe.{OneTestSuffices, SafetyLaw};
 
@@ -15,6 +16,13 @@ pub fn default_view_law()
 /// Source of the idea: Bao, Davidson, Milo, "Labeling Workflow Views with Fine-Grained Dependencies", VLDB 2012 (safe views and full dependency assignments).
 pub fn one_test_suffices()
     ensures { OneTestSuffices }
+{}
+
+/// Where chosen productions end each seen module, each has an expansion in which all is chosen, and each production has one that begins with it and in which all else is chosen.
+///
+/// The first joins the pairs that the chosen productions induce, the second those that the body of the production joins. So a production that does not induce the pairs of its head shows two expansions that disagree.
+pub fn chosen_law()
+    ensures { ChosenLaw }
 {}
 
 /// A view is safe exactly if each production of a seen, expanded module induces the pairs of its head.

@@ -6,11 +6,11 @@ use Rattle.wf_model.specs.Grammar.{Grammar, Edge, body_of, production_at, module
 use Rattle.wf_model.specs.View.{View, expands}
 use Rattle.wf_model.specs.declared.event.Event.{Event}
 use Rattle.wf_model.specs.declared.event.Event.TheVariants.{Start, Expand}
-use Rattle.wf_model.specs.Run.{Instance, Expanded, named, made, names_of, expanded_by, Extends, AllExtend, opens, newly_seen, see_all, seen_in, IsOpen, root_of}
+use Rattle.wf_model.specs.Run.{Instance, Expanded, named, made, names_of, expanded_by, Extends, AllExtend, IsRun, opens, newly_seen, see_all, seen_in, IsOpen, root_of}
 use Rattle.wf_model.specs.Items.{Item, items_by, items, edge_item, input_items, output_items, IsMadeOpen}
 use Rattle.wf_model.specs.Open.{IsRoot, IsChild, OpenLaw, VisibleLaw}
 use Rattle.wf_model.proofs.Lists.{in_append_left, in_append_right, in_append_cases, in_map_from, in_flat_map_from, some_gives, some_from, same_bytes, bytes_same}
-use Rattle.wf_model.proofs.Runs.{named_names, name_in, expansion_kept, expansion_later, expansion_other, expansion_start, IsState, state_more}
+use Rattle.wf_model.proofs.Runs.{named_names, name_in, expansion_kept, expansion_later, expansion_other, expansion_start, IsState, state_more, run_state}
 use Rattle.wf_model.proofs.ItemNames.{in_input_items, in_output_items}
 
 root_kept : (b a : List Event) → b ≢ [] → root_of (b ++ a) ≡ root_of b
@@ -150,6 +150,11 @@ maker_expanded g m events t h k e = let r = in_flat_map_from (items_by g m) t ev
         let s : Some n ≡ Some k = sym (ap (λ (z : Item). z.maker) r.2) ∙ e in
         let same : n ≡ k = cc in
         subst (λ z. (x : Expanded) × (expanded_by events z ≡ Some x)) same (expanded_in events n p names i)
+
+-- the maker of an item is there
+pub maker_made : (g : Grammar) (m : ℕ) (events : List Event) (t : Item) → IsRun g m events → IsIn t (items g m events) → (k : List ℕ) → t.maker ≡ Some k → IsIn k (names_of (made g m events))
+maker_made g m events t run h k e =
+    let x = maker_expanded g m events t h k e in (run_state g (record { expanded = []; shown = [] }) m events run).expanded_made k x.0 x.1
 
 pub visible_law : VisibleLaw
 visible_law g u m events t h = go (t.maker) refl

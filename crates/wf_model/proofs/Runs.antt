@@ -119,7 +119,7 @@ pub record IsState (g : Grammar) (m : ℕ) (b : List Event) (s : List Instance) 
   pub expanded_made : (n : List ℕ) (x : Expanded) → expanded_by b n ≡ Some x → IsIn n (names_of (made g m b))
 
 module _ (g : Grammar) (u : View) (m : ℕ) where
-  newly-made : (s : List Instance) (e : Event) (j : Instance) → IsIn j (newly_seen g u m s e) → IsIn j (made_by g m e)
+  pub newly-made : (s : List Instance) (e : Event) (j : Instance) → IsIn j (newly_seen g u m s e) → IsIn j (made_by g m e)
   newly-made s (Start r) j h = h
   newly-made s (Expand i p new) j h = go (opens u s i) h
     where

@@ -14,5 +14,6 @@ given_pairs g m =
     flat_map (λ i. flat_map (λ o. cond (is_given g.given m i o) ((i, o) ∷ []) []) (numbers_from 0 (outputs_of g m)))
     (numbers_from 0 (inputs_of g m))
 
+-- the default view of a grammar
 abbrev pub default_view : Grammar → View
 default_view g = record { expanded = composites g; shown = map (given_pairs g) (numbers_from 0 (length g.modules)) }

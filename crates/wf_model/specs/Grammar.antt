@@ -55,10 +55,11 @@ production_at g p = get_or g.productions p (record { head = 0; positions = []; e
 abbrev pub module_at : Grammar → ℕ → Module
 module_at g m = get_or g.modules m (record { name = []; inputs = []; outputs = [] })
 
--- how many inputs a module has, and how many outputs
+-- how many inputs a module has
 abbrev pub inputs_of : Grammar → ℕ → ℕ
 inputs_of g m = length (module_at g m).inputs
 
+-- how many outputs it has
 abbrev pub outputs_of : Grammar → ℕ → ℕ
 outputs_of g m = length (module_at g m).outputs
 

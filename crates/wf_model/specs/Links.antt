@@ -19,10 +19,11 @@ pub record Link (A : Type 0) : Type 0 where
   pub from : Port A
   pub to : Port A
 
--- the n-th input of an owner, and its n-th output
+-- the n-th input of an owner
 abbrev pub input : {A : Type 0} → A → ℕ → Port A
 input a n = record { owner = a; side = Input; number = n }
 
+-- the n-th output of an owner
 abbrev pub output : {A : Type 0} → A → ℕ → Port A
 output a n = record { owner = a; side = Output; number = n }
 
@@ -67,10 +68,11 @@ abbrev pub instance_at : List ℕ → List (List ℕ) → Option ℕ → List �
 instance_at n names None = n
 instance_at n names (Some k) = get_or names k []
 
--- a port with another owner, and a link with both ports moved so
+-- a port with another owner
 abbrev pub move_port : {A B : Type 0} → (A → B) → Port A → Port B
 move_port f x = record { owner = f x.owner; side = x.side; number = x.number }
 
+-- a link whose ports have other owners
 abbrev pub move_link : {A B : Type 0} → (A → B) → Link A → Link B
 move_link f l = record { from = move_port f l.from; to = move_port f l.to }
 

@@ -6,13 +6,15 @@ use Rattle.wf_model.specs.declared.body.Inner.{Inner as InnerHeld}
 use Rattle.wf_model.specs.declared.body.Edge.{Edge as EdgeHeld}
 use Rattle.wf_model.specs.Grammar.{Position, Inner, Edge, Assignment}
 
--- a position, a port of one, and an edge, as the definitions see them
+-- a position, as the definitions see it
 abbrev pub position_of : PositionHeld → Position
 position_of p = record { name = p.name; module_no = p.module.0 }
 
+-- a port of a position, as they see it
 abbrev pub inner_of : InnerHeld → Inner
 inner_of i = record { position = i.pos.0; port = i.port.0 }
 
+-- an edge, as they see it
 abbrev pub edge_of : EdgeHeld → Edge
 edge_of e = record { from = inner_of e.from; to = inner_of e.to }
 

@@ -8,10 +8,11 @@ use Rattle.wf_model.specs.Run.{IsName}
 abbrev pub IsShortName : List ℕ → Type 0
 IsShortName n = IsName n × (length n ≤ 64)
 
--- an input of a position that is there, and an output of one
+-- the port of an input of a position that is there
 abbrev pub IsInnerInput : Grammar → ℕ → Inner → Type 0
 IsInnerInput g p i = (m : ℕ) × IsAt m i.position (body_of g p) × (i.port < inputs_of g m)
 
+-- the port of an output of a position that is there
 abbrev pub IsInnerOutput : Grammar → ℕ → Inner → Type 0
 IsInnerOutput g p i = (m : ℕ) × IsAt m i.position (body_of g p) × (i.port < outputs_of g m)
 
