@@ -1,15 +1,16 @@
 -- Answers line by line: how the ending of the lines that are left makes that of all.
-use Rattle.std.proofs.Common.{◌≡◌, ◌≢◌, ℕ, ◌⊎◌, Bool, true, false, List, [], ◌∷◌, ◌++◌, length, take, Option, Some, None, refl, sym, ap, ◌∙◌, subst, inl, inr, ⊎_elim}
+use Rattle.std.proofs.Common.{◌≡◌, ◌≢◌, ℕ, ◌⊎◌, Bool, true, false, List, [], ◌∷◌, ◌++◌, length, take, Option, Some, None, refl, sym, ap, ◌∙◌, subst, inl, inr, ⊎_elim, true≢false}
 use Rattle.wf_model.specs.declared.event.Event.{Event}
 use Rattle.wf_model.specs.Grammar.{Grammar}
 use Rattle.wf_model.specs.View.{View}
 use Rattle.wf_model.specs.Run.{IsRun, IsFinished}
-use Rattle.wf_io.specs.Lines.{Line}
+use Rattle.wf_io.specs.Lines.{Line, is_too_long, text_of}
 use Rattle.wf_top.specs.declared.ending.Ending.{Ending}
 use Rattle.wf_top.specs.declared.ending.Ending.TheVariants.{Done, Usage, Refused, ReadFault, WriteFault, NoMemory}
 use Rattle.wf_top.specs.declared.ending.Place.TheVariants.{Queries}
 use Rattle.wf_top.specs.Outcome.{IsQueryLine, IsAnswered, AreAnswered}
 use Rattle.wf_top.specs.Meets.{Appended, EndsBy, IsOfOutcome}
+use Rattle.wf_top.specs.Asked.{IsAsked, EndsAt}
 use Rattle.wf_top.proofs.Putting.{appended_none, appended_twice, begun_none, begun_longer, begun_after}
 use Rattle.wf_top.proofs.Stages.{nothing_put}
 use Rattle.wf_top.proofs.OneOutcome.{one_written}
@@ -47,3 +48,27 @@ module _ (g : Grammar) (u : View) (e : List Event) (run : IsRun g g.start e) (fi
       whole = λ w. absurd (w.0 refl);
       begun = λ x t h. let s = split x t h in let k = begun_longer p.0 written s.0 a b p.1 in (k.0, subst (λ y. Appended (take k.0 y) a b) (sym s.1) k.1);
     }
+
+  answered_by : (l : Line) (written : List ℕ) → is_too_long l.raw ≡ false → IsAsked g u e (text_of l.raw) written → IsAnswered g u e l written
+  answered_by l written short a = record { first = a.first; second = a.second; query = (short, a.query); answer = a.answer; is = a.is; line = a.line }
+
+  -- the first line ends the program
+  pub line_ends : (l : Line) (ls : List Line) (d : Ending) (old new : Option (List ℕ)) → is_too_long l.raw ≡ false → EndsAt g u e (text_of l.raw) d old new → EndsBy (AreAnswered g u e (l ∷ ls)) d old new
+  line_ends l ls Done old new short h = absurd h
+  line_ends l ls Usage old new short h = absurd h
+  line_ends l ls (Refused p) old new short h = subst (λ q. EndsBy (AreAnswered g u e (l ∷ ls)) (Refused q) old new) (sym h.0) (answered_bad l ls old new h.2 (λ a b q. h.1 a b q.1))
+  line_ends l ls (ReadFault p) old new short h = absurd h
+  line_ends l ls WriteFault old new short h = answered_part l ls h.0 (answered_by l h.0 short h.1) old new h.2
+  line_ends l ls NoMemory old new short h = answered_wanting (l ∷ ls) old new h
+
+  -- a line that is too long ends the program
+  pub long_ends : (l : Line) (ls : List Line) (old new : Option (List ℕ)) → is_too_long l.raw ≡ true → new ≡ old → EndsBy (AreAnswered g u e (l ∷ ls)) (Refused Queries) old new
+  long_ends l ls old new long s = answered_bad l ls old new s (λ a b q. true≢false (sym long ∙ q.0))
+
+  -- the first line was answered, and what follows ends so
+  pub line_goes : (l : Line) (ls : List Line) (written : List ℕ) (d : Ending) (a b c : Option (List ℕ)) → is_too_long l.raw ≡ false → IsAsked g u e (text_of l.raw) written → Appended written a b → EndsBy (AreAnswered g u e ls) d b c → EndsBy (AreAnswered g u e (l ∷ ls)) d a c
+  line_goes l ls written d a b c short asked put ends = answered_more l ls written (answered_by l written short asked) d a b c put ends
+
+-- the ending of the lines that are left makes that of all
+abbrev pub Leads : Grammar → View → List Event → List Line → Option (List ℕ) → List Line → Option (List ℕ) → Type 0
+Leads g u e all old left now = (d : Ending) (new : Option (List ℕ)) → EndsBy (AreAnswered g u e left) d now new → EndsBy (AreAnswered g u e all) d old new

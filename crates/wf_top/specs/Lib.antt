@@ -5,3 +5,4 @@ pub mod Meets
 pub mod Stages
 pub mod Leaf
 pub mod Prepared
+pub mod Asked

@@ -9,8 +9,7 @@ use Rattle.wf_model.specs.Run.{IsFinished}
 use Rattle.wf_model.specs.Links.{links}
 use Rattle.wf_flat.specs.Table.{Table, IsRunOf, events_of, names_in}
 use Rattle.wf_flat.specs.Graph.{named_links}
-use Rattle.wf_flat.specs.Flat.{FlatSeen}
-use Rattle.wf_flat.specs.Graph.{AreWithin}
+use Rattle.wf_flat.specs.Flat.{FlatSeen, AreWithin}
 use Rattle.wf_top.specs.Answers.{IsAnswer}
 
 -- a finished run of a grammar, with its links under the default view
