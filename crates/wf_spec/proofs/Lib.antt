@@ -1,8 +1,14 @@
 pub mod Bodies
 pub mod Differing
 pub mod Ends
+pub mod Finding
+pub mod Fitting
+pub mod Formed
 pub mod Graphs
+pub mod Listing
 pub mod Making
+pub mod Names
+pub mod Placing
 pub mod Sides
 pub mod Sizes
 pub mod Tables

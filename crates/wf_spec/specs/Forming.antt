@@ -32,9 +32,9 @@ names_of = map (λ m. m.name)
 abbrev pub module_in : List Module → ℕ → Module
 module_in modules m = get_or modules m (record { name = []; inputs = []; outputs = [] })
 
--- a position, with the number of its module
-abbrev pub placed : List Module → PosPart → Position
-placed modules q = record { name = q.name; module_no = place_of (names_of modules) q.module }
+-- a position, with the number of its module among names
+abbrev pub placed : List (List ℕ) → PosPart → Position
+placed names q = record { name = q.name; module_no = place_of names q.module }
 
 -- the place of a position's name in a body
 abbrev pub position_in : List Position → List ℕ → ℕ
@@ -77,7 +77,7 @@ exit_in modules body exits port =
 
 -- the body of a production part, by numbers
 abbrev pub body_in : List Module → ProdPart → List Position
-body_in modules p = map (placed modules) p.body
+body_in modules p = map (placed (names_of modules)) p.body
 
 -- the module that is the head of a production part
 abbrev pub head_in : List Module → ProdPart → Module

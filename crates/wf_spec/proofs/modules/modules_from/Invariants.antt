@@ -1,0 +1,10 @@
+use Rattle.std.proofs.Common.{◌≡◌, map, take}
+use Rattle.wf_spec.specs.Forming.{module_of}
+use Rattle.wf_spec.specs.Resolving.{HaveFewPorts}
+use Rattle.wf_spec.proofs.modules.modules_from.Given as goal
+
+abbrev pub invariant-loop-part : goal.invariant-loop-part
+invariant-loop-part l = record {
+  made : l.list.items ≡ map module_of (take l.part-index l.parts);
+  few : HaveFewPorts l.list.items;
+}
