@@ -1,5 +1,5 @@
 -- The index of the ports of a flat graph.
-use Rattle.std.proofs.Common.{◌≡◌, ℕ, zero, suc, ◌+◌, ◌<◌, ◌≤◌, ◌^◌, ◌⊎◌, ◌↔◌, Bool, true, false, not, ◌||◌, cond, List, [], ◌∷◌, ◌++◌, set, length, get_or, Vec, refl, sym, ap, subst, ◌∙◌, arith, inl, inr, ⊎_elim, true≢false, length-append}
+use Rattle.std.proofs.Common.{◌≡◌, ℕ, zero, suc, ◌+◌, ◌<◌, ◌≤◌, ◌^◌, ◌⊎◌, ◌↔◌, Bool, true, false, not, ◌||◌, List, [], ◌∷◌, ◌++◌, set, length, get_or, Vec, refl, sym, ap, subst, ◌∙◌, arith, inl, inr, ⊎_elim, true≢false, length-append}
 use Rattle.std.specs.Prelude.{if◌then◌else◌, Some, slice_get, position}
 use Rattle.std.specs.List.{list_any, position_or_len}
 use Rattle.std.specs.declared.alloc.Global.{Global}
@@ -83,9 +83,10 @@ index_link ls ports graph graph' l a b p q same edges i = record {
 pub set_edge : (graph : List (Vec ℕ Global)) (a b : ℕ) (w v : Vec ℕ Global) → a < length graph → w ≡ get_or graph a w → v.items ≡ w.items ++ b ∷ [] → (x y : ℕ) → HasEdge (set graph a v) x y ↔ (HasEdge graph x y ⊎ ((x ≡ a) × (y ≡ b)))
 set_edge [] a b w v h e f x y = absurd (omega arith)
 set_edge (g ∷ graph) zero b w v h e f zero y =
-    let same : v.items ≡ g.items ++ b ∷ [] = f ∙ ap (λ (z : Vec ℕ Global). z.items ++ b ∷ []) e in
-    (λ i. ⊎_elim (λ o. inl o) (λ o. ⊎_elim (λ (d : y ≡ b). inr (refl, d)) (λ z. absurd z) o) (in_append_cases y g.items (b ∷ []) (subst (IsIn y) same i)),
-    λ i. subst (IsIn y) (sym same) (⊎_elim (λ o. in_append_left y g.items (b ∷ []) o) (λ o. in_append_right y g.items (b ∷ []) (inl o.1)) i))
+    let same : v.items ≡ g.items ++ b ∷ [] = f ∙ ap (λ (z : Vec ℕ Global). z.items ++ b ∷ []) e in (
+      λ i. ⊎_elim (λ o. inl o) (λ o. ⊎_elim (λ (d : y ≡ b). inr (refl, d)) (λ z. absurd z) o) (in_append_cases y g.items (b ∷ []) (subst (IsIn y) same i)),
+      λ i. subst (IsIn y) (sym same) (⊎_elim (λ o. in_append_left y g.items (b ∷ []) o) (λ o. in_append_right y g.items (b ∷ []) (inl o.1)) i),
+    )
 set_edge (g ∷ graph) zero b w v h e f (suc x) y = (λ i. inl i, λ i. ⊎_elim (λ o. o) (λ o. let z : suc x ≡ 0 = o.0 in absurd (omega arith)) i)
 set_edge (g ∷ graph) (suc a) b w v h e f zero y = (λ i. inl i, λ i. ⊎_elim (λ o. o) (λ o. let z : 0 ≡ suc a = o.0 in absurd (omega arith)) i)
 set_edge (g ∷ graph) (suc a) b w v h e f (suc x) y =

@@ -1,7 +1,7 @@
 -- Paths between the ports of a flat graph, by number and by name.
-use Rattle.std.proofs.Common.{◌≡◌, ℕ, ◌<◌, ◌≤◌, ◌⊎◌, ◌↔◌, Bool, true, false, List, [], ◌∷◌, map, length, get_or, Vec, refl, sym, ap, subst, ◌∙◌, arith, inl, inr, ⊎_elim}
+use Rattle.std.proofs.Common.{◌≡◌, ℕ, ◌<◌, ◌⊎◌, ◌↔◌, List, [], length, get_or, Vec, refl, sym, ap, subst, ◌∙◌, inl, inr, ⊎_elim}
 use Rattle.std.specs.declared.alloc.Global.{Global}
-use Rattle.wf_model.specs.Lists.{IsIn, IsAt, AllDiffer, Walk, here, onward}
+use Rattle.wf_model.specs.Lists.{IsIn, IsAt, AllDiffer, here, onward}
 use Rattle.wf_model.specs.Links.{Port, Link, IsLinked, Path}
 use Rattle.wf_model.proofs.Lists.{in_map, in_map_from, at_in, at_is, at_below, is_at, differ_at}
 use Rattle.wf_model.proofs.Walks.{walk_through, walk_one}

@@ -2,12 +2,11 @@
 use Rattle.std.proofs.Common.{◌≡◌, ℕ, ◌<◌, Bool, true, false, not, ◌&&◌, List, map, length, get_or, Option, Some, None, refl, ap, sym, subst, ◌∙◌, true≢false}
 use Rattle.std.specs.Prelude.{is_some, option_map, take, drop}
 use Rattle.wf_model.specs.declared.numbers.ProdNo.{ProdNo}
-use Rattle.wf_model.specs.Lists.{IsIn, IsAt}
+use Rattle.wf_model.specs.Lists.{IsIn}
 use Rattle.wf_model.specs.Grammar.{Grammar, body_of}
 use Rattle.wf_model.specs.View.{View, expands}
 use Rattle.wf_model.specs.Run.{Instance, Expanded, expanded_by, seen_in, IsPending, IsFinished}
 use Rattle.wf_model.proofs.Lists.{in_map, in_map_from, in_at, at_is, at_below, is_at}
-use Rattle.wf_flat.specs.declared.table.Inst.{Inst}
 use Rattle.wf_flat.specs.Table.{Table, IsRunOf, events_of, names_in, no_instance}
 use Rattle.wf_flat.specs.Graph.{flag_of, Marks, inst_at, waits}
 
@@ -33,10 +32,11 @@ module _ (g : Grammar) (t : Table) (run : IsRunOf g t) (u : View) (flags : List 
   waits_pending k i h e =
       let x = get_or t.instances k no_instance in
       let a = both_left (not (is_some x.production)) (flag_of flags x.module.0) e in
-      let b = both_right (not (is_some x.production)) (flag_of flags x.module.0) e in
-      (subst (IsIn (inst_at t.instances k)) same (in_map (inst_at t.instances) k seen i),
-      marks x.module.0 ∙ b,
-      run.expanded k x (is_at k t.instances no_instance h) ∙ ap (option_map {U = Expanded} (λ (p : ProdNo). record { production = p.0; names = take (length (body_of g p.0)) (drop x.first_child (names_in t.instances)) })) (not_there x.production a))
+      let b = both_right (not (is_some x.production)) (flag_of flags x.module.0) e in (
+        subst (IsIn (inst_at t.instances k)) same (in_map (inst_at t.instances) k seen i),
+        marks x.module.0 ∙ b,
+        run.expanded k x (is_at k t.instances no_instance h) ∙ ap (option_map {U = Expanded} (λ (p : ProdNo). record { production = p.0; names = take (length (body_of g p.0)) (drop x.first_child (names_in t.instances)) })) (not_there x.production a),
+      )
 
   -- where none waits, none is pending
   pub none_waits : ((k : ℕ) → IsIn k seen → k < length t.instances) → ((j : ℕ) → j < length seen → waits flags (get_or t.instances (get_or seen j 0) no_instance) ≡ false) → IsFinished g u g.start (events_of t)

@@ -20,7 +20,12 @@ fn is_waiting(x: &Inst, expanded: &[bool]) -> bool
 /// Whether no instance is pending under a view that expands the marked modules: one that is seen and not expanded, of a module that the view expands.
 ///
 /// Cost: linear in the run. Fails only for want of memory.
-pub fn is_finished(alloc: Global, g: &Grammar, run: &PlainRun, expanded: &[bool]) -> Result<bool, AllocError>
+pub fn is_finished(
+    alloc: Global,
+    g: &Grammar,
+    run: &PlainRun,
+    expanded: &[bool],
+) -> Result<bool, AllocError>
     requires { IsRunOf g.now run.now }
     ensures { IfOk result (λ b. (u : View) → Marks expanded.now u → IsTrue b ↔ IsFinished g.now u g.now.start (events_of run.now)) }
 {

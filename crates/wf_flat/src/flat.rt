@@ -18,7 +18,12 @@ use wf_graph::reaches;
 use wf_spec::{Deps, Grammar};
 
 /// The number of a port, which is added where it has none.
-fn number(alloc: Global, ports: &mut IndexSet<Port>, graph: &mut Vec<Vec<u32>>, port: Port) -> Result<u32, AllocError>
+fn number(
+    alloc: Global,
+    ports: &mut IndexSet<Port>,
+    graph: &mut Vec<Vec<u32>>,
+    port: Port,
+) -> Result<u32, AllocError>
     requires { length graph.old.items ≡ length ports.old.keys }
     ensures one_each { OnOk result (length graph.new.items ≡ length ports.new.keys) }
     ensures index { OnOk result (KeepsIndex ports.old.keys graph.old.items ports.new.keys graph.new.items) }
@@ -47,7 +52,12 @@ fn join(graph: &mut Vec<Vec<u32>>, a: u32, b: u32) -> Result<(), AllocError>
 }
 
 /// Adds a link to an index.
-fn add_link(alloc: Global, ports: &mut IndexSet<Port>, graph: &mut Vec<Vec<u32>>, link: Link) -> Result<(), AllocError>
+fn add_link(
+    alloc: Global,
+    ports: &mut IndexSet<Port>,
+    graph: &mut Vec<Vec<u32>>,
+    link: Link,
+) -> Result<(), AllocError>
     requires { length graph.old.items ≡ length ports.old.keys }
     ensures one_each { OnOk result (length graph.new.items ≡ length ports.new.keys) }
     ensures index { OnOk result (AddsLink link ports.old.keys graph.old.items ports.new.keys graph.new.items) }
@@ -59,7 +69,12 @@ fn add_link(alloc: Global, ports: &mut IndexSet<Port>, graph: &mut Vec<Vec<u32>>
 }
 
 /// Adds links to an empty index.
-fn add_links(alloc: Global, ports: &mut IndexSet<Port>, graph: &mut Vec<Vec<u32>>, links: &[Link]) -> Result<(), AllocError>
+fn add_links(
+    alloc: Global,
+    ports: &mut IndexSet<Port>,
+    graph: &mut Vec<Vec<u32>>,
+    links: &[Link],
+) -> Result<(), AllocError>
     requires no_ports { ports.old.keys ≡ [] }
     requires no_edges { graph.old.items ≡ [] }
     ensures { OnOk result (IsIndex links.now ports.new.keys graph.new.items) }
@@ -71,7 +86,13 @@ fn add_links(alloc: Global, ports: &mut IndexSet<Port>, graph: &mut Vec<Vec<u32>
 }
 
 /// Whether a path leads from a port to a port in the links of an index.
-fn is_joined(alloc: Global, ports: &IndexSet<Port>, graph: &[Vec<u32>], from: Port, to: Port) -> Result<bool, AllocError>
+fn is_joined(
+    alloc: Global,
+    ports: &IndexSet<Port>,
+    graph: &[Vec<u32>],
+    from: Port,
+    to: Port,
+) -> Result<bool, AllocError>
     requires one_each { length graph.now ≡ length ports.now.keys }
     requires few { length ports.now.keys ≤ 2 ^ 32 }
     requires in_range { InRange graph.now }

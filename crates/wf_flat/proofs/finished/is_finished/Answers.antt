@@ -1,4 +1,4 @@
-use Rattle.std.proofs.Common.{◌≡◌, ◌<◌, ◌≤◌, ◌∙◌, ℕ, refl, sym, ap, subst, arith, get_or, length, true, false, true≢false, List}
+use Rattle.std.proofs.Common.{◌≡◌, ◌<◌, ◌∙◌, refl, sym, ap, subst, arith, get_or, length, false, true≢false, List}
 use borrow.Author.Count.{below_more}
 use Rattle.std.proofs.lemmas.List.{get_or_read}
 use Rattle.wf_model.specs.Lists.{IsIn}
@@ -41,10 +41,11 @@ loop-k-preserved c =
 pub returns : goal.returns
 returns c = λ u m.
     let t = c.args.run.now in
-    let s = c.as_slice-k-items.result.now in
-    (λ z. none_waits c.args.g.now t c.requires u c.args.expanded.now m c.in_ok-all.all.items (c.in_ok-all.ensures.seen u m) c.in_ok-all.ensures.there
-    (λ j h. (let v = c.as_slice-k-items.ensures.value in
-    let l = ap length v in
-    let low : j < c.loop-k.k-index = (let q = c.loop-k-test.false in omega arith) in
-    ap (λ z. waits c.args.expanded.now (get_or t.instances (get_or z j 0) no_instance)) (sym v) ∙ (ap (λ z. waits c.args.expanded.now (get_or z (get_or s j 0) no_instance)) (sym c.instances-instances.ensures.instances) ∙ c.loop-k.invariant j low))),
-    λ f. refl)
+    let s = c.as_slice-k-items.result.now in (
+      λ z. none_waits c.args.g.now t c.requires u c.args.expanded.now m c.in_ok-all.all.items (c.in_ok-all.ensures.seen u m) c.in_ok-all.ensures.there
+          (λ j h. (let v = c.as_slice-k-items.ensures.value in
+          let l = ap length v in
+          let low : j < c.loop-k.k-index = (let q = c.loop-k-test.false in omega arith) in
+          ap (λ z. waits c.args.expanded.now (get_or t.instances (get_or z j 0) no_instance)) (sym v) ∙ (ap (λ z. waits c.args.expanded.now (get_or z (get_or s j 0) no_instance)) (sym c.instances-instances.ensures.instances) ∙ c.loop-k.invariant j low))),
+      λ f. refl,
+    )

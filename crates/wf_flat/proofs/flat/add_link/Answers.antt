@@ -1,4 +1,4 @@
-use Rattle.std.proofs.Common.{◌≡◌, ◌<◌, sym, subst, ◌∙◌, length}
+use Rattle.std.proofs.Common.{◌<◌, sym, subst}
 use Rattle.wf_model.proofs.Lists.{at_below}
 use Rattle.wf_flat.proofs.Index.{index_link}
 use Rattle.wf_flat.proofs.flat.add_link.Goals as goal

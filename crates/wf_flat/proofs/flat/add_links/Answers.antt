@@ -1,4 +1,4 @@
-use Rattle.std.proofs.Common.{◌≡◌, sym, subst, take}
+use Rattle.std.proofs.Common.{sym, subst}
 use Rattle.std.proofs.lemmas.List.{take_more}
 use Rattle.wf_flat.specs.Flat.{IsIndex}
 use Rattle.wf_flat.proofs.flat.add_links.Goals as goal

@@ -1,4 +1,4 @@
-use Rattle.std.proofs.Common.{◌≡◌, take, length}
+use Rattle.std.proofs.Common.{take}
 use Rattle.wf_flat.specs.Flat.{IsIndex}
 use Rattle.wf_flat.proofs.flat.add_links.Given as goal
 

@@ -1,7 +1,6 @@
-use Rattle.std.proofs.Common.{◌≡◌, ◌∙◌, refl, sym, ap, subst, true≢false, true, false}
+use Rattle.std.proofs.Common.{◌≡◌, ◌∙◌, refl, sym, ap, subst, true≢false}
 use Rattle.wf_model.specs.Lists.{here}
 use Rattle.wf_model.specs.Links.{Path}
-use Rattle.wf_flat.specs.declared.graph.Port.{Port}
 use Rattle.wf_flat.specs.contracts.graph.PortPartialEq.TheImpl.{eq-value}
 use Rattle.wf_flat.specs.Flat.{numbered, numbered_links}
 use Rattle.wf_flat.proofs.Index.{port_same, port_self, not_among, placed}

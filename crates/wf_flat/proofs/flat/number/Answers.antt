@@ -1,5 +1,4 @@
-use Rattle.std.proofs.Common.{◌≡◌, ◌≤◌, ◌^◌, ◌+◌, ◌∙◌, refl, ap, sym, subst, arith, length, length-append, not, true, false, Bool, [], ◌∷◌}
-use Rattle.std.specs.List.{list_any}
+use Rattle.std.proofs.Common.{◌≤◌, ◌^◌, ◌+◌, ◌∙◌, sym, subst, arith, length}
 use Rattle.wf_model.specs.Lists.{IsAt}
 use Rattle.wf_flat.specs.Flat.{IsIndex}
 use Rattle.wf_flat.proofs.Index.{kept_there, got_at, put_new, index_port, not_among, untold, place_absent}

@@ -1,4 +1,4 @@
-use Rattle.std.proofs.Common.{◌≡◌, ◌∙◌, refl, sym, ap, subst, length}
+use Rattle.std.proofs.Common.{sym, ap, subst}
 use Rattle.wf_graph.specs.Graph.{InRange}
 use Rattle.wf_flat.specs.Flat.{FlatSeen, IsIndex}
 use Rattle.wf_flat.proofs.Paths.{in_range, by_names}
