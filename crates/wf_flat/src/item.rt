@@ -176,6 +176,7 @@ pub fn find_item(g: &Grammar, run: &PlainRun, name: &[u8]) -> Option<Item>
     ensures none { IsNone result → (t : ItemSeen) → IsIn t (items g.now g.now.start (events_of run.now)) → t.name ≡ name.now → ⊥ }
     ensures within { IfSome result (λ i. IsItemWithin (length run.now.instances) i) }
 {
+    // A grammar is well-formed: the instance that names an item is there.
     let _formed = g.start();
     let Some(dot) = first_dot(name) else {
         return None;
