@@ -21,3 +21,4 @@ pub mod Depth
 pub mod Rename
 pub mod Grown
 pub mod Alike
+pub mod Agreeing

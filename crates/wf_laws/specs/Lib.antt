@@ -8,6 +8,7 @@ pub mod Depth
 pub mod Rename
 pub mod Grown
 pub mod Alike
+pub mod Agreeing
 pub mod Chosen
 pub mod NoReturn
 pub mod Examples
