@@ -22,3 +22,4 @@ pub mod Rename
 pub mod Grown
 pub mod Alike
 pub mod Agreeing
+pub mod Ranked

@@ -9,6 +9,7 @@ pub mod Rename
 pub mod Grown
 pub mod Alike
 pub mod Agreeing
+pub mod Ranked
 pub mod Chosen
 pub mod NoReturn
 pub mod Examples
