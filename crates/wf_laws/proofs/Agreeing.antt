@@ -1,8 +1,8 @@
 -- Addresses in one run agree, and each is a route that tells the module of its instance.
-use Rattle.std.proofs.Common.{◌≡◌, ◌≢◌, ℕ, ◌<◌, IsTrue, List, [], ◌∷◌, length, get_or, Option, Some, refl, sym, ap, ◌∙◌, subst, inl, inr, arith}
+use Rattle.std.proofs.Common.{◌≡◌, ℕ, ◌<◌, IsTrue, List, [], ◌∷◌, length, get_or, Option, Some, refl, sym, ap, ◌∙◌, subst, inl, inr, arith}
 use Rattle.wf_model.specs.Lists.{IsIn}
 use Rattle.wf_model.specs.Grammar.{Grammar, head_of, body_of}
-use Rattle.wf_model.specs.View.{View, expands}
+use Rattle.wf_model.specs.View.{expands}
 use Rattle.wf_model.specs.DefaultView.{default_view}
 use Rattle.wf_model.specs.declared.event.Event.{Event}
 use Rattle.wf_model.specs.declared.event.Event.TheVariants.{Start, Expand}
@@ -17,7 +17,7 @@ use Rattle.wf_model.proofs.Taking.{run_differs}
 use Rattle.wf_model.proofs.Whole.{all_seen}
 use Rattle.wf_model.proofs.DefaultView.{default_expands_all}
 use Rattle.wf_model.proofs.Open.{open_law}
-use Rattle.wf_laws.specs.Agreeing.{AgreeLaw, IsRouteTo, RouteLaw}
+use Rattle.wf_laws.specs.Agreeing.{AgreeLaw, RouteLaw}
 
 one_expansion : (o : Option Expanded) (x y : Expanded) → o ≡ Some x → o ≡ Some y → x ≡ y
 one_expansion o x y e f = let z : Some x ≡ Some y = sym e ∙ f in cc

@@ -23,3 +23,4 @@ pub mod Grown
 pub mod Alike
 pub mod Agreeing
 pub mod Ranked
+pub mod SkewedGrammar

@@ -1,7 +1,6 @@
 -- Where ranks fall along chosen productions, an expansion by these ends.
 use Rattle.std.proofs.Common.{◌≡◌, ℕ, zero, suc, ◌<◌, Bool, true, false, List, refl, sym, ap, ◌∙◌, subst, inl, inr, arith}
-use Rattle.wf_model.specs.Lists.{IsIn}
-use Rattle.wf_model.specs.Grammar.{Grammar, body_of}
+use Rattle.wf_model.specs.Grammar.{Grammar}
 use Rattle.wf_model.specs.View.{View, expands, IsSeenModule, in_body}
 use Rattle.wf_model.specs.Safe.{IsChosen, Ends}
 use Rattle.wf_laws.specs.Ranked.{RanksFall, EndsLaw}

@@ -3,7 +3,7 @@ use Rattle.std.specs.Prelude.{◌≢◌, ℕ, List, []}
 use Rattle.wf_model.specs.Lists.{IsIn}
 use Rattle.wf_model.specs.Grammar.{Grammar}
 use Rattle.wf_model.specs.declared.event.Event.{Event}
-use Rattle.wf_model.specs.Run.{Instance, IsRun, made, root_of}
+use Rattle.wf_model.specs.Run.{IsRun, made, root_of}
 use Rattle.wf_model.specs.Reach.{Step, module_along}
 use Rattle.wf_model.specs.Routes.{IsAddress, IsRoute, Agree}
 

@@ -15,3 +15,4 @@ pub mod NoReturn
 pub mod Examples
 pub mod LineGrammar
 pub mod TwistingGrammar
+pub mod SkewedGrammar

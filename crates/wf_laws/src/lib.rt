@@ -9,7 +9,7 @@ mod runs;
 mod views;
 
 pub use addresses::{address_law, agree_law, depth_law, route_law, routes_law, seen_law};
-pub use examples::{line_grammar_is_worked, twisting_grammar_is_worked};
+pub use examples::{line_grammar_is_worked, skewed_grammar_is_worked, twisting_grammar_is_worked};
 pub use items::{alike_law, depends_law, item_names_law, items_law, visible_law};
 pub use paths::{crossing_law, no_return_law, own_pairs_law, pending_law, splits_law};
 pub use runs::{
