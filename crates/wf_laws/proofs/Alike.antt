@@ -1,5 +1,5 @@
 -- What one expansion joins, every expansion joins at the same addresses.
-use Rattle.std.proofs.Common.{◌≡◌, ◌↔◌, IsTrue, List, [], subst, append-nil}
+use Rattle.std.proofs.Common.{◌↔◌, IsTrue, [], subst, append-nil}
 use Rattle.wf_model.specs.Reach.{module_along, Reaches}
 use Rattle.wf_laws.specs.Alike.{OwnPairsLaw, AlikeLaw}
 use Rattle.wf_laws.proofs.Reach.{crossing_law}

@@ -21,3 +21,6 @@ pub mod Depth
 pub mod Rename
 pub mod Grown
 pub mod Alike
+pub mod Agreeing
+pub mod Ranked
+pub mod SkewedGrammar

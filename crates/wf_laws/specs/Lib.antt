@@ -8,8 +8,11 @@ pub mod Depth
 pub mod Rename
 pub mod Grown
 pub mod Alike
+pub mod Agreeing
+pub mod Ranked
 pub mod Chosen
 pub mod NoReturn
 pub mod Examples
 pub mod LineGrammar
 pub mod TwistingGrammar
+pub mod SkewedGrammar

@@ -1,5 +1,6 @@
 // Laws of views: the default one, and safe ones.
 ghost use Rattle.wf_laws.specs.Chosen.{ChosenLaw};
+ghost use Rattle.wf_laws.specs.Ranked.{EndsLaw};
 ghost use Rattle.wf_laws.specs.Views.{DefaultViewLaw};
 ghost use Rattle.wf_model.specs.Safe.{OneTestSuffices, SafetyLaw};
 
@@ -16,6 +17,11 @@ pub fn default_view_law()
 /// Source of the idea: Bao, Davidson, Milo, "Labeling Workflow Views with Fine-Grained Dependencies", VLDB 2012 (safe views and full dependency assignments).
 pub fn one_test_suffices()
     ensures { OneTestSuffices }
+{}
+
+/// Where ranks fall along chosen productions, each seen module is expanded whole by these in finitely many rounds.
+pub fn ends_law()
+    ensures { EndsLaw }
 {}
 
 /// Where chosen productions end each seen module, each has an expansion in which all is chosen, and each production has one that begins with it and in which all else is chosen.
