@@ -10,6 +10,8 @@ use Rattle.wf_top.specs.declared.ending.Ending.TheVariants.{Done, Usage, Refused
 use Rattle.wf_top.specs.declared.ending.Place.TheVariants.{Queries}
 use Rattle.wf_top.specs.Outcome.{IsQueryLine, IsAnswered, AreAnswered}
 use Rattle.wf_top.specs.Meets.{Appended, EndsBy, IsOfOutcome}
+use Rattle.wf_query.specs.Line.{IsQuery}
+use Rattle.wf_top.specs.Prepared.{IsAnswerLine}
 use Rattle.wf_top.specs.Asked.{IsAsked, EndsAt}
 use Rattle.wf_top.proofs.Putting.{appended_none, appended_twice, begun_none, begun_longer, begun_after}
 use Rattle.wf_top.proofs.Stages.{nothing_put}
@@ -72,3 +74,25 @@ module _ (g : Grammar) (u : View) (e : List Event) (run : IsRun g g.start e) (fi
 -- the ending of the lines that are left makes that of all
 abbrev pub Leads : Grammar → View → List Event → List Line → Option (List ℕ) → List Line → Option (List ℕ) → Type 0
 Leads g u e all old left now = (d : Ending) (new : Option (List ℕ)) → EndsBy (AreAnswered g u e left) d now new → EndsBy (AreAnswered g u e all) d old new
+
+-- a query and its line of answer
+pub asked_of : (g : Grammar) (u : View) (e : List Event) (text first second written : List ℕ) → IsQuery text first second → IsAnswerLine g u e first second written → IsAsked g u e text written
+asked_of g u e text first second written q a = record { first = first; second = second; query = q; answer = a.answer; is = a.is; line = a.ends }
+
+module _ (g : Grammar) (u : View) (e : List Event) (run : IsRun g g.start e) (finished : IsFinished g u g.start e) (all : List Line) (old : Option (List ℕ)) where
+  -- the lines are at their end
+  pub done_leads : (left : List Line) (now : Option (List ℕ)) → Leads g u e all old left now → left ≡ [] → EndsBy (AreAnswered g u e all) Done old now
+  done_leads left now leads none = leads Done now (subst (λ ls. EndsBy (AreAnswered g u e ls) Done now now) (sym none) (answered_none g u e run finished now now refl))
+
+  -- the next line is too long
+  pub long_leads : (left rest : List Line) (l : Line) (now : Option (List ℕ)) → Leads g u e all old left now → left ≡ l ∷ rest → is_too_long l.raw ≡ true → EndsBy (AreAnswered g u e all) (Refused Queries) old now
+  long_leads left rest l now leads next long = leads (Refused Queries) now (subst (λ ls. EndsBy (AreAnswered g u e ls) (Refused Queries) now now) (sym next) (long_ends g u e run finished l rest now now long refl))
+
+  module _ (left rest : List Line) (l : Line) (text : List ℕ) (now : Option (List ℕ)) (leads : Leads g u e all old left now) (next : left ≡ l ∷ rest) (short : is_too_long l.raw ≡ false) (same : text ≡ text_of l.raw) where
+    -- the next line ends the program
+    pub end_leads : (d : Ending) (new : Option (List ℕ)) → EndsAt g u e text d now new → EndsBy (AreAnswered g u e all) d old new
+    end_leads d new h = leads d new (subst (λ ls. EndsBy (AreAnswered g u e ls) d now new) (sym next) (line_ends g u e run finished l rest d now new short (subst (λ t. EndsAt g u e t d now new) same h)))
+
+    -- the next line was answered
+    pub more_leads : (written : List ℕ) (new : Option (List ℕ)) → IsAsked g u e text written → Appended written now new → Leads g u e all old rest new
+    more_leads written new asked put d last ends = leads d last (subst (λ ls. EndsBy (AreAnswered g u e ls) d now last) (sym next) (line_goes g u e run finished l rest written d now new last short (subst (λ t. IsAsked g u e t written) same asked) put ends))

@@ -13,6 +13,6 @@ pub fn answer(alloc: Global, p: &Prepared, first: &[u8], second: &[u8]) -> Resul
     requires { IsPrepared p.now.grammar p.now.run p.now.flat }
     ensures { IfOk result (λ line. IsAnswerLine p.now.grammar (default_view p.now.grammar) (events_of p.now.run) first.now second.now line.now) }
 {
-    let _ = (alloc, p, first, second);
+    let _ = alloc;
     Err(AllocError)
 }

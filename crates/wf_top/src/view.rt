@@ -33,6 +33,6 @@ pub fn given_rows(alloc: Global, g: &Grammar, marks: &[bool]) -> Result<Deps, Al
     ensures made_for { IfOk result (λ d. IsMadeFor g.now d) }
     ensures shows { IfOk result (λ d. ShowsGiven g.now d) }
 {
-    let _ = (alloc, g, marks);
+    let _ = alloc;
     Err(AllocError)
 }
