@@ -9,7 +9,7 @@ use Rattle.wf_model.specs.View.{View}
 use Rattle.wf_model.specs.Run.{IsRun, IsFinished}
 use Rattle.wf_model.specs.Items.{Item, items}
 use Rattle.wf_model.specs.Finishing.{IsFinishing}
-use Rattle.wf_io.specs.Lines.{Line}
+use Rattle.wf_io.specs.Lines.{Line, text_of}
 use Rattle.wf_json.specs.Reading.{IsReading}
 use Rattle.wf_json.specs.SpecForm.{spec_of}
 use Rattle.wf_events.specs.EventForm.{event_of}
@@ -17,7 +17,7 @@ use Rattle.wf_spec.specs.Forming.{grammar_of}
 use Rattle.wf_query.specs.Line.{IsQuery}
 use Rattle.wf_query.proofs.Names.{query_law}
 use Rattle.wf_top.specs.Answers.{item_named, are_visible, IsShown, IsAnswerFor, IsAnswer}
-use Rattle.wf_top.specs.Outcome.{IsSpecText, TellsGrammar, TellsView, IsEventLine, AreEvents, TellsRun, IsQueryLine, IsAnswered}
+use Rattle.wf_top.specs.Outcome.{IsSpecText, TellsGrammar, TellsView, IsEventText, AreEvents, TellsRun, IsQueryLine, IsAnswered}
 
 some_same : {A : Type 0} (x y : A) → Some x ≡ Some y → x ≡ y
 some_same x y e = ap (λ o. unwrap_or o x) e
@@ -38,9 +38,9 @@ one_grammar bytes g h p q = q.is ∙ (ap grammar_of (one_parts bytes q.parts p.p
 pub one_view : (g : Grammar) (bytes : List ℕ) (u v : View) → TellsView g bytes u → TellsView g bytes v → v ≡ u
 one_view g bytes u v p q = q.1 ∙ sym p.1
 
-one_event : (l : Line) (e f : Event) → IsEventLine l e → IsEventLine l f → e ≡ f
-one_event l e f p q =
-    some_same e f (sym p.1.2 ∙ (ap event_of (one_reading _ p.1.0 q.1.0 p.1.1 q.1.1) ∙ q.1.2))
+pub one_event : (text : List ℕ) (e f : Event) → IsEventText text e → IsEventText text f → e ≡ f
+one_event text e f p q =
+    some_same e f (sym p.2 ∙ (ap event_of (one_reading text p.0 q.0 p.1 q.1) ∙ q.2))
 
 pub one_list : (ls : List Line) (es fs : List Event) → AreEvents ls es → AreEvents ls fs → es ≡ fs
 one_list [] [] [] p q = refl
@@ -49,7 +49,7 @@ one_list [] (e ∷ es) fs p q = absurd p
 one_list (l ∷ ls) [] fs p q = absurd p
 one_list (l ∷ ls) (e ∷ es) [] p q = absurd q
 one_list (l ∷ ls) (e ∷ es) (f ∷ fs) p q =
-    ap (λ x. x ∷ es) (one_event l e f p.0 q.0) ∙ ap (λ xs. f ∷ xs) (one_list ls es fs p.1 q.1)
+    ap (λ x. x ∷ es) (one_event (text_of l.raw) e f p.0.1 q.0.1) ∙ ap (λ xs. f ∷ xs) (one_list ls es fs p.1 q.1)
 
 pub one_run : (g : Grammar) (u : View) (limit : ℕ) (bytes : List ℕ) (es fs : List Event) → TellsRun g u limit bytes es → TellsRun g u limit bytes fs → fs ≡ es
 one_run g u limit bytes es fs p q = one_list _ fs es q.read p.read

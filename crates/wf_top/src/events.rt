@@ -14,7 +14,7 @@ use crate::ending::{Ending, Place};
 use std::alloc::Global;
 use wf_events::{EventFault, read_event};
 use wf_flat::{PlainRun, is_finished};
-use wf_io::{LineFault, WholeLines};
+use wf_io::WholeLines;
 use wf_spec::{Event, Grammar, RunFault};
 
 /// The greatest number of instances of a run.
@@ -45,22 +45,16 @@ fn take_line(alloc: Global, g: &Grammar, run: &mut PlainRun, line: &[u8]) -> Res
     ensures declines { IfErr result (λ d. Declines Events (λ e. IsEventText line.now e × IsAccepted g.now instance_most (events_of run.old ++ e ∷ [])) d) }
 {
     let event = event_of_line(alloc, line)?;
-    match run.take(g, &event) {
-        Ok(()) => Ok(()),
-        Err(RunFault::NoMemory) => Err(Ending::NoMemory),
-        Err(_) => Err(REFUSED),
+    let Err(fault) = run.take(g, &event) else {
+        return Ok(());
+    };
+    match fault {
+        RunFault::NoMemory => Err(Ending::NoMemory),
+        _ => Err(REFUSED),
     }
 }
 
-fn next_line<'b>(lines: &mut WholeLines<'b>) -> Result<Option<&'b [u8]>, Ending>
-{
-    match lines.next() {
-        Ok(line) => Ok(line),
-        Err(_) => Err(REFUSED),
-    }
-}
-
-/// Takes all lines.
+/// The run of all lines. It goes on behind no line that is refused.
 fn take_lines(alloc: Global, g: &Grammar, bytes: &[u8]) -> Result<PlainRun, Ending>
     ensures run { IfOk result (λ r. IsRunOf g.now r × (r.most ≡ instance_most)) }
     ensures read { IfOk result (λ r. AreEvents (lines_of bytes.now) (events_of r)) }
@@ -68,10 +62,15 @@ fn take_lines(alloc: Global, g: &Grammar, bytes: &[u8]) -> Result<PlainRun, Endi
 {
     let mut run = PlainRun::new(alloc, INSTANCES);
     let mut lines = WholeLines::open(bytes);
-    while let Some(line) = next_line(&mut lines)? {
+    loop {
+        let Ok(next) = lines.next() else {
+            return Err(REFUSED);
+        };
+        let Some(line) = next else {
+            return Ok(run);
+        };
         take_line(alloc, g, &mut run, line)?;
     }
-    Ok(run)
 }
 
 /// The run that events tell, which is finished under the default view, whose modules are marked.
