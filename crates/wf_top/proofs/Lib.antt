@@ -2,3 +2,6 @@ pub mod Putting
 pub mod Stages
 pub mod OneOutcome
 pub mod Answering
+pub mod FlatLinks
+pub mod Marked
+pub mod Answered
