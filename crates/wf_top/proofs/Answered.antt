@@ -1,5 +1,5 @@
 -- Answers to queries on a finished run under the default view.
-use Rattle.std.proofs.Common.{◌≡◌, ◌≢◌, ℕ, ◌<◌, ◌⊎◌, ◌&&◌, Bool, true, false, cond, List, [], ◌∷◌, ◌++◌, map, length, Option, Some, None, option_map, bytes_eq, codes, refl, sym, ap, ◌∙◌, subst, inl, inr, ⊎_elim, arith, append_assoc, append-nil, true≢false}
+use Rattle.std.proofs.Common.{◌≡◌, ◌≢◌, ℕ, ◌<◌, ◌&&◌, Bool, true, false, cond, List, [], ◌∷◌, ◌++◌, map, length, Option, Some, None, option_map, bytes_eq, codes, refl, sym, ap, ◌∙◌, subst, inl, inr, ⊎_elim, append_assoc, append-nil, true≢false}
 use Rattle.std.specs.Prelude.{◌↔◌, IsTrue, IfSome}
 use Rattle.std.proofs.lemmas.List.{length-map}
 use Rattle.wf_model.specs.Lists.{IsIn, AllDiffer}
@@ -10,9 +10,9 @@ use Rattle.wf_model.specs.DefaultView.{default_view}
 use Rattle.wf_model.specs.declared.event.Event.{Event}
 use Rattle.wf_model.specs.declared.event.Event.TheVariants.{Start, Expand}
 use Rattle.wf_model.specs.Run.{Instance, made, names_of, AllExtend, IsRun, opens, seen_in, IsFinished}
-use Rattle.wf_model.specs.Links.{Port, links, Path}
-use Rattle.wf_model.specs.Items.{Item, input_items, output_items, edge_item, items_by, items, PathBetween, Depends}
-use Rattle.wf_model.specs.Finishing.{ExpandsAll, IsFinishing}
+use Rattle.wf_model.specs.Links.{Port, Path}
+use Rattle.wf_model.specs.Items.{Item, input_items, output_items, edge_item, items_by, items, PathBetween}
+use Rattle.wf_model.specs.Finishing.{ExpandsAll}
 use Rattle.wf_model.proofs.Lists.{in_append_left, in_append_cases, in_map_from, in_flat_map_from, some_from, same_bytes, bytes_same}
 use Rattle.wf_model.proofs.Runs.{made-append}
 use Rattle.wf_model.proofs.Differ.{made_differ}
@@ -53,10 +53,11 @@ expanded_made g m b (Start r ∷ a) i p names x (inl e) = absurd (cc)
 expanded_made g m b (Expand j q new ∷ a) i p names x (inl e) =
     let ei : i ≡ j = cc in
     let ep : p ≡ q = cc in
-    let can = x.0 in
-    (subst (λ (z : List Instance). IsIn (record { name = i; module_no = head_of g p }) z) (sym (made-append g m b (Expand j q new ∷ a)))
-    (in_append_left _ (made g m b) _ (subst (λ n. IsIn (record { name = n; module_no = head_of g p }) (made g m b)) (sym ei) (subst (λ k. IsIn (record { name = j; module_no = head_of g k }) (made g m b)) (sym ep) can.stands))),
-    subst (λ k. k < length g.productions) (sym ep) can.in_range)
+    let can = x.0 in (
+      subst (λ (z : List Instance). IsIn (record { name = i; module_no = head_of g p }) z) (sym (made-append g m b (Expand j q new ∷ a)))
+          (in_append_left _ (made g m b) _ (subst (λ n. IsIn (record { name = n; module_no = head_of g p }) (made g m b)) (sym ei) (subst (λ k. IsIn (record { name = j; module_no = head_of g k }) (made g m b)) (sym ep) can.stands))),
+      subst (λ k. k < length g.productions) (sym ep) can.in_range,
+    )
 expanded_made g m b (e ∷ a) i p names x (inr h) =
     let r = expanded_made g m (b ++ e ∷ []) a i p names x.1 h in
     (subst (λ l. IsIn (record { name = i; module_no = head_of g p }) (made g m l)) (append_assoc b (e ∷ []) a) r.0, r.1)

@@ -1,5 +1,5 @@
 -- The links of a finished run, from those that rows of pairs give.
-use Rattle.std.proofs.Common.{◌≡◌, ℕ, zero, suc, ◌<◌, Bool, false, cond, List, [], ◌∷◌, length, get_or, Option, refl, sym, ap, ◌∙◌, arith}
+use Rattle.std.proofs.Common.{◌≡◌, ℕ, zero, suc, ◌<◌, false, cond, List, [], ◌∷◌, length, get_or, Option, sym, ap, ◌∙◌, arith}
 use Rattle.wf_model.specs.declared.event.Event.{Event}
 use Rattle.wf_model.specs.Grammar.{Grammar, Module, inputs_of, outputs_of}
 use Rattle.wf_model.specs.View.{expands, shows}

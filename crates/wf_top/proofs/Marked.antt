@@ -1,5 +1,5 @@
 -- Marks of composite modules, and rows of the other modules.
-use Rattle.std.proofs.Common.{◌≡◌, ℕ, suc, ◌+◌, ◌<◌, ◌≤◌, ◌⊎◌, Bool, true, false, List, [], ◌∷◌, map, length, get_or, set, replicate, Option, Some, None, unwrap_or, refl, sym, ap, ◌∙◌, subst, inl, inr, ⊎_elim, arith, true≢false}
+use Rattle.std.proofs.Common.{◌≡◌, ℕ, ◌+◌, ◌<◌, ◌≤◌, ◌⊎◌, Bool, true, false, List, [], length, get_or, set, replicate, Option, Some, None, unwrap_or, sym, ap, ◌∙◌, subst, inl, inr, ⊎_elim, arith, true≢false}
 use Rattle.std.proofs.lemmas.Bool.{cases_eq, cases_lt}
 use Rattle.std.proofs.lemmas.List.{get_or-set_same, get_or-set_other, get_or-replicate, get_or_past, length-set, length-replicate}
 use Rattle.wf_model.specs.Lists.{IsIn}
@@ -11,7 +11,7 @@ use Rattle.wf_model.specs.Meaning.{bit_of, pairs_of}
 use Rattle.wf_model.proofs.Lists.{is_at, at_in, in_at, at_is, at_below}
 use Rattle.wf_model.proofs.DefaultView.{default_expands_all}
 use Rattle.wf_spec.specs.Tables.{AreRowsOf}
-use Rattle.wf_flat.specs.Graph.{flag_of, Marks, Agree, IsMadeFor}
+use Rattle.wf_flat.specs.Graph.{Marks, Agree, IsMadeFor}
 use Rattle.wf_top.specs.Leaf.{ShowsGiven, ShowsBelow}
 use Rattle.wf_top.proofs.FlatLinks.{is_module}
 

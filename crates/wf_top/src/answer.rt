@@ -11,7 +11,12 @@ use std::alloc::{AllocError, Global};
 use wf_flat::{Item, find_item};
 
 /// Whether an item depends on another, as a line.
-fn verdict(alloc: Global, p: &Prepared, first: Item, second: Item) -> Result<&'static [u8], AllocError>
+fn verdict(
+    alloc: Global,
+    p: &Prepared,
+    first: Item,
+    second: Item,
+) -> Result<&'static [u8], AllocError>
     requires prepared { IsPrepared p.now.grammar p.now.run p.now.flat }
     requires first { IsItemWithin (length p.now.run.instances) first }
     requires second { IsItemWithin (length p.now.run.instances) second }
@@ -31,7 +36,12 @@ fn verdict(alloc: Global, p: &Prepared, first: Item, second: Item) -> Result<&'s
 }
 
 /// The line that answers a query.
-pub fn answer(alloc: Global, p: &Prepared, first: &[u8], second: &[u8]) -> Result<&'static [u8], AllocError>
+pub fn answer(
+    alloc: Global,
+    p: &Prepared,
+    first: &[u8],
+    second: &[u8],
+) -> Result<&'static [u8], AllocError>
     requires { IsPrepared p.now.grammar p.now.run p.now.flat }
     ensures { IfOk result (λ line. IsAnswerLine p.now.grammar (default_view p.now.grammar) (events_of p.now.run) first.now second.now line.now) }
 {

@@ -10,7 +10,7 @@ returns-in_default c =
     let q = c.requires in
     record {
       answer = codes "unknown";
-      is = first_unknown p.grammar q.formed (events_of p.run) q.run.accepted.0 q.finished c.args.first.now c.args.second.now (c.in_default.ensures.none tt);
+      is = first_unknown p.grammar q.formed (events_of p.run) q.run.accepted.0 q.finished c.args.first.now c.args.second.now (c.in_default.ensures.none refl);
       ends = refl;
     }
 
@@ -21,7 +21,7 @@ returns-in_default-find_item c =
     record {
       answer = codes "unknown";
       is = second_unknown p.grammar q.formed (events_of p.run) q.run.accepted.0 q.finished c.args.first.now c.args.second.now
-          (named_item (names_in p.run.instances) c.args.first.now c.in-Some.a) c.in-Some.ensures.found refl (c.in_default-find_item.ensures.none tt);
+          (named_item (names_in p.run.instances) c.args.first.now c.in-Some.a) c.in-Some.ensures.found refl (c.in_default-find_item.ensures.none refl);
       ends = refl;
     }
 

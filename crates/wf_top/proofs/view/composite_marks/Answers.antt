@@ -1,4 +1,4 @@
-use Rattle.std.proofs.Common.{◌<◌, length, ap, subst, arith}
+use Rattle.std.proofs.Common.{length, ap, subst, arith}
 use Rattle.wf_model.specs.Lists.{IsIn}
 use Rattle.wf_top.proofs.Marked.{heads_within}
 use Rattle.wf_top.proofs.view.composite_marks.Goals as goal
