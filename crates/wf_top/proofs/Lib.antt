@@ -3,3 +3,6 @@ pub mod Stages
 pub mod OneOutcome
 pub mod Answering
 pub mod EventLines
+pub mod FlatLinks
+pub mod Marked
+pub mod Answered

@@ -1,12 +1,13 @@
 -- What queries are answered from.
-use Rattle.std.specs.Prelude.{◌≡◌, ◌++◌, ℕ, List, length, codes}
+use Rattle.std.specs.Prelude.{◌≡◌, ◌⊎◌, ◌++◌, ℕ, List, Option, length, codes}
 use Rattle.wf_model.specs.declared.event.Event.{Event}
 use Rattle.wf_model.specs.Grammar.{Grammar}
 use Rattle.wf_model.specs.WellFormed.{IsWellFormed}
 use Rattle.wf_model.specs.View.{View}
 use Rattle.wf_model.specs.DefaultView.{default_view}
 use Rattle.wf_model.specs.Run.{IsFinished}
-use Rattle.wf_model.specs.Links.{links}
+use Rattle.wf_model.specs.Links.{Port, links}
+use Rattle.wf_model.specs.Items.{PathBetween}
 use Rattle.wf_flat.specs.Table.{Table, IsRunOf, events_of, names_in}
 use Rattle.wf_flat.specs.Graph.{named_links}
 use Rattle.wf_flat.specs.Flat.{FlatSeen, AreWithin}
@@ -19,6 +20,10 @@ pub record IsPrepared (g : Grammar) (t : Table) (flat : FlatSeen) : Type 0 where
   pub finished : IsFinished g (default_view g) g.start (events_of t)
   pub links : named_links (names_in t.instances) flat.links ≡ links g (default_view g) g.start (events_of t)
   pub within : AreWithin (length t.instances) flat.links
+
+-- a line tells whether a path leads from a port to a port, either of which may not be there, in a run from the start module
+abbrev pub IsVerdictLine : Grammar → View → List Event → Option (Port (List ℕ)) → Option (Port (List ℕ)) → List ℕ → Type 0
+IsVerdictLine g u e x y line = ((line ≡ codes "yes\n") × PathBetween g u g.start e x y) ⊎ ((line ≡ codes "no\n") × ¬ PathBetween g u g.start e x y)
 
 -- a line is an answer and a newline
 pub record IsAnswerLine (g : Grammar) (u : View) (e : List Event) (first second line : List ℕ) : Type 0 where

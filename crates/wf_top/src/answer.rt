@@ -1,18 +1,56 @@
 // The answer to one query.
-ghost use Rattle.std.specs.Prelude.{◌≡◌, ◌++◌, ℕ, List, IfOk, codes};
+ghost use Rattle.std.specs.Prelude.{◌≡◌, ℕ, List, IfOk, length, option_map, codes};
 ghost use Rattle.wf_model.specs.DefaultView.{default_view};
-ghost use Rattle.wf_flat.specs.Table.{events_of};
-ghost use Rattle.wf_top.specs.Answers.{IsAnswer};
-ghost use Rattle.wf_top.specs.Prepared.{IsPrepared, IsAnswerLine};
+ghost use Rattle.wf_flat.specs.Table.{events_of, names_in};
+ghost use Rattle.wf_flat.specs.Graph.{named_port};
+ghost use Rattle.wf_flat.specs.Item.{IsItemWithin};
+ghost use Rattle.wf_top.specs.Prepared.{IsPrepared, IsVerdictLine, IsAnswerLine};
 
 use crate::prepared::Prepared;
 use std::alloc::{AllocError, Global};
+use wf_flat::{Item, find_item};
+
+/// Whether an item depends on another, as a line.
+fn verdict(
+    alloc: Global,
+    p: &Prepared,
+    first: Item,
+    second: Item,
+) -> Result<&'static [u8], AllocError>
+    requires prepared { IsPrepared p.now.grammar p.now.run p.now.flat }
+    requires first { IsItemWithin (length p.now.run.instances) first }
+    requires second { IsItemWithin (length p.now.run.instances) second }
+    ensures { IfOk result (λ line. IsVerdictLine p.now.grammar (default_view p.now.grammar) (events_of p.now.run) (option_map (named_port (names_in p.now.run.instances)) first.to) (option_map (named_port (names_in p.now.run.instances)) second.from) line.now) }
+{
+    let Some(from) = first.to else {
+        return Ok(b"no\n");
+    };
+    let Some(to) = second.from else {
+        return Ok(b"no\n");
+    };
+    let joined = p.flat.joined(alloc, from, to)?;
+    if joined {
+        return Ok(b"yes\n");
+    }
+    Ok(b"no\n")
+}
 
 /// The line that answers a query.
-pub fn answer(alloc: Global, p: &Prepared, first: &[u8], second: &[u8]) -> Result<&'static [u8], AllocError>
+pub fn answer(
+    alloc: Global,
+    p: &Prepared,
+    first: &[u8],
+    second: &[u8],
+) -> Result<&'static [u8], AllocError>
     requires { IsPrepared p.now.grammar p.now.run p.now.flat }
     ensures { IfOk result (λ line. IsAnswerLine p.now.grammar (default_view p.now.grammar) (events_of p.now.run) first.now second.now line.now) }
 {
-    let _ = alloc;
-    Err(AllocError)
+    let Some(a) = find_item(&p.grammar, &p.run, first) else {
+        return Ok(b"unknown\n");
+    };
+    let Some(b) = find_item(&p.grammar, &p.run, second) else {
+        return Ok(b"unknown\n");
+    };
+    let line = verdict(alloc, p, a, b)?;
+    Ok(line)
 }
