@@ -1,8 +1,8 @@
 // Values of one form.
-ghost use Rattle.std.specs.Prelude.{◌≡◌, ◌++◌, ℕ, List, Option, Some, None, option_map, IfOk};
+ghost use Rattle.std.specs.Prelude.{◌≡◌, Option, IfOk};
 ghost use Rattle.serde_json.specs.Data.{Data};
 ghost use Rattle.serde_json.specs.View.{view, items_view};
-ghost use Rattle.wf_json.specs.Forms.{text_form, items_form, list_form, two_items, pair_form, port_form, port_of, member_form, list_member};
+ghost use Rattle.wf_json.specs.Forms.{text_form, items_form, list_form, two_items, pair_form, member_form, list_member};
 
 use serde_json::Value;
 use std::alloc::{AllocError, Global};

@@ -1,5 +1,5 @@
 // The parts of a specification, by their forms.
-ghost use Rattle.std.specs.Prelude.{◌≡◌, ◌==◌, ℕ, List, Option, position, IfOk};
+ghost use Rattle.std.specs.Prelude.{◌≡◌, ◌==◌, position, IfOk};
 ghost use Rattle.wf_json.specs.Forms.{port_of, port_form};
 ghost use Rattle.wf_json.specs.SpecForm.{module_form, position_form, edge_form, entry_form, exit_form, production_form, ports_form, deps_form};
 

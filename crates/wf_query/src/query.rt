@@ -1,5 +1,5 @@
 // Query lines.
-ghost use Rattle.std.specs.Prelude.{◌≡◌, ℕ, List, IfOk, IfErr};
+ghost use Rattle.std.specs.Prelude.{IfOk, IfErr};
 ghost use Rattle.wf_query.specs.Line.{IsQuery, IsNoQuery};
 
 use crate::item::{cut, split_item};
