@@ -130,7 +130,7 @@ impl Model for Flat {
 }
 
 impl Flat {
-    /// The flat graph of a run. An instance is open where it is seen, expanded in the run and of a marked module: it has the edges, entries and exits of its production. A seen instance that is not open has the pairs of `leaf`.
+    /// The flat graph of a run. An instance is open where it is seen, expanded in the run and of a marked module: it has the edges, entries and exits of its production. A seen instance that is not open has the pairs of `leaf`, and none where `leaf` has no rows for its module.
     ///
     /// Cost: linear in the run and its links, each port found by hashing. Fails only for want of memory; more than 2^32 ports count as such.
     pub fn of(
