@@ -1,6 +1,6 @@
 -- Events taken line by line: what the lines so far tell, and why a line is refused.
-use Rattle.std.proofs.Common.{◌≡◌, ◌≢◌, ℕ, ◌+◌, ◌≤◌, ◌⊎◌, Bool, true, false, List, [], ◌∷◌, ◌++◌, length, Option, Some, None, refl, sym, ap, ◌∙◌, subst, inl, inr, ⊎_elim, arith, true≢false, append-nil, append_assoc, length-append}
-use Rattle.std.specs.Prelude.{IsTrue, ◌↔◌, Result, Ok, Err, IfErr}
+use Rattle.std.proofs.Common.{◌≡◌, ℕ, ◌+◌, ◌≤◌, ◌⊎◌, Bool, false, List, [], ◌∷◌, ◌++◌, length, Some, None, refl, sym, ap, ◌∙◌, subst, ⊎_elim, arith, true≢false, append-nil, append_assoc, length-append}
+use Rattle.std.specs.Prelude.{IsTrue, ◌↔◌, Result, Err, IfErr}
 use Rattle.wf_model.specs.declared.event.Event.{Event}
 use Rattle.wf_model.specs.declared.event.RunFault.{RunFault}
 use Rattle.wf_model.specs.declared.event.RunFault.TheVariants.{NoMemory as NoMemoryOfRun}
@@ -12,7 +12,7 @@ use Rattle.wf_model.specs.Faults.{fault_of}
 use Rattle.wf_model.proofs.Lists.{in_append_left}
 use Rattle.wf_model.proofs.Runs.{made-append, name_in, name_from, AllExtend-append}
 use Rattle.wf_model.proofs.Taking.{taking_law}
-use Rattle.wf_io.specs.Lines.{Line, LinesLeft, Lends, Refuses, Ends, is_too_long, text_of, lines_of}
+use Rattle.wf_io.specs.Lines.{Line, LinesLeft, Lends, Ends, text_of, lines_of}
 use Rattle.wf_flat.specs.Table.{Table, IsRunOf, events_of}
 use Rattle.wf_flat.proofs.Steps.{run_none}
 use Rattle.wf_top.specs.declared.ending.Ending.{Ending}
@@ -45,7 +45,7 @@ accepted_before g limit a b h =
       (AllExtend-append g g.start [] a b h.0).0,
       omega arith,
       λ n k. let r = name_from n (made g g.start a) k in
-        h.2 n (subst (λ x. IsIn x (names_of (made g g.start (a ++ b)))) (sym r.2) (name_in r.0 _ (subst (λ l. IsIn r.0 l) (sym e) (in_append_left r.0 (made g g.start a) (made g g.start b) r.1)))),
+          h.2 n (subst (λ x. IsIn x (names_of (made g g.start (a ++ b)))) (sym r.2) (name_in r.0 _ (subst (λ l. IsIn r.0 l) (sym e) (in_append_left r.0 (made g g.start a) (made g g.start b) r.1)))),
     )
 
 -- an event with a fault makes no accepted run
@@ -54,10 +54,13 @@ no_fault g limit before e f acc fault longer = let n : fault_of g limit before e
 
 -- a refused event, of a text that tells no other
 pub refused_event : (g : Grammar) (t : Table) (text : List ℕ) (e : Event) (f : RunFault) → IsRunOf g t → t.most ≡ instance_most → IsEventText text e → (f ≡ NoMemoryOfRun → ⊥) → (f ≡ NoMemoryOfRun) ⊎ (fault_of g t.most (events_of t) e ≡ Some f) → Declines Events (λ d. IsEventText text d × IsAccepted g instance_most (events_of t ++ d ∷ [])) (Refused Events)
-refused_event g t text e f run most told other fault = (refl, λ d h.
-    ⊎_elim other (λ q.
-    no_fault g t.most (events_of t) e f run.accepted q
-    (subst (λ m. IsAccepted g m (events_of t ++ e ∷ [])) (sym most) (subst (λ x. IsAccepted g instance_most (events_of t ++ x ∷ [])) (one_event text d e h.0 told) h.1))) fault)
+refused_event g t text e f run most told other fault = (
+  refl,
+  λ d h.
+      ⊎_elim other (λ q.
+      no_fault g t.most (events_of t) e f run.accepted q
+      (subst (λ m. IsAccepted g m (events_of t ++ e ∷ [])) (sym most) (subst (λ x. IsAccepted g instance_most (events_of t ++ x ∷ [])) (one_event text d e h.0 told) h.1))) fault,
+)
 
 -- a text that tells no event makes no run longer
 pub no_event : (g : Grammar) (before : List Event) (text : List ℕ) (d : Ending) → Declines Events (IsEventText text) d → Declines Events (λ e. IsEventText text e × IsAccepted g instance_most (before ++ e ∷ [])) d
@@ -111,22 +114,25 @@ module _ (g : Grammar) (all : List Line) (old new : LinesLeft) (t : Table) (take
     -- the next line is taken
     pub taken_more : (u : Table) → IsRunOf g u → u.most ≡ instance_most → (e : Event) × IsEventText text e × (events_of u ≡ events_of t ++ e ∷ []) → IsTaken g all new.left u
     taken_more u run most h = record {
-        run = run;
-        most = most;
-        forth = λ more k.
+      run = run;
+      most = most;
+      forth = λ more k.
           subst (AreEvents all) (sym (seam (events_of t) h.0 more) ∙ ap (λ x. x ++ more) (sym h.2))
           (taken.forth (h.0 ∷ more) (subst (λ x. AreEvents x (h.0 ∷ more)) (sym lends.takes.left) ((lends.short, told), k)));
-        back = λ es k.
+      back = λ es k.
           let r = taken.back es k in
           let s = first_event lends.first new.left old.left r.0 lends.takes.left r.2 in
           let same : s.0 ≡ h.0 = one_event (text_of lends.first.raw) s.0 h.0 s.3.1 told in
           (s.1, r.1 ∙ (ap (λ x. events_of t ++ x) (s.2 ∙ ap (λ x. x ∷ s.1) same) ∙ (sym (seam (events_of t) h.0 s.1) ∙ ap (λ x. x ++ s.1) (sym h.2))), s.4);
-      }
+    }
       where
         told : IsEventText (text_of lends.first.raw) h.0
         told = subst (λ x. IsEventText x h.0) lends.text_is h.1
 
 -- lines tell one run alone, which is not finished
 pub unfinished : (g : Grammar) (u : View) (bytes : List ℕ) (t : Table) (b : Bool) → AreEvents (lines_of bytes) (events_of t) → IsTrue b ↔ IsFinished g u g.start (events_of t) → b ≡ false → Declines Events (TellsRun g u instance_most bytes) (Refused Events)
-unfinished g u bytes t b read test open_end = (refl, λ es q.
-    true≢false (sym (test.1 (subst (IsFinished g u g.start) (one_list (lines_of bytes) es (events_of t) q.read read) q.finished)) ∙ open_end))
+unfinished g u bytes t b read test open_end = (
+  refl,
+  λ es q.
+      true≢false (sym (test.1 (subst (IsFinished g u g.start) (one_list (lines_of bytes) es (events_of t) q.read read) q.finished)) ∙ open_end),
+)

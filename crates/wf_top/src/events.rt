@@ -20,7 +20,9 @@ use wf_spec::{Event, Grammar, RunFault};
 /// The greatest number of instances of a run.
 const INSTANCES: u32 = 16777216;
 
-const REFUSED: Ending = Ending::Refused { place: Place::Events };
+const REFUSED: Ending = Ending::Refused {
+    place: Place::Events,
+};
 
 /// The event of a line.
 fn event_of_line(alloc: Global, line: &[u8]) -> Result<Event, Ending>
@@ -54,7 +56,7 @@ fn take_line(alloc: Global, g: &Grammar, run: &mut PlainRun, line: &[u8]) -> Res
     }
 }
 
-/// The run of all lines. It goes on behind no line that is refused.
+/// The run that all lines tell, or the refusal of the first line that tells no event of it.
 fn take_lines(alloc: Global, g: &Grammar, bytes: &[u8]) -> Result<PlainRun, Ending>
     ensures run { IfOk result (λ r. IsRunOf g.now r × (r.most ≡ instance_most)) }
     ensures read { IfOk result (λ r. AreEvents (lines_of bytes.now) (events_of r)) }
@@ -74,7 +76,16 @@ fn take_lines(alloc: Global, g: &Grammar, bytes: &[u8]) -> Result<PlainRun, Endi
 }
 
 /// The run that events tell, which is finished under the default view, whose modules are marked.
-pub fn run_of_bytes(alloc: Global, g: &Grammar, marks: &[bool], bytes: &[u8]) -> Result<PlainRun, Ending>
+///
+/// Refused at the first line that is too long, is no event, or is one that does not extend the run, and at the end where the run is not finished. `NoMemory` may come at any line.
+///
+/// Cost: linear in the bytes.
+pub fn run_of_bytes(
+    alloc: Global,
+    g: &Grammar,
+    marks: &[bool],
+    bytes: &[u8],
+) -> Result<PlainRun, Ending>
     requires { Marks marks.now (default_view g.now) }
     ensures run { IfOk result (λ r. IsRunOf g.now r) }
     ensures ok { IfOk result (λ r. TellsRun g.now (default_view g.now) instance_most bytes.now (events_of r)) }
