@@ -335,30 +335,24 @@ impl PlainRun {
         Ok(())
     }
 
-    /// The number of the instance that an event may expand.
-    fn place(
-        &self,
-        g: &Grammar,
-        instance: &[u8],
-        production: u64,
-        names: &[Name],
-    ) -> Result<u32, RunFault>
+    /// The number of the instance that an event may expand by the production of a number.
+    fn place(&self, g: &Grammar, name: &[u8], number: u64, names: &[Name]) -> Result<u32, RunFault>
         requires { IsRunOf g.now self.now }
-        ensures refused { IfErr result (λ f. fault_of g.now self.now.most (events_of self.now) (Expand instance.now production names.now) ≡ Some f) }
-        ensures extends { OnOk result (fault_of g.now self.now.most (events_of self.now) (Expand instance.now production names.now) ≡ None) }
-        ensures place { IfOk result (λ k. position (bytes_eq instance.now) (names_in self.now.instances) ≡ Some k) }
+        ensures refused { IfErr result (λ f. fault_of g.now self.now.most (events_of self.now) (Expand name.now number names.now) ≡ Some f) }
+        ensures extends { OnOk result (fault_of g.now self.now.most (events_of self.now) (Expand name.now number names.now) ≡ None) }
+        ensures place { IfOk result (λ k. position (bytes_eq name.now) (names_in self.now.instances) ≡ Some k) }
     {
         if self.instances.is_empty() {
             return Err(RunFault::NotStarted);
         }
-        let Some(k) = self.find(instance) else {
+        let Some(k) = self.find(name) else {
             return Err(RunFault::UnknownInstance);
         };
         let productions = g.productions();
-        if productions.len() as u64 <= production {
+        if productions.len() as u64 <= number {
             return Err(RunFault::UnknownProduction);
         }
-        let rule = &productions[production as usize];
+        let rule = &productions[number as usize];
         let x = &self.instances[k as usize];
         if x.module != rule.head() {
             return Err(RunFault::WrongHead);

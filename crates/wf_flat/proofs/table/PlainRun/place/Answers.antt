@@ -11,25 +11,25 @@ pub returns-in_default-clause-refused : goal.returns-in_default-clause-refused
 returns-in_default-clause-refused c =
     let full = empty_test _ _ c.is_empty.ensures c.if-is_empty.false in
     let l = c.self.inside.instances.ok.0 ∙ ap (λ (t : Table). length t.instances) c.self.view_is in
-    step _ (not_nil c.args.self.now (subst (λ n. 0 < n) l full)) (stop _ (ap not (unknown c.args.g.now c.args.self.now c.requires c.args.instance.now (sym c.find.ensures.place ∙ c.in_default.is))))
+    step _ (not_nil c.args.self.now (subst (λ n. 0 < n) l full)) (stop _ (ap not (unknown c.args.g.now c.args.self.now c.requires c.args.name.now (sym c.find.ensures.place ∙ c.in_default.is))))
 
-pub returns-then-productions-production-clause-refused : goal.returns-then-productions-production-clause-refused
-returns-then-productions-production-clause-refused c =
-    passed_two c.args.g.now c.args.self.now c.requires c.args.instance.now c.args.production c.args.names.now _ (sym c.find.ensures.place ∙ c.in-Some.is)
-    ∙ stop _ (above_count c.args.g.now _ c.args.production c.productions-productions.ensures.productions c.if-productions-production.true)
+pub returns-then-productions-number-clause-refused : goal.returns-then-productions-number-clause-refused
+returns-then-productions-number-clause-refused c =
+    passed_two c.args.g.now c.args.self.now c.requires c.args.name.now c.args.number c.args.names.now _ (sym c.find.ensures.place ∙ c.in-Some.is)
+    ∙ stop _ (above_count c.args.g.now _ c.args.number c.productions-productions.ensures.productions c.if-productions-number.true)
 
 pub returns-then-ne-clause-refused : goal.returns-then-ne-clause-refused
 returns-then-ne-clause-refused c =
     let g = c.args.g.now in
     let t = c.args.self.now in
     let ps = c.productions-productions.ensures.productions in
-    let within = c.if-productions-production.false in
-    let rule = c.index-productions-production.is in
-    let h = c.head.ensures ∙ head_read g _ c.args.production _ ps within rule in
+    let within = c.if-productions-number.false in
+    let rule = c.index-productions-number.is in
+    let h = c.head.ensures ∙ head_read g _ c.args.number _ ps within rule in
     let place = sym c.find.ensures.place ∙ c.in-Some.is in
     let same = ap (λ (t : Table). t.instances) c.self.view_is in
-    let low = below_count g _ c.args.production ps within in
-    passed g t c.requires c.args.instance.now c.args.production c.args.names.now _ _ _ place same c.index-x.ensures
+    let low = below_count g _ c.args.number ps within in
+    passed g t c.requires c.args.name.now c.args.number c.args.names.now _ _ _ place same c.index-x.ensures
     ∙ step _ low (stop _ (ap (λ m. not (c.index-x.result.now.module.0 == m)) (sym h) ∙ (sym c.ne.ensures ∙ c.if-ne.true)))
 
 pub returns-then-is_some-clause-refused : goal.returns-then-is_some-clause-refused
@@ -37,13 +37,13 @@ returns-then-is_some-clause-refused c =
     let g = c.args.g.now in
     let t = c.args.self.now in
     let ps = c.productions-productions.ensures.productions in
-    let within = c.if-productions-production.false in
-    let rule = c.index-productions-production.is in
-    let h = c.head.ensures ∙ head_read g _ c.args.production _ ps within rule in
+    let within = c.if-productions-number.false in
+    let rule = c.index-productions-number.is in
+    let h = c.head.ensures ∙ head_read g _ c.args.number _ ps within rule in
     let place = sym c.find.ensures.place ∙ c.in-Some.is in
     let same = ap (λ (t : Table). t.instances) c.self.view_is in
-    let low = below_count g _ c.args.production ps within in
-    passed g t c.requires c.args.instance.now c.args.production c.args.names.now _ _ _ place same c.index-x.ensures
+    let low = below_count g _ c.args.number ps within in
+    passed g t c.requires c.args.name.now c.args.number c.args.names.now _ _ _ place same c.index-x.ensures
     ∙ step _ low (step _ (ap (λ m. not (c.index-x.result.now.module.0 == m)) (sym h) ∙ (sym c.ne.ensures ∙ c.if-ne.false)) (stop _ (sym c.is_some.ensures ∙ c.if-is_some.true)))
 
 pub returns-then-names-positions-clause-refused : goal.returns-then-names-positions-clause-refused
@@ -51,14 +51,14 @@ returns-then-names-positions-clause-refused c =
     let g = c.args.g.now in
     let t = c.args.self.now in
     let ps = c.productions-productions.ensures.productions in
-    let within = c.if-productions-production.false in
-    let rule = c.index-productions-production.is in
-    let h = c.head.ensures ∙ head_read g _ c.args.production _ ps within rule in
+    let within = c.if-productions-number.false in
+    let rule = c.index-productions-number.is in
+    let h = c.head.ensures ∙ head_read g _ c.args.number _ ps within rule in
     let place = sym c.find.ensures.place ∙ c.in-Some.is in
     let same = ap (λ (t : Table). t.instances) c.self.view_is in
-    let low = below_count g _ c.args.production ps within in
-    let count = sym (length-map c.positions.result.now position_of) ∙ (ap length c.positions.ensures ∙ length_read g _ c.args.production _ ps within rule) in
-    until_names g t c.requires c.args.instance.now c.args.production c.args.names.now _ _ _ place same c.index-x.ensures low (ap (λ m. not (c.index-x.result.now.module.0 == m)) (sym h) ∙ (sym c.ne.ensures ∙ c.if-ne.false)) (sym c.is_some.ensures ∙ c.if-is_some.false)
+    let low = below_count g _ c.args.number ps within in
+    let count = sym (length-map c.positions.result.now position_of) ∙ (ap length c.positions.ensures ∙ length_read g _ c.args.number _ ps within rule) in
+    until_names g t c.requires c.args.name.now c.args.number c.args.names.now _ _ _ place same c.index-x.ensures low (ap (λ m. not (c.index-x.result.now.module.0 == m)) (sym h) ∙ (sym c.ne.ensures ∙ c.if-ne.false)) (sym c.is_some.ensures ∙ c.if-is_some.false)
     ∙ stop _ (differ_test (length c.args.names.now) _ _ c.if-names-positions.true count)
 
 pub returns-then-not-are_short-clause-refused : goal.returns-then-not-are_short-clause-refused
@@ -66,14 +66,14 @@ returns-then-not-are_short-clause-refused c =
     let g = c.args.g.now in
     let t = c.args.self.now in
     let ps = c.productions-productions.ensures.productions in
-    let within = c.if-productions-production.false in
-    let rule = c.index-productions-production.is in
-    let h = c.head.ensures ∙ head_read g _ c.args.production _ ps within rule in
+    let within = c.if-productions-number.false in
+    let rule = c.index-productions-number.is in
+    let h = c.head.ensures ∙ head_read g _ c.args.number _ ps within rule in
     let place = sym c.find.ensures.place ∙ c.in-Some.is in
     let same = ap (λ (t : Table). t.instances) c.self.view_is in
-    let low = below_count g _ c.args.production ps within in
-    let count = sym (length-map c.positions.result.now position_of) ∙ (ap length c.positions.ensures ∙ length_read g _ c.args.production _ ps within rule) in
-    until_names g t c.requires c.args.instance.now c.args.production c.args.names.now _ _ _ place same c.index-x.ensures low (ap (λ m. not (c.index-x.result.now.module.0 == m)) (sym h) ∙ (sym c.ne.ensures ∙ c.if-ne.false)) (sym c.is_some.ensures ∙ c.if-is_some.false)
+    let low = below_count g _ c.args.number ps within in
+    let count = sym (length-map c.positions.result.now position_of) ∙ (ap length c.positions.ensures ∙ length_read g _ c.args.number _ ps within rule) in
+    until_names g t c.requires c.args.name.now c.args.number c.args.names.now _ _ _ place same c.index-x.ensures low (ap (λ m. not (c.index-x.result.now.module.0 == m)) (sym h) ∙ (sym c.ne.ensures ∙ c.if-ne.false)) (sym c.is_some.ensures ∙ c.if-is_some.false)
     ∙ step _ (same_test _ _ _ c.if-names-positions.false count) (stop _ (ap not (sym c.are_short.ensures ∙ c.if-not-are_short.true)))
 
 pub returns-then-repeats-clause-refused : goal.returns-then-repeats-clause-refused
@@ -81,15 +81,15 @@ returns-then-repeats-clause-refused c =
     let g = c.args.g.now in
     let t = c.args.self.now in
     let ps = c.productions-productions.ensures.productions in
-    let within = c.if-productions-production.false in
-    let rule = c.index-productions-production.is in
-    let h = c.head.ensures ∙ head_read g _ c.args.production _ ps within rule in
+    let within = c.if-productions-number.false in
+    let rule = c.index-productions-number.is in
+    let h = c.head.ensures ∙ head_read g _ c.args.number _ ps within rule in
     let place = sym c.find.ensures.place ∙ c.in-Some.is in
     let same = ap (λ (t : Table). t.instances) c.self.view_is in
-    let low = below_count g _ c.args.production ps within in
-    let count = sym (length-map c.positions.result.now position_of) ∙ (ap length c.positions.ensures ∙ length_read g _ c.args.production _ ps within rule) in
+    let low = below_count g _ c.args.number ps within in
+    let count = sym (length-map c.positions.result.now position_of) ∙ (ap length c.positions.ensures ∙ length_read g _ c.args.number _ ps within rule) in
     let taken = c.self.invariant.same_names ∙ ap (λ (t : Table). names_in t.instances) c.self.view_is in
-    until_names g t c.requires c.args.instance.now c.args.production c.args.names.now _ _ _ place same c.index-x.ensures low (ap (λ m. not (c.index-x.result.now.module.0 == m)) (sym h) ∙ (sym c.ne.ensures ∙ c.if-ne.false)) (sym c.is_some.ensures ∙ c.if-is_some.false)
+    until_names g t c.requires c.args.name.now c.args.number c.args.names.now _ _ _ place same c.index-x.ensures low (ap (λ m. not (c.index-x.result.now.module.0 == m)) (sym h) ∙ (sym c.ne.ensures ∙ c.if-ne.false)) (sym c.is_some.ensures ∙ c.if-is_some.false)
     ∙ step _ (same_test _ _ _ c.if-names-positions.false count) (step _ (ap not (sym c.are_short.ensures ∙ c.if-not-are_short.false))
     (stop _ (ap (λ l. some_twice l c.args.names.now) (sym taken) ∙ (sym c.repeats.ensures ∙ c.if-repeats.true))))
 
@@ -98,17 +98,17 @@ returns-then-self-len-clause-refused c =
     let g = c.args.g.now in
     let t = c.args.self.now in
     let ps = c.productions-productions.ensures.productions in
-    let within = c.if-productions-production.false in
-    let rule = c.index-productions-production.is in
-    let h = c.head.ensures ∙ head_read g _ c.args.production _ ps within rule in
+    let within = c.if-productions-number.false in
+    let rule = c.index-productions-number.is in
+    let h = c.head.ensures ∙ head_read g _ c.args.number _ ps within rule in
     let place = sym c.find.ensures.place ∙ c.in-Some.is in
     let same = ap (λ (t : Table). t.instances) c.self.view_is in
-    let low = below_count g _ c.args.production ps within in
-    let count = sym (length-map c.positions.result.now position_of) ∙ (ap length c.positions.ensures ∙ length_read g _ c.args.production _ ps within rule) in
+    let low = below_count g _ c.args.number ps within in
+    let count = sym (length-map c.positions.result.now position_of) ∙ (ap length c.positions.ensures ∙ length_read g _ c.args.number _ ps within rule) in
     let most = ap (λ (t : Table). t.most) c.self.view_is in
     let taken = c.self.invariant.same_names ∙ ap (λ (t : Table). names_in t.instances) c.self.view_is in
     let all = c.len.ensures ∙ (c.self.inside.instances.ok.0 ∙ ap length same) in
-    until_names g t c.requires c.args.instance.now c.args.production c.args.names.now _ _ _ place same c.index-x.ensures low (ap (λ m. not (c.index-x.result.now.module.0 == m)) (sym h) ∙ (sym c.ne.ensures ∙ c.if-ne.false)) (sym c.is_some.ensures ∙ c.if-is_some.false)
+    until_names g t c.requires c.args.name.now c.args.number c.args.names.now _ _ _ place same c.index-x.ensures low (ap (λ m. not (c.index-x.result.now.module.0 == m)) (sym h) ∙ (sym c.ne.ensures ∙ c.if-ne.false)) (sym c.is_some.ensures ∙ c.if-is_some.false)
     ∙ step _ (same_test _ _ _ c.if-names-positions.false count) (step _ (ap not (sym c.are_short.ensures ∙ c.if-not-are_short.false))
     (step _ (ap (λ l. some_twice l c.args.names.now) (sym taken) ∙ (sym c.repeats.ensures ∙ c.if-repeats.false))
     (stop _ (let m : c.args.self.now.most < c.len.result + length c.args.names.now = omega arith in over_test c.args.self.now.most (length c.args.self.now.instances) (length c.args.names.now) _ m all))))
@@ -118,17 +118,17 @@ returns-clause-extends c =
     let g = c.args.g.now in
     let t = c.args.self.now in
     let ps = c.productions-productions.ensures.productions in
-    let within = c.if-productions-production.false in
-    let rule = c.index-productions-production.is in
-    let h = c.head.ensures ∙ head_read g _ c.args.production _ ps within rule in
+    let within = c.if-productions-number.false in
+    let rule = c.index-productions-number.is in
+    let h = c.head.ensures ∙ head_read g _ c.args.number _ ps within rule in
     let place = sym c.find.ensures.place ∙ c.in-Some.is in
     let same = ap (λ (t : Table). t.instances) c.self.view_is in
-    let low = below_count g _ c.args.production ps within in
-    let count = sym (length-map c.positions.result.now position_of) ∙ (ap length c.positions.ensures ∙ length_read g _ c.args.production _ ps within rule) in
+    let low = below_count g _ c.args.number ps within in
+    let count = sym (length-map c.positions.result.now position_of) ∙ (ap length c.positions.ensures ∙ length_read g _ c.args.number _ ps within rule) in
     let most = ap (λ (t : Table). t.most) c.self.view_is in
     let taken = c.self.invariant.same_names ∙ ap (λ (t : Table). names_in t.instances) c.self.view_is in
     let all = c.len.ensures ∙ (c.self.inside.instances.ok.0 ∙ ap length same) in
-    until_names g t c.requires c.args.instance.now c.args.production c.args.names.now _ _ _ place same c.index-x.ensures low (ap (λ m. not (c.index-x.result.now.module.0 == m)) (sym h) ∙ (sym c.ne.ensures ∙ c.if-ne.false)) (sym c.is_some.ensures ∙ c.if-is_some.false)
+    until_names g t c.requires c.args.name.now c.args.number c.args.names.now _ _ _ place same c.index-x.ensures low (ap (λ m. not (c.index-x.result.now.module.0 == m)) (sym h) ∙ (sym c.ne.ensures ∙ c.if-ne.false)) (sym c.is_some.ensures ∙ c.if-is_some.false)
     ∙ step _ (same_test _ _ _ c.if-names-positions.false count) (step _ (ap not (sym c.are_short.ensures ∙ c.if-not-are_short.false))
     (step _ (ap (λ l. some_twice l c.args.names.now) (sym taken) ∙ (sym c.repeats.ensures ∙ c.if-repeats.false))
     (step _ (let m : c.len.result + length c.args.names.now ≤ c.args.self.now.most = omega arith in under_test c.args.self.now.most (length c.args.self.now.instances) (length c.args.names.now) _ m all) refl)))
