@@ -1,28 +1,34 @@
 -- The tables of a grammar.
-use Rattle.std.proofs.Common.{◌≡◌, ◌≢◌, ℕ, zero, suc, ◌+◌, ◌-◌, ◌^◌, ◌<◌, ◌≤◌, nat_lt, Bool, true, false, cond, ◌==◌, add-one, zero-add, List, [], ◌∷◌, ◌++◌, Vec, Global, map, length, get_or, set, filter, refl, sym, ap, subst, ◌∙◌, arith}
+use Rattle.std.proofs.Common.{◌≡◌, ◌≢◌, ℕ, zero, suc, ◌+◌, ◌-◌, ◌^◌, ◌<◌, ◌≤◌, nat_lt, Bool, true, false, cond, ◌==◌, add-one, zero-add, List, [], ◌∷◌, ◌++◌, Vec, Global, map, length, get_or, set, take, filter, count_by, refl, sym, ap, subst, ◌∙◌, arith}
 use Rattle.std.proofs.lemmas.Bool.{eqb-true, eqb-false, eq-eqb}
-use Rattle.std.proofs.lemmas.List.{length-set, get_or-set_same, get_or-set_other, append-nil, length-map, map-set, map-append, get_or-map, get_or_past, get_or-replicate, length-replicate}
+use Rattle.std.proofs.lemmas.List.{length-set, length-append, length-take-le, get_or-set_same, get_or-set_other, append-nil, length-map, map-set, map-append, get_or-map, get_or_past, get_or-replicate, length-replicate}
 use Rattle.std.proofs.lemmas.List.Elements.{filter-append}
 use Rattle.wf_model.specs.declared.numbers.ProdNo.{ProdNo}
 use Rattle.wf_model.specs.Lists.{IsIn, numbers_from}
 use Rattle.std.proofs.lemmas.Nat.Bits.{bit_at_ones, bit_at_ones_above, bit_at-zero}
+use Rattle.std.proofs.lemmas.List.Sums.{count_by-le-length, count_by_more_yes, count_by_more_no}
 use Rattle.std.specs.Int.{bit_at}
 use borrow.Author.Tests.{ltb-true, ltb-false}
 use Rattle.wf_model.specs.Grammar.{Grammar, Module, Production, inputs_of, outputs_of, module_at, is_given}
 use Rattle.wf_model.specs.WellFormed.{IsWellFormed}
 use Rattle.wf_model.proofs.Lists.{at_in, is_at, in_at, at_is, at_below}
-use Rattle.wf_spec.specs.Tables.{headed, AreByHead, AreRowsOf, full_rows, numbers_in}
+use Rattle.wf_spec.specs.Tables.{head_at, headed, places, AreByHead, AreRowsOf, full_rows, numbers_in}
 
 pub get_in : {A : Type 0} (k : ℕ) (xs : List A) (d : A) → k < length xs → IsIn (get_or xs k d) xs
 get_in k xs d h = at_in (get_or xs k d) k xs (is_at k xs d h)
 
+pub length-numbers : (k n : ℕ) → length (numbers_from k n) ≡ n
+length-numbers k zero = refl
+length-numbers k (suc n) = ap suc (length-numbers (suc k) n)
+
+pub number_at : (k n i : ℕ) → i < n → get_or (numbers_from k n) i 0 ≡ k + i
+number_at k zero i h = absurd (omega arith)
+number_at k (suc n) zero h = omega arith
+number_at k (suc n) (suc i) h = number_at (suc k) n i (omega arith) ∙ omega arith
+
 pub numbers_from-last : (k n : ℕ) → numbers_from k (suc n) ≡ numbers_from k n ++ (k + n) ∷ []
 numbers_from-last k zero = ap (λ j. j ∷ []) (omega arith)
 numbers_from-last k (suc n) = ap (λ js. k ∷ js) (numbers_from-last (suc k) n ∙ ap (λ j. numbers_from (suc k) n ++ j ∷ []) (omega arith))
-
--- the head of the production of this number
-abbrev pub head_at : List Production → ℕ → ℕ
-head_at ps n = (get_or ps n (record { head = 0; positions = []; edges = []; entries = []; exits = [] })).head
 
 pub headed-next : (ps : List Production) (n m : ℕ) → headed ps (suc n) m ≡ headed ps n m ++ cond (head_at ps n == m) (n ∷ []) []
 headed-next ps n m =
@@ -126,3 +132,62 @@ full_are g m none few = record {
 
 pub outputs_within : (g : Grammar) (m : ℕ) → IsWellFormed g → m < length g.modules → outputs_of g m ≤ 64
 outputs_within g m formed below = (formed.modules (module_at g m) (get_in m g.modules no_module below)).few_outputs
+
+-- one place more
+pub placed_more : (ps : List Production) (n k : ℕ) (old new : List ℕ) → old ≡ places ps n → k ≡ length (headed ps n (head_at ps n)) → new ≡ old ++ k ∷ [] → new ≡ places ps (n + 1)
+placed_more ps n k old new so_far here is =
+    is ∙ ap (λ ks. ks ++ k ∷ []) so_far ∙ ap (λ j. places ps n ++ j ∷ []) here
+    ∙ sym (ap (places ps) (add-one n) ∙ ap (map place) (numbers_from-last 0 n) ∙ map-append place (numbers_from 0 n) ((0 + n) ∷ []) ∙ ap (λ j. places ps n ++ place j ∷ []) (zero-add n))
+  where
+    place : ℕ → ℕ
+    place p = length (headed ps p (head_at ps p))
+
+-- the productions before the n-th that have a head, by their numbers and by their count
+pub headed_count : (ps : List Production) (n m : ℕ) → n ≤ length ps → length (headed ps n m) ≡ count_by (λ (r : Production). r.head == m) (take n ps)
+headed_count ps zero m h = refl
+headed_count ps (suc n) m h = by (headed_count ps n m (omega arith)) (head_at ps n == m) refl
+  where
+    none : Production
+    none = record { head = 0; positions = []; edges = []; entries = []; exits = [] }
+
+    test : Production → Bool
+    test r = r.head == m
+
+    by : length (headed ps n m) ≡ count_by test (take n ps) → (b : Bool) → (head_at ps n == m) ≡ b → length (headed ps (suc n) m) ≡ count_by test (take (suc n) ps)
+    by before true is =
+        let inside : n < length ps = omega arith in
+        ap length (headed-next ps n m ∙ ap (λ c. headed ps n m ++ cond c (n ∷ []) []) is) ∙ length-append (headed ps n m) (n ∷ []) ∙ ap (λ k. k + 1) before
+        ∙ sym (ap (λ k. count_by test (take k ps)) (sym (add-one n)) ∙ count_by_more_yes test ps n none inside is)
+    by before false is =
+        let inside : n < length ps = omega arith in
+        ap length (headed-next ps n m ∙ ap (λ c. headed ps n m ++ cond c (n ∷ []) []) is ∙ append-nil (headed ps n m)) ∙ before
+        ∙ sym (ap (λ k. count_by test (take k ps)) (sym (add-one n)) ∙ count_by_more_no test ps n none inside is)
+
+-- a list is no longer than the productions before it
+pub headed_few : (ps : List Production) (n m : ℕ) → n ≤ length ps → length (headed ps n m) ≤ n
+headed_few ps n m h =
+    subst (λ k. k ≤ n) (sym (headed_count ps n m h))
+    (omega (arith, count_by-le-length (λ (r : Production). r.head == m) (take n ps), length-take-le n ps h))
+
+-- the place of a production, as it is kept, is its alternative number
+pub place_is : (ps : List Production) (p : ℕ) (kept : List ℕ) → kept ≡ places ps (length ps) → p < length ps
+    → get_or kept p 0 ≡ count_by (λ (r : Production). r.head == head_at ps p) (take p ps)
+place_is ps p kept known below =
+    ap (λ ks. get_or ks p 0) known
+    ∙ get_or-map place (numbers_from 0 (length ps)) p 0 0 (subst (λ n. p < n) (sym (length-numbers 0 (length ps))) below)
+    ∙ ap place (number_at 0 (length ps) p below ∙ zero-add p)
+    ∙ headed_count ps p (head_at ps p) (omega arith)
+  where
+    place : ℕ → ℕ
+    place q = length (headed ps q (head_at ps q))
+
+-- how long the list of a production's head is
+pub list_length : (modules : ℕ) (ps : List Production) (n h : ℕ) (lists : List (Vec ProdNo Global)) (v : Vec ProdNo Global) → AreByHead modules ps n (numbers_in lists)
+    → h < modules → v ≡ get_or lists h v → length v.items ≡ length (headed ps n h)
+list_length modules ps n h lists v known below was =
+    sym (length-map v.items (λ (q : ProdNo). q.0)) ∙ ap length (listed modules ps n h lists v known below was)
+
+-- each production has a place
+pub places_all : (ps : List Production) (kept : List ℕ) → kept ≡ places ps (length ps) → length kept ≡ length ps
+places_all ps kept known =
+    ap length known ∙ length-map (numbers_from 0 (length ps)) (λ p. length (headed ps p (head_at ps p))) ∙ length-numbers 0 (length ps)

@@ -18,10 +18,13 @@ pub record AreRowsOf (g : Grammar) (m : ℕ) (rows : List ℕ) : Type 0 where
   pub bits : (i o : ℕ) → i < inputs_of g m → o < outputs_of g m → (bit_at (get_or rows i 0) o == 1) ≡ is_given g.given m i o
   pub no_more : (i o : ℕ) → outputs_of g m ≤ o → bit_at (get_or rows i 0) o ≡ 0
 
+-- the head of the production of this number
+abbrev pub head_at : List Production → ℕ → ℕ
+head_at productions p = (get_or productions p (record { head = 0; positions = []; edges = []; entries = []; exits = [] })).head
+
 -- among the first n of a list of productions, those with this head
 abbrev pub headed : List Production → ℕ → ℕ → List ℕ
-headed productions n m =
-    filter (λ p. (get_or productions p (record { head = 0; positions = []; edges = []; entries = []; exits = [] })).head == m) (numbers_from 0 n)
+headed productions n m = filter (λ p. head_at productions p == m) (numbers_from 0 n)
 
 -- the numbers in lists of production numbers
 abbrev pub numbers_in : List (Vec ProdNo Global) → List (List ℕ)
@@ -32,13 +35,18 @@ pub record AreByHead (modules : ℕ) (productions : List Production) (n : ℕ) (
   pub one_each : length lists ≡ modules
   pub each : (m : ℕ) → m < modules → get_or lists m [] ≡ headed productions n m
 
+-- for each of the first n productions, how many before it have its head
+abbrev pub places : List Production → ℕ → List ℕ
+places productions n = map (λ p. length (headed productions p (head_at productions p))) (numbers_from 0 n)
+
 -- all rows of a module, with a bit for each output
 abbrev pub full_rows : Module → List ℕ
 full_rows m = replicate (length m.inputs) (2 ^ length m.outputs - 1)
 
--- a well-formed grammar with its tables: the names of the modules, the productions of each, and all rows
-pub record IsKept (g : Grammar) (known lists bits : List (List ℕ)) : Type 0 where
+-- a well-formed grammar with its tables: the names of the modules, the productions of each, all rows, and the places of productions among those of their heads
+pub record IsKept (g : Grammar) (known lists bits : List (List ℕ)) (among : List ℕ) : Type 0 where
   pub well_formed : IsWellFormed g
   pub names : known ≡ map (λ (m : Module). m.name) g.modules
   pub by_head : AreByHead (length g.modules) g.productions (length g.productions) lists
   pub rows : bits ≡ map full_rows g.modules
+  pub places : among ≡ places g.productions (length g.productions)

@@ -2,7 +2,7 @@
 ghost use Rattle.std.specs.Prelude.{◌≡◌, ◌<◌, ◌≤◌, [], IfOk, length, replicate};
 ghost use Rattle.wf_model.specs.Grammar.{Production as ProductionSeen};
 ghost use Rattle.wf_model.specs.Lists.{IsIn};
-ghost use Rattle.wf_spec.specs.Tables.{numbers_in, AreByHead};
+ghost use Rattle.wf_spec.specs.Tables.{numbers_in, places, AreByHead};
 
 use crate::grammar::Production;
 use std::alloc::{AllocError, Global};
@@ -18,21 +18,32 @@ fn empty_lists(alloc: Global, count: usize) -> Result<Vec<Vec<ProdNo>>, AllocErr
     Ok(lists)
 }
 
-/// A list for each module of the productions that it heads, in order.
+/// The productions by their heads.
+#[derive(Drop)]
+pub struct ByHead {
+    pub lists: Vec<Vec<ProdNo>>,
+    pub places: Vec<u16>,
+}
+
+/// A list for each module of the productions that it heads, in order, and the place of each production in its list.
 pub fn by_head(
     alloc: Global,
     modules: usize,
     productions: &[Production],
-) -> Result<Vec<Vec<ProdNo>>, AllocError>
+) -> Result<ByHead, AllocError>
     requires few { length productions.now ≤ 65536 }
     requires heads { (r : ProductionSeen) → IsIn r productions.now → r.head < modules }
-    ensures { IfOk result (λ lists. AreByHead modules productions.now (length productions.now) (numbers_in lists.items)) }
+    ensures lists { IfOk result (λ r. AreByHead modules productions.now (length productions.now) (numbers_in r.lists.items)) }
+    ensures places { IfOk result (λ r. r.places.items ≡ places productions.now (length productions.now)) }
 {
     let mut lists = empty_lists(alloc, modules)?;
+    let mut places = Vec::new(alloc);
     for (k, p) in productions.iter().enumerate() {
         let head = p.head().0 as usize;
         let list = &mut lists[head];
+        let place = list.len();
+        places.push(place as u16)?;
         list.push(ProdNo(k as u16))?;
     }
-    Ok(lists)
+    Ok(ByHead { lists, places })
 }

@@ -1,10 +1,11 @@
 // Workflow grammars.
 ghost use Rattle.std.specs.Prelude.{◌≡◌, ◌<◌, [], map, length, option_map, position, bytes_eq, IfSome};
-ghost use Rattle.wf_model.specs.Grammar.{IsAtomic};
+ghost use Rattle.wf_model.specs.Grammar.{IsAtomic, alternative_of};
 ghost use Rattle.wf_model.specs.Meaning.{position_of, inner_of, edge_of};
 ghost use Rattle.wf_model.specs.WellFormed.{IsWellFormed};
 ghost use Rattle.wf_spec.specs.Tables.{AreRowsOf, IsKept, numbers_in, productions_of};
 
+use crate::by_head::ByHead;
 use std::marker::Model;
 use wf_model::{Edge, Inner, ModNo, Name, Position, ProdNo, Seq};
 use wf_names::Names;
@@ -138,7 +139,7 @@ pub struct Grammar {
     modules: Seq<Module>,
     productions: Seq<Production>,
     names: Names,
-    by_head: Vec<Vec<ProdNo>>,
+    by_head: ByHead,
     rows: Vec<Vec<u64>>,
 }
 
@@ -151,7 +152,7 @@ impl Model for Grammar {
 
     ghost view = { λ g. record { start = g.start.0; modules = g.modules; productions = g.productions; given = [] } };
 
-    ghost invariant = { λ g. IsKept (record { start = g.start.0; modules = g.modules; productions = g.productions; given = [] }) g.names (numbers_in g.by_head.items) (map (λ v. v.items) g.rows.items) };
+    ghost invariant = { λ g. IsKept (record { start = g.start.0; modules = g.modules; productions = g.productions; given = [] }) g.names (numbers_in g.by_head.lists.items) (map (λ v. v.items) g.rows.items) g.by_head.places.items };
 }
 
 impl Grammar {
@@ -162,10 +163,10 @@ impl Grammar {
         modules: Seq<Module>,
         productions: Seq<Production>,
         names: Names,
-        by_head: Vec<Vec<ProdNo>>,
+        by_head: ByHead,
         rows: Vec<Vec<u64>>,
     ) -> Grammar
-        requires { IsKept (record { start = start.0; modules = modules; productions = productions; given = [] }) names (numbers_in by_head.items) (map (λ v. v.items) rows.items) }
+        requires { IsKept (record { start = start.0; modules = modules; productions = productions; given = [] }) names (numbers_in by_head.lists.items) (map (λ v. v.items) rows.items) by_head.places.items }
         ensures { result ≡ record { start = start.0; modules = modules; productions = productions; given = [] } }
     {
         Grammar {
@@ -215,7 +216,15 @@ impl Grammar {
         requires { m.0 < length self.now.modules }
         ensures { map (λ p. p.0) result.now ≡ productions_of self.now m.0 }
     {
-        self.by_head[m.0 as usize].as_slice()
+        self.by_head.lists[m.0 as usize].as_slice()
+    }
+
+    /// The alternative number of a production: its place among the productions of its head.
+    pub fn alternative(&self, p: ProdNo) -> u16
+        requires { p.0 < length self.now.productions }
+        ensures { result ≡ alternative_of self.now p.0 }
+    {
+        self.by_head.places[p.0 as usize]
     }
 
     /// The pairs of an atomic module, as a row for each input with a bit for each output.
