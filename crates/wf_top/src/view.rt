@@ -29,6 +29,8 @@ fn mark_heads(marks: &mut Vec<bool>, productions: &[Production])
 }
 
 /// Marks the composite modules of a grammar, which are those that the default view expands.
+///
+/// Cost: linear in the modules and productions. Fails only for want of memory.
 pub fn composite_marks(alloc: Global, g: &Grammar) -> Result<Vec<bool>, AllocError>
     ensures { IfOk result (λ v. Marks v.items (default_view g.now)) }
 {
@@ -45,7 +47,7 @@ fn is_marked(marks: &[bool], m: ModNo) -> bool
     m < marks.len() && marks[m]
 }
 
-/// Sets the rows of a module, unless it is marked.
+/// Sets the rows of a module to its pairs by the grammar, unless it is marked.
 fn set_given(rows: &mut Deps, g: &Grammar, marks: &[bool], m: ModNo) -> Result<(), AllocError>
     requires marks { Marks marks.now (default_view g.now) }
     requires in_range { m.0 < length g.now.modules }
@@ -60,7 +62,9 @@ fn set_given(rows: &mut Deps, g: &Grammar, marks: &[bool], m: ModNo) -> Result<(
     Ok(())
 }
 
-/// Rows for the atomic modules: their pairs by the grammar.
+/// Rows for the atomic modules: their pairs by the grammar. The other modules, which are marked, get none.
+///
+/// Cost: linear in the modules and their inputs. Fails only for want of memory.
 pub fn given_rows(alloc: Global, g: &Grammar, marks: &[bool]) -> Result<Deps, AllocError>
     requires { Marks marks.now (default_view g.now) }
     ensures made_for { IfOk result (λ d. IsMadeFor g.now d) }
