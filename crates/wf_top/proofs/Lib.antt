@@ -6,3 +6,4 @@ pub mod EventLines
 pub mod FlatLinks
 pub mod Marked
 pub mod Answered
+pub mod Tracing
