@@ -70,13 +70,7 @@ read_head modules names part name k m numbered is place inside was =
     below : k < length modules
     below = subst (λ n. k < n) (ap length numbered ∙ length-map modules (λ (r : Module). r.name)) inside
 
--- what a production part needs, over the body and the head as they are made
-pub links_of : (modules : List Module) (part : ProdPart) (body : List Position) (head : Module) → body ≡ body_in modules part → head ≡ head_in modules part → IsFit modules part
-    → AreLinksIn modules body head part
-links_of modules part body head is at fit =
-    subst (λ b. AreLinksIn modules b head part) (sym is) (subst (λ m. AreLinksIn modules (body_in modules part) m part) (sym at) fit.links)
-
--- and what it then has
+-- what a production part has
 pub has_links : (modules : List Module) (part : ProdPart) (head : Module) → head ≡ head_in modules part → NamesEach head.inputs (map (λ (e : EntryPart). e.port) part.entries)
     → NamesEach head.outputs (map (λ (e : ExitPart). e.port) part.exits) → HasItsLinks modules part
 has_links modules part head at entries exits = record {

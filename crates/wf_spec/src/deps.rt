@@ -46,7 +46,7 @@ impl Deps {
         }
     }
 
-    /// Sets the rows of a module.
+    /// Sets the rows of a module, in place of those that were set before. After an error all rows are as before.
     pub fn set(&mut self, m: ModNo, rows: &[u64]) -> Result<(), AllocError>
         requires { m.0 < length self.old }
         ensures set { OnOk result (self.new ≡ set self.old m.0 (Some rows.now)) }

@@ -179,6 +179,7 @@ impl Grammar {
         }
     }
 
+    /// The start module.
     pub fn start(&self) -> ModNo
         ensures start { result.0 ≡ self.now.start }
         ensures formed { IsWellFormed self.now }
@@ -186,6 +187,7 @@ impl Grammar {
         self.start
     }
 
+    /// The modules, by number.
     pub fn modules(&self) -> &[Module]
         ensures modules { result.now ≡ self.now.modules }
         ensures formed { IsWellFormed self.now }
@@ -193,6 +195,7 @@ impl Grammar {
         self.modules.items()
     }
 
+    /// The productions, by number.
     pub fn productions(&self) -> &[Production]
         ensures productions { result.now ≡ self.now.productions }
         ensures formed { IsWellFormed self.now }
@@ -200,7 +203,7 @@ impl Grammar {
         self.productions.items()
     }
 
-    /// The module that has a name.
+    /// The module that has a name, or `None` where no module has it. Cost: one look-up by hashing.
     pub fn find(&self, name: &[u8]) -> Option<ModNo>
         ensures place { option_map (λ m. m.0) result ≡ position (bytes_eq name.now) (map (λ m. m.name) self.now.modules) }
         ensures within { IfSome result (λ m. m.0 < length self.now.modules) }
@@ -211,7 +214,7 @@ impl Grammar {
         Some(ModNo(place as u16))
     }
 
-    /// The productions of a module, in order.
+    /// The productions of a module, in order: none for an atomic module.
     pub fn alternatives(&self, m: ModNo) -> &[ProdNo]
         requires { m.0 < length self.now.modules }
         ensures { map (λ p. p.0) result.now ≡ productions_of self.now m.0 }
@@ -227,7 +230,7 @@ impl Grammar {
         self.by_head.places[p.0 as usize]
     }
 
-    /// The pairs of an atomic module, as a row for each input with a bit for each output.
+    /// The pairs that are given to an atomic module, all of them where the specification gives none: a row for each input, in which bit `o` stands for output `o`.
     pub fn rows(&self, m: ModNo) -> &[u64]
         requires in_range { m.0 < length self.now.modules }
         requires atomic { IsAtomic self.now m.0 }
