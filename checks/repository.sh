@@ -11,7 +11,7 @@ has_no_handles() {
 
 has_no_output() {
     local files
-    files=$(git ls-files) || return 1
+    files=$(git -c safe.directory='*' ls-files) || return 1
     ! grep -qE '(^|/)out/' <<<"$files"
 }
 
