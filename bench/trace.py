@@ -1,0 +1,201 @@
+#!/usr/bin/env python3
+"""Times `trace` of the built program on one large run, with 10, 100 and 1,000 queries.
+
+It makes a grammar without recursion and a finished run of it in a folder of its own. The module `S` is expanded to a
+tree of instances: `S` to 60 `A`, each `A` to 40 `B`, each `B` to 40 `C`, and each `C` by one of 900 productions of 8
+positions, drawn with a fixed seed. Each body splits its input, works side by side and joins the results. At full size
+that are 98,461 expansions and 871,383 instances.
+
+It prints seconds, events a second, microseconds a query and the peak of memory an instance, and sets the time beside
+that of `wc -l`, `sha256sum` and Python's JSON reader on the same events, measured in the same run. It judges nothing.
+
+Call it from anywhere, after the program was built: bench/trace.py [--small] [--keep FOLDER] [--program FILE]
+"""
+
+import argparse
+import json
+import os
+import random
+import shutil
+import subprocess
+import sys
+import tempfile
+import time
+from pathlib import Path
+
+TOP = Path(__file__).resolve().parent.parent
+WORKERS = 6
+
+
+class Size:
+    """How many instances stand side by side in the bodies of S, A and B, and how many productions C has."""
+
+    def __init__(self, small):
+        self.widths = [4, 4, 4] if small else [60, 40, 40]
+        self.productions = 10 if small else 900
+
+
+def wide_module(name, count, inputs):
+    """A splitter or a joiner with one port on one side and `count` on the other."""
+    many = [f"p{k}" for k in range(count)]
+    return {"name": name, "in": ["x"] if inputs == 1 else many, "out": many if inputs == 1 else ["y"]}
+
+
+def wide_body(head, worker, count, split, join, order):
+    """A body that splits the input, works side by side and joins the results in the given order."""
+    names = [f"w{k}" for k in range(count)]
+    return {
+        "head": head,
+        "body": [["s", split]] + [[n, worker] for n in names] + [["j", join]],
+        "edges": [[f"s.p{k}", f"{n}.x"] for k, n in enumerate(names)]
+        + [[f"{n}.y", f"j.p{order[k]}"] for k, n in enumerate(names)],
+        "in": [["x", "s.x"]],
+        "out": [["j.y", "y"]],
+    }
+
+
+def make_spec(size, draw):
+    """The specification. Each body has modules that stand behind its head in the list."""
+    heads = ["S", "A", "B", "C"]
+    modules = [{"name": h, "in": ["x"], "out": ["y"]} for h in heads]
+    modules.append({"name": "W", "in": ["x"], "out": ["y"]})
+    productions = []
+    for level, count in enumerate(size.widths + [WORKERS]):
+        split, join = f"split{level}", f"join{level}"
+        modules.append(wide_module(split, count, 1))
+        modules.append(wide_module(join, count, count))
+        worker = heads[level + 1] if level + 1 < len(heads) else "W"
+        for _ in range(1 if level < 3 else size.productions):
+            order = list(range(count))
+            draw.shuffle(order)
+            productions.append(wide_body(heads[level], worker, count, split, join, order))
+    squares = sum(len(p["body"]) ** 2 for p in productions)
+    assert squares <= 65536 and len(productions) <= 1024 and len(modules) <= 1024
+    return {"start": "S", "modules": modules, "productions": productions}
+
+
+def make_events(size, draw, path):
+    """Writes a finished run, level by level. Gives the numbers of events, instances and the names of some items."""
+    widths = size.widths + [WORKERS]
+    made, lines = 1, 1
+    level_names = ["n0"]
+    items = []
+    with open(path, "w") as out:
+        out.write('{"start":"n0"}\n')
+        for level, count in enumerate(widths):
+            below = []
+            for name in level_names:
+                names = [f"n{made + k}" for k in range(count + 2)]
+                made += count + 2
+                production = level if level < 3 else 3 + draw.randrange(size.productions)
+                event = {"expand": name, "production": production, "names": names}
+                out.write(json.dumps(event, separators=(",", ":")) + "\n")
+                lines += 1
+                below.extend(names[1:-1])
+                items.append(f"{names[1]}.y")
+                items.append(f"{names[0]}.p{draw.randrange(count)}")
+            level_names = below
+    return lines, made, items
+
+
+def make_queries(items, count, draw, path):
+    """Writes queries: a quarter from the input of the run, a quarter to its output, and half between drawn items."""
+    with open(path, "w") as out:
+        for k in range(count):
+            first, second = draw.choice(items), draw.choice(items)
+            if k % 4 == 0:
+                first = "n0.x"
+            elif k % 4 == 1:
+                second = "n0.y"
+            out.write(f"{first} {second}\n")
+
+
+def run(program, words, folder):
+    """Runs the program. Gives the seconds, the peak of memory in bytes and the text."""
+    with tempfile.TemporaryFile() as out:
+        begun = time.perf_counter()
+        child = subprocess.Popen([program, *words], cwd=folder, stdout=out)
+        _, status, usage = os.wait4(child.pid, 0)
+        seconds = time.perf_counter() - begun
+        child.returncode = os.waitstatus_to_exitcode(status)
+        if child.returncode != 0:
+            sys.exit(f"{program} ended with {child.returncode}")
+        out.seek(0)
+        text = out.read().decode()
+    return seconds, usage.ru_maxrss * 1024, text
+
+
+def clock(work):
+    """The least time of three tries."""
+    best = None
+    for _ in range(3):
+        begun = time.perf_counter()
+        work()
+        seconds = time.perf_counter() - begun
+        best = seconds if best is None else min(best, seconds)
+    return best
+
+
+def read_json(path):
+    with open(path, "rb") as lines:
+        for line in lines:
+            json.loads(line)
+
+
+def main():
+    words = argparse.ArgumentParser(description=__doc__.splitlines()[0])
+    words.add_argument("--small", action="store_true", help="a run of 85 expansions, to try the script")
+    words.add_argument("--keep", help="make the files in this folder and leave them there")
+    words.add_argument("--program", default=str(TOP / "crates/wfprov/out/wfprov"))
+    args = words.parse_args()
+    program = str(Path(args.program).resolve())
+    if not os.access(program, os.X_OK):
+        sys.exit(f"{program} is not built; call ./wfprov once")
+    folder = Path(args.keep or tempfile.mkdtemp(prefix="wfprov-bench-"))
+    folder.mkdir(exist_ok=True)
+    try:
+        measure(program, folder, Size(args.small))
+    finally:
+        if not args.keep:
+            shutil.rmtree(folder)
+
+
+def measure(program, folder, size):
+    draw = random.Random(1)
+    (folder / "spec").write_text(json.dumps(make_spec(size, draw)))
+    (folder / "view").write_text("{}")
+    events = folder / "events"
+    lines, instances, items = make_events(size, draw, events)
+    length = events.stat().st_size
+    print(f"events: {lines}, instances: {instances}, bytes of events: {length}")
+
+    times = {}
+    peak = 0
+    for count in (10, 100, 1000):
+        make_queries(items, count, draw, folder / "queries")
+        seconds, memory, text = run(program, ["trace", "spec", "view", "events", "queries"], folder)
+        answers = text.splitlines()
+        assert len(answers) == count
+        times[count] = seconds
+        peak = max(peak, memory)
+        print(
+            f"trace with {count} queries: {seconds:.2f} s"
+            f" ({answers.count('yes')} yes, {answers.count('no')} no, {answers.count('unknown')} unknown)"
+        )
+    each = (times[1000] - times[10]) / 990
+    base = times[10] - 10 * each
+    print(f"a query: {each * 1e6:.0f} microseconds")
+    print(f"all before the queries: {base:.2f} s, {lines / base:.0f} events a second, {length / base / 1e6:.1f} MB a second")
+    print(f"peak of memory: {peak / 1e6:.0f} MB, {peak / instances:.0f} bytes an instance")
+
+    others = {
+        "wc -l": clock(lambda: subprocess.run(["wc", "-l", events], stdout=subprocess.DEVNULL, check=True)),
+        "sha256sum": clock(lambda: subprocess.run(["sha256sum", events], stdout=subprocess.DEVNULL, check=True)),
+        "Python's JSON reader": clock(lambda: read_json(events)),
+    }
+    for name, seconds in others.items():
+        print(f"{name} on the events: {seconds:.3f} s; trace before its queries takes {base / seconds:.1f} times as long")
+
+
+if __name__ == "__main__":
+    main()

@@ -1,0 +1,104 @@
+#!/usr/bin/env bash
+# Checks of the built program on the examples: what it writes, what it says and how it ends.
+set -euo pipefail
+
+cd "$(dirname "${BASH_SOURCE[0]}")/.."
+. checks/count.sh
+
+program=$PWD/crates/wfprov/out/wfprov
+if [ ! -x "$program" ]; then
+    program=$PWD/wfprov
+fi
+
+work=$(mktemp -d)
+trap 'rm -rf "$work"' EXIT
+
+# Runs the program, and keeps its text, its message and its status.
+run() {
+    local status=0
+    "$program" "$@" >"$work/out" 2>"$work/err" </dev/null || status=$?
+    echo "$status" >"$work/status"
+}
+
+# Whether the last run ended with this status, text and message.
+ended() {
+    [ "$(cat "$work/status")" = "$1" ] && cmp -s "$work/out" "$2" && cmp -s "$work/err" "$3"
+}
+
+# The text of a file of the folder of this check.
+text() {
+    printf '%b' "$2" >"$work/$1"
+    echo "$work/$1"
+}
+
+# Whether an example is answered as its file says, whatever the folder is from which the program is called.
+answers() {
+    (cd "examples/$1" && run trace spec view events queries) && ended 0 "examples/$1/answers" "$nothing"
+}
+
+says() {
+    local status=$1 message=$2
+    shift 2
+    run "$@" && ended "$status" "$nothing" "$(text expected "$message")"
+}
+
+line=examples/line
+nothing=$(text nothing '')
+
+check "the line example is answered" answers line
+check "the phylogeny of one step is answered" answers phylogeny-once
+check "the recursive phylogeny is refused" \
+    says 2 'refused: spec: NotBuilt\n' trace examples/phylogeny/spec examples/phylogeny/view examples/phylogeny/events examples/phylogeny/queries
+
+check "no word is a usage" says 1 'usage: wfprov COMMAND WORDS\n'
+check "too few words are a usage" says 1 'usage: wfprov COMMAND WORDS\n' trace $line/spec
+check "too many words are a usage" \
+    says 1 'usage: wfprov COMMAND WORDS\n' trace $line/spec $line/view $line/events $line/queries more
+check "an unknown command is a usage" \
+    says 1 'usage: wfprov COMMAND WORDS\n' Trace $line/spec $line/view $line/events $line/queries
+check "a word that is not UTF-8 is a usage" \
+    says 1 'usage: wfprov COMMAND WORDS\n' trace $'\xff' $line/view $line/events $line/queries
+
+for place in spec view events queries; do
+    files=()
+    for file in spec view events queries; do
+        if [ "$file" = "$place" ]; then
+            files+=("$work/absent")
+        else
+            files+=("$line/$file")
+        fi
+    done
+    check "an absent file for $place is a fault of reading" says 3 "fault: reading $place\n" trace "${files[@]}"
+done
+check "a folder is a fault of reading" says 3 'fault: reading spec\n' trace $line $line/view $line/events $line/queries
+check "a refused file comes before an absent one" \
+    says 2 'refused: spec: NotBuilt\n' trace "$(text cut '{"start"')" "$work/absent" $line/events $line/queries
+
+check "a view that is not the default one is refused" \
+    says 2 'refused: view: NotBuilt\n' trace $line/spec "$(text shut '{"expand":[]}')" $line/events $line/queries
+check "a run that is not finished is refused" \
+    says 2 'refused: events: NotBuilt\n' trace $line/spec $line/view "$(text begun '{"start":"r"}\n')" $line/queries
+check "an event that does not extend the run is refused" \
+    says 2 'refused: events: NotBuilt\n' trace $line/spec $line/view "$(text twice '{"start":"r"}\n{"start":"r"}\n')" $line/queries
+
+answered_then_refused() {
+    run trace $line/spec $line/view $line/events "$(text some 'r.a r.b\nr.a\nr.b r.a\n')" &&
+        ended 2 "$(text expected_out 'yes\n')" "$(text expected 'refused: queries: NotBuilt\n')"
+}
+check "a line that is no query is refused behind the answers before it" answered_then_refused
+
+is_empty_of() {
+    run trace $line/spec $line/view $line/events "$nothing" && ended 0 "$nothing" "$nothing"
+}
+check "no query has no answer" is_empty_of
+
+# A device that takes no byte stands in for a full disk.
+full() {
+    [ -w /dev/full ] || return 0
+    local status=0
+    "$program" trace $line/spec $line/view $line/events $line/queries >/dev/full 2>"$work/err" || status=$?
+    [ "$status" = 4 ] && cmp -s "$work/err" "$(text expected 'fault: writing\n')"
+}
+check "a full device is a fault of writing" full
+
+finish

@@ -1,0 +1,48 @@
+#!/usr/bin/env bash
+# Checks of the repository itself: the file HANDLES, what is committed, and that each crate has edits that must be refused and is told of in the documents.
+set -euo pipefail
+
+cd "$(dirname "${BASH_SOURCE[0]}")/.."
+. checks/count.sh
+
+has_no_handles() {
+    cmp -s HANDLES <(echo "Handles allowed: none.")
+}
+
+has_no_output() {
+    local files
+    files=$(git -c safe.directory='*' ls-files) || return 1
+    ! grep -qE '(^|/)out/' <<<"$files"
+}
+
+crates() {
+    sed -e 's/#.*//' crates.txt | awk -F: 'NF > 1 { split($1, word, " "); print word[1] }'
+}
+
+has_edits() {
+    [ -n "$(find "crates/$1/must-fail" -name '*.edit' -print -quit 2>/dev/null)" ]
+}
+
+# The functions of wf_laws do nothing, so no edit of a body can change what they mean.
+has_edits_or_no_code() {
+    [ "$1" = wf_laws ] || has_edits "$1"
+}
+
+is_named_in() {
+    grep -qE "\`$1\`" "$2"
+}
+
+is_a_folder() {
+    [ -d "crates/$1/src" ]
+}
+
+check "HANDLES allows none" has_no_handles
+check "nothing that rt makes is committed" has_no_output
+for crate in $(crates); do
+    check "$crate is there" is_a_folder "$crate"
+    check "$crate has edits that must be refused" has_edits_or_no_code "$crate"
+    check "$crate is named in README.md" is_named_in "$crate" README.md
+    check "$crate is named in docs/ARCHITECTURE.md" is_named_in "$crate" docs/ARCHITECTURE.md
+done
+
+finish

@@ -1,0 +1,104 @@
+// Files by their paths.
+ghost use Rattle.std.specs.Prelude.{◌≡◌, ◌^◌, ◌-◌, ◌≤◌, nat_eq, None, Some, IfSome, length};
+
+use std::alloc::Global;
+use std::fs::{self, File};
+use std::io::ErrorKind;
+use std::os::unix::fs::FileExt;
+use wf_io::{Failed, Shelf};
+
+/// An open file and the path by which it was opened.
+#[derive(Drop)]
+struct Held {
+    path: String,
+    file: File,
+}
+
+/// The files of the system, each by its path from the working folder. It does not tell its files.
+///
+/// The file that was read last stays open. The count of faults stays at 2^64 - 1 once it is there.
+#[derive(Drop)]
+pub struct DirShelf<'r> {
+    rt: &'r HostRuntime,
+    held: Option<Held>,
+    faults: u64,
+}
+
+impl<'r> DirShelf<'r> {
+    /// A shelf with no file open. Takes no memory.
+    pub fn new(rt: &'r HostRuntime) -> DirShelf<'r> {
+        DirShelf {
+            rt,
+            held: None,
+            faults: 0,
+        }
+    }
+}
+
+/// Opens a file. None where it cannot be opened, or memory for its path was refused.
+fn opened(rt: &HostRuntime, name: &str) -> Option<Held> {
+    let alloc: Global = rt.alloc();
+    let path = String::from_str(alloc, name).ok()?;
+    let file = fs::open(rt, name).ok()?;
+    Some(Held { path, file })
+}
+
+/// Reads from a place of a file. A read that a signal interrupts is tried again.
+fn read_from(file: &File, at: u64, buf: &mut [u8]) -> Option<usize>
+    ensures { IfSome result (λ n. n ≤ length buf.old) }
+{
+    for _ in 0..u64::MAX {
+        match file.read_at(buf, at) {
+            Ok(n) => return Some(n),
+            Err(error) => {
+                if error.kind() != ErrorKind::Interrupted {
+                    return None;
+                }
+            }
+        }
+    }
+    None
+}
+
+/// Reads from the file of a name, which is opened first if another is held. It reads nothing into an empty buffer.
+fn read_held(
+    rt: &HostRuntime,
+    held: &mut Option<Held>,
+    name: &str,
+    at: u64,
+    buf: &mut [u8],
+) -> Option<usize>
+    ensures bound { IfSome result (λ n. n ≤ length buf.old) }
+    ensures empty { length buf.old ≡ 0 → result ≡ Some 0 }
+{
+    if buf.is_empty() {
+        return Some(0);
+    }
+    let is_held = match held {
+        Some(h) => h.path.as_str() == name,
+        None => false,
+    };
+    if !is_held {
+        *held = opened(rt, name);
+    }
+    let h = held.as_ref()?;
+    read_from(&h.file, at, buf)
+}
+
+impl<'r> Shelf for DirShelf<'r> {
+    ghost files = { λ _. None };
+
+    ghost faults = { λ s. s.faults };
+
+    ghost at_last = { λ s. nat_eq s.faults (2 ^ 64 - 1) };
+
+    fn read_at(&mut self, name: &str, at: u64, buf: &mut [u8]) -> Result<usize, Failed> {
+        match read_held(self.rt, &mut self.held, name, at, buf) {
+            Some(n) => Ok(n),
+            None => {
+                self.faults = self.faults.saturating_add(1);
+                Err(Failed)
+            }
+        }
+    }
+}
