@@ -41,7 +41,7 @@ module _ (g : Grammar) (u : View) (e : List Event) (run : IsRun g g.start e) (fi
     answered_more d a b c put ends = record {
       whole = λ w. let r = ends.whole w in (written ++ r.0, inr (written, r.0, answered, refl, r.1), appended_twice written r.0 a b c put r.2);
       begun = λ x t h. let s = split x t h in let r = ends.begun x s.0 s.2 in
-        let k = begun_after written s.0 r.0 a b c put r.1 in (k.0, subst (λ y. Appended (take k.0 y) a c) (sym s.1) k.1);
+          let k = begun_after written s.0 r.0 a b c put r.1 in (k.0, subst (λ y. Appended (take k.0 y) a c) (sym s.1) k.1);
     }
 
     -- the answer was put in part

@@ -31,9 +31,9 @@ module _ {A : Type 0} (most : ℕ) (place : Place) (file : File) (Tells : List �
   -- a stage that goes on with the one value that its file tells ends as what follows
   pub on_ends : (a : A) → IsTold most file Tells a → ((b : A) → Tells file.bytes b → b ≡ a) → (e : Ending) → EndsBy (Next a) e old new → EndsBy (Stage most place file Tells Next) e old new
   on_ends a told one e ends = record {
-      whole = λ w. let r = ends.whole w in (r.0, goes_on told.short told.whole a told.tells r.1, r.2);
-      begun = λ d t st. go d t st;
-    }
+    whole = λ w. let r = ends.whole w in (r.0, goes_on told.short told.whole a told.tells r.1, r.2);
+    begun = λ d t st. go d t st;
+  }
     where
       go : (d : Ending) (t : List ℕ) → Stage most place file Tells Next d t → (k : ℕ) × Appended (take k t) old new
       go d t (too_long l x y) = absurd (let s = told.short in omega arith)

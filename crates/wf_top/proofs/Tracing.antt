@@ -31,9 +31,9 @@ module _ (spec view events queries : File) (old new : Option (List ℕ)) (d : En
 
   module _ (g : Grammar) (told : IsTold short_most spec TellsGrammar g) where
     after_spec : EndsBy (Stage short_most View view (TellsView g) (λ u.
-      Stage long_most Events events (TellsRun g u instance_most) (λ e.
-      Stage long_most Queries queries TellsLines (λ ls.
-      AreAnswered g u e ls)))) d old new → EndsBy (Traces spec view events queries) d old new
+        Stage long_most Events events (TellsRun g u instance_most) (λ e.
+        Stage long_most Queries queries TellsLines (λ ls.
+        AreAnswered g u e ls)))) d old new → EndsBy (Traces spec view events queries) d old new
     after_spec ends = on_ends short_most Spec spec TellsGrammar _ old new g told (λ h t. one_grammar spec.bytes g h told.tells t) d ends
 
     -- VIEW ends the program
@@ -42,8 +42,8 @@ module _ (spec view events queries : File) (old new : Option (List ℕ)) (d : En
 
     module _ (shown : IsTold short_most view (TellsView g) (default_view g)) where
       after_view : EndsBy (Stage long_most Events events (TellsRun g (default_view g) instance_most) (λ e.
-        Stage long_most Queries queries TellsLines (λ ls.
-        AreAnswered g (default_view g) e ls))) d old new → EndsBy (Traces spec view events queries) d old new
+          Stage long_most Queries queries TellsLines (λ ls.
+          AreAnswered g (default_view g) e ls))) d old new → EndsBy (Traces spec view events queries) d old new
       after_view ends = after_spec (on_ends short_most View view (TellsView g) _ old new (default_view g) shown (λ v t. one_view g view.bytes (default_view g) v shown.tells t) d ends)
 
       -- EVENTS ends the program

@@ -97,8 +97,10 @@ TellsLines bytes ls = ls ≡ lines_of bytes
 -- the greatest lengths of files, in bytes, and the greatest number of instances of a run
 abbrev pub short_most : ℕ
 short_most = 16777216
+
 abbrev pub long_most : ℕ
 long_most = 1073741824
+
 abbrev pub instance_most : ℕ
 instance_most = 16777216
 

@@ -16,7 +16,13 @@ use wf_io::{Shelf, Sink};
 /// Does what the words say over the files of a shelf: text goes to `out`, and a line on a refusal or a fault to `err`.
 ///
 /// `trace SPEC VIEW EVENTS QUERIES` answers each query line by `yes`, `no` or `unknown`: whether the second item depends on the first, however the run is finished.
-pub fn run<H: Shelf, O: Sink, E: Sink>(alloc: Global, words: &[&str], shelf: &mut H, out: &mut O, err: &mut E) -> Status
+pub fn run<H: Shelf, O: Sink, E: Sink>(
+    alloc: Global,
+    words: &[&str],
+    shelf: &mut H,
+    out: &mut O,
+    err: &mut E,
+) -> Status
     ensures ended { HasEnded (H.files shelf.old) (map (λ w. w.now) words.now) result (O.put_bytes out.old) (O.put_bytes out.new) (E.put_bytes err.old) (E.put_bytes err.new) (E.faults err.old) (E.faults err.new) (E.at_last err.new) }
     ensures usage { (result ≡ Status.Usage) ↔ (command_of (map (λ w. w.now) words.now) ≡ None) }
     ensures quiet { result ≡ Status.Usage → (O.put_bytes out.new ≡ O.put_bytes out.old) × (H.faults shelf.new ≡ H.faults shelf.old) }

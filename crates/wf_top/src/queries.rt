@@ -16,7 +16,9 @@ use std::alloc::Global;
 use wf_io::{Sink, WholeLines};
 use wf_query::read_query;
 
-const REFUSED: Ending = Ending::Refused { place: Place::Queries };
+const REFUSED: Ending = Ending::Refused {
+    place: Place::Queries,
+};
 
 /// Answers the query of a line.
 fn answer_line<O: Sink>(alloc: Global, p: &Prepared, line: &[u8], out: &mut O) -> Result<(), Ending>

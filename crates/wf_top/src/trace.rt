@@ -61,7 +61,13 @@ fn view_stage<H: Shelf>(alloc: Global, shelf: &mut H, name: &str, g: &Grammar) -
 }
 
 /// The run of EVENTS.
-fn events_stage<H: Shelf>(alloc: Global, shelf: &mut H, name: &str, g: &Grammar, marks: &[bool]) -> Result<PlainRun, Ending>
+fn events_stage<H: Shelf>(
+    alloc: Global,
+    shelf: &mut H,
+    name: &str,
+    g: &Grammar,
+    marks: &[bool],
+) -> Result<PlainRun, Ending>
     requires { Marks marks.now (default_view g.now) }
     ensures run { IfOk result (λ r. IsRunOf g.now r × IsFinished g.now (default_view g.now) g.now.start (events_of r)) }
     ensures ok { IfOk result (λ r. (f : List ℕ → File) → H.files shelf.old ≡ Some f → IsTold long_most (f name.now) (TellsRun g.now (default_view g.now) instance_most) (events_of r)) }
@@ -99,7 +105,13 @@ fn prepare(alloc: Global, g: Grammar, run: PlainRun, marks: &[bool]) -> Result<P
 }
 
 /// Answers the queries of a file on a run.
-fn queries_stage<H: Shelf, O: Sink>(alloc: Global, shelf: &mut H, name: &str, p: &Prepared, out: &mut O) -> Result<(), Ending>
+fn queries_stage<H: Shelf, O: Sink>(
+    alloc: Global,
+    shelf: &mut H,
+    name: &str,
+    p: &Prepared,
+    out: &mut O,
+) -> Result<(), Ending>
     requires { IsPrepared p.now.grammar p.now.run p.now.flat }
     ensures ends { (f : List ℕ → File) → H.files shelf.old ≡ Some f → EndsBy (Stage long_most Queries (f name.now) TellsLines (AreAnswered p.now.grammar (default_view p.now.grammar) (events_of p.now.run))) (ending_of result) (O.put_bytes out.old) (O.put_bytes out.new) }
     ensures stop { IfErr result (λ e. IsStop e) }
@@ -112,7 +124,12 @@ fn queries_stage<H: Shelf, O: Sink>(alloc: Global, shelf: &mut H, name: &str, p:
 }
 
 /// Answers the queries on a finished run of a grammar by the search in its graph.
-pub fn trace<H: Shelf, O: Sink>(alloc: Global, words: &TraceWords<'_>, shelf: &mut H, out: &mut O) -> Result<(), Ending>
+pub fn trace<H: Shelf, O: Sink>(
+    alloc: Global,
+    words: &TraceWords<'_>,
+    shelf: &mut H,
+    out: &mut O,
+) -> Result<(), Ending>
     ensures ends { (f : List ℕ → File) → H.files shelf.old ≡ Some f → EndsBy (Traces (f words.now.spec.now) (f words.now.view.now) (f words.now.events.now) (f words.now.queries.now)) (ending_of result) (O.put_bytes out.old) (O.put_bytes out.new) }
     ensures stop { IfErr result (λ e. IsStop e) }
     ensures cause { IfErr result (λ e. IsCause (H.faults shelf.old) (H.faults shelf.new) (H.at_last shelf.new) (O.faults out.old) (O.faults out.new) (O.at_last out.new) e) }
