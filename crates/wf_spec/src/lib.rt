@@ -26,3 +26,6 @@ pub use wf_model::{
     PairPart, Parts, PortNo, PortPart, PosNo, PosPart, Position, ProdNo, ProdPart, RunFault, Seq,
     Side, Step, ViewParts,
 };
+
+#[cfg(test)]
+mod tests;
