@@ -1,5 +1,5 @@
 -- Look-ups in a list that is seen through a function.
-use Rattle.std.proofs.Common.{◌≡◌, ℕ, Bool, true, false, List, [], ◌∷◌, ◌++◌, ◌||◌, length, refl, ap, sym, subst, ◌∙◌, arith, map}
+use Rattle.std.proofs.Common.{◌≡◌, ℕ, Bool, true, false, List, [], ◌∷◌, ◌++◌, ◌||◌, refl, ap, sym, subst, ◌∙◌, arith, map}
 use Rattle.std.specs.Prelude.{position, bytes_eq}
 use Rattle.std.specs.List.{list_any, position_or_len}
 use Rattle.std.proofs.lemmas.List.{length-map, map-append}
