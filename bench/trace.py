@@ -1,5 +1,5 @@
 #!/usr/bin/env python3
-"""Times `trace` of the built program on one large run, with 10, 100 and 1,000 queries.
+"""Times `trace` of the built program on one large run, without queries and with 10, 100 and 1,000 of them.
 
 It makes a grammar without recursion and a finished run of it in a folder of its own. The module `S` is expanded to a
 tree of instances: `S` to 60 `A`, each `A` to 40 `B`, each `B` to 40 `C`, and each `C` by one of 900 productions of 8
@@ -7,7 +7,9 @@ positions, drawn with a fixed seed. Each body splits its input, works side by si
 that are 98,461 expansions and 871,383 instances.
 
 It prints seconds, events a second, microseconds a query and the peak of memory an instance, and sets the time beside
-that of `wc -l`, `sha256sum` and Python's JSON reader on the same events, measured in the same run. It judges nothing.
+that of `wc -l`, `sha256sum` and Python's JSON reader on the same events, measured in the same run. How long reading the
+events takes alone is measured on the same run without its last event, which is refused as soon as it is read. Short
+times are the least of three. It judges nothing.
 
 Call it from anywhere, after the program was built: bench/trace.py [--small] [--keep FOLDER] [--program FILE]
 """
@@ -110,19 +112,20 @@ def make_queries(items, count, draw, path):
             out.write(f"{first} {second}\n")
 
 
-def run(program, words, folder):
-    """Runs the program. Gives the seconds, the peak of memory in bytes and the text."""
-    with tempfile.TemporaryFile() as out:
+def run(program, events, queries, folder, wanted=0):
+    """Runs the program. Gives the seconds, the peak of memory in bytes and the answers."""
+    with tempfile.TemporaryFile() as out, tempfile.TemporaryFile() as err:
         begun = time.perf_counter()
-        child = subprocess.Popen([program, *words], cwd=folder, stdout=out)
+        words = [program, "trace", "spec", "view", events, queries]
+        child = subprocess.Popen(words, cwd=folder, stdout=out, stderr=err)
         _, status, usage = os.wait4(child.pid, 0)
         seconds = time.perf_counter() - begun
         child.returncode = os.waitstatus_to_exitcode(status)
-        if child.returncode != 0:
+        if child.returncode != wanted:
             sys.exit(f"{program} ended with {child.returncode}")
         out.seek(0)
-        text = out.read().decode()
-    return seconds, usage.ru_maxrss * 1024, text
+        answers = out.read().decode().splitlines()
+    return seconds, usage.ru_maxrss * 1024, answers
 
 
 def clock(work):
@@ -169,23 +172,26 @@ def measure(program, folder, size):
     length = events.stat().st_size
     print(f"events: {lines}, instances: {instances}, bytes of events: {length}")
 
-    times = {}
+    (folder / "none").write_text("")
+    with open(events) as whole, open(folder / "cut", "w") as cut:
+        cut.writelines(whole.readlines()[:-1])
+    reading = min(run(program, "cut", "none", folder, wanted=2)[0] for _ in range(3))
+    base = min(run(program, "events", "none", folder)[0] for _ in range(3))
+    print(f"specification and events read, run taken: {reading:.2f} s, {lines / reading:.0f} events a second")
+    print(f"links and index made: {base - reading:.2f} s")
+    print(f"trace without queries: {base:.2f} s, {lines / base:.0f} events a second, {length / base / 1e6:.1f} MB a second")
+
     peak = 0
     for count in (10, 100, 1000):
         make_queries(items, count, draw, folder / "queries")
-        seconds, memory, text = run(program, ["trace", "spec", "view", "events", "queries"], folder)
-        answers = text.splitlines()
+        seconds, memory, answers = run(program, "events", "queries", folder)
         assert len(answers) == count
-        times[count] = seconds
         peak = max(peak, memory)
         print(
             f"trace with {count} queries: {seconds:.2f} s"
-            f" ({answers.count('yes')} yes, {answers.count('no')} no, {answers.count('unknown')} unknown)"
+            f" ({answers.count('yes')} yes, {answers.count('no')} no, {answers.count('unknown')} unknown),"
+            f" {(seconds - base) / count * 1e6:.0f} microseconds a query"
         )
-    each = (times[1000] - times[10]) / 990
-    base = times[10] - 10 * each
-    print(f"a query: {each * 1e6:.0f} microseconds")
-    print(f"all before the queries: {base:.2f} s, {lines / base:.0f} events a second, {length / base / 1e6:.1f} MB a second")
     print(f"peak of memory: {peak / 1e6:.0f} MB, {peak / instances:.0f} bytes an instance")
 
     others = {
@@ -194,7 +200,7 @@ def measure(program, folder, size):
         "Python's JSON reader": clock(lambda: read_json(events)),
     }
     for name, seconds in others.items():
-        print(f"{name} on the events: {seconds:.3f} s; trace before its queries takes {base / seconds:.1f} times as long")
+        print(f"{name} on the events: {seconds:.3f} s; trace without queries takes {base / seconds:.1f} times as long")
 
 
 if __name__ == "__main__":

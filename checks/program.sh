@@ -101,4 +101,19 @@ full() {
 }
 check "a full device is a fault of writing" full
 
+# Spaces, which no specification is made of.
+spaces() {
+    head -c "$2" /dev/zero | tr '\0' ' ' >"$work/$1"
+    echo "$work/$1"
+}
+
+check "a specification that is too long is refused" \
+    says 2 'refused: spec: NotBuilt\n' trace "$(spaces long 16777217)" $line/view $line/events $line/queries
+
+# The program starts within this limit, and has no room for the file.
+wanting() {
+    (ulimit -v 12000 && says 5 'no memory\n' trace "$(spaces large 16000000)" $line/view $line/events $line/queries)
+}
+check "want of memory is told" wanting
+
 finish
