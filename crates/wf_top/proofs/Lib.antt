@@ -7,3 +7,4 @@ pub mod FlatLinks
 pub mod Marked
 pub mod Answered
 pub mod Tracing
+pub mod OutcomeLaws

@@ -6,3 +6,4 @@ pub mod Stages
 pub mod Leaf
 pub mod Prepared
 pub mod Asked
+pub mod Laws

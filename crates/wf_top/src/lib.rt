@@ -6,6 +6,7 @@ mod command;
 mod ending;
 mod events;
 mod file;
+mod law;
 mod prepared;
 mod program;
 mod queries;
@@ -15,5 +16,6 @@ mod tell;
 mod trace;
 mod view;
 
+pub use law::one_outcome_law;
 pub use program::run;
 pub use status::Status;
