@@ -17,3 +17,6 @@ mod view;
 
 pub use program::run;
 pub use status::Status;
+
+#[cfg(test)]
+mod tests;
