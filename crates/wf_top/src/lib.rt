@@ -19,3 +19,6 @@ mod view;
 pub use law::one_outcome_law;
 pub use program::run;
 pub use status::Status;
+
+#[cfg(test)]
+mod tests;
