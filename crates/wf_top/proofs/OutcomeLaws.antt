@@ -19,8 +19,8 @@ abbrev AreSame : Ending → Ending → List ℕ → List ℕ → Type 0
 AreSame d e t s = (d ≡ e) × (t ≡ s)
 
 module _ {A : Type 0} (most : ℕ) (place : Place) (file : File) (Tells : List ℕ → A → Type 0) (Next : A → Ending → List ℕ → Type 0)
-  (one : (a b : A) → Tells file.bytes a → Tells file.bytes b → b ≡ a)
-  (next_one : (a : A) → Tells file.bytes a → (d e : Ending) (t s : List ℕ) → Next a d t → Next a e s → AreSame d e t s) where
+    (one : (a b : A) → Tells file.bytes a → Tells file.bytes b → b ≡ a)
+    (next_one : (a : A) → Tells file.bytes a → (d e : Ending) (t s : List ℕ) → Next a d t → Next a e s → AreSame d e t s) where
   too_short : most < length file.bytes → length file.bytes ≤ most → ⊥
   too_short l s = absurd (omega arith)
 
