@@ -1,5 +1,5 @@
 -- Answers line by line: how the ending of the lines that are left makes that of all.
-use Rattle.std.proofs.Common.{◌≡◌, ◌≢◌, ℕ, ◌⊎◌, Bool, true, false, List, [], ◌∷◌, ◌++◌, length, take, Option, Some, None, refl, sym, ap, ◌∙◌, subst, inl, inr, ⊎_elim, true≢false}
+use Rattle.std.proofs.Common.{◌≡◌, ℕ, true, false, List, [], ◌∷◌, ◌++◌, take, Option, refl, sym, ap, ◌∙◌, subst, inl, inr, true≢false}
 use Rattle.wf_model.specs.declared.event.Event.{Event}
 use Rattle.wf_model.specs.Grammar.{Grammar}
 use Rattle.wf_model.specs.View.{View}
@@ -9,11 +9,11 @@ use Rattle.wf_top.specs.declared.ending.Ending.{Ending}
 use Rattle.wf_top.specs.declared.ending.Ending.TheVariants.{Done, Usage, Refused, ReadFault, WriteFault, NoMemory}
 use Rattle.wf_top.specs.declared.ending.Place.TheVariants.{Queries}
 use Rattle.wf_top.specs.Outcome.{IsQueryLine, IsAnswered, AreAnswered}
-use Rattle.wf_top.specs.Meets.{Appended, EndsBy, IsOfOutcome}
+use Rattle.wf_top.specs.Meets.{Appended, EndsBy}
 use Rattle.wf_query.specs.Line.{IsQuery}
 use Rattle.wf_top.specs.Prepared.{IsAnswerLine}
 use Rattle.wf_top.specs.Asked.{IsAsked, EndsAt}
-use Rattle.wf_top.proofs.Putting.{appended_none, appended_twice, begun_none, begun_longer, begun_after}
+use Rattle.wf_top.proofs.Putting.{appended_twice, begun_longer, begun_after}
 use Rattle.wf_top.proofs.Stages.{nothing_put}
 use Rattle.wf_top.proofs.OneOutcome.{one_written}
 

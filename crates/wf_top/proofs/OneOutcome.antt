@@ -1,5 +1,5 @@
 -- What bytes tell, they tell of one value alone.
-use Rattle.std.proofs.Common.{◌≡◌, ◌≢◌, ℕ, ◌⊎◌, Bool, true, false, List, [], ◌∷◌, ◌++◌, length, Option, Some, None, unwrap_or, refl, sym, ap, ◌∙◌, subst, inl, inr, ⊎_elim, append-nil}
+use Rattle.std.proofs.Common.{◌≡◌, ℕ, Bool, true, false, List, [], ◌∷◌, ◌++◌, Option, Some, None, unwrap_or, refl, sym, ap, ◌∙◌, subst, inl, inr, append-nil}
 use Rattle.std.specs.Prelude.{Result, Ok, Err, codes}
 use Rattle.serde_json.specs.Data.{Data}
 use Rattle.wf_model.specs.declared.parts.Parts.{Parts}
@@ -7,17 +7,16 @@ use Rattle.wf_model.specs.declared.event.Event.{Event}
 use Rattle.wf_model.specs.Grammar.{Grammar}
 use Rattle.wf_model.specs.View.{View}
 use Rattle.wf_model.specs.Run.{IsRun, IsFinished}
-use Rattle.wf_model.specs.Items.{Item, items}
+use Rattle.wf_model.specs.Items.{Item}
 use Rattle.wf_model.specs.Finishing.{IsFinishing}
 use Rattle.wf_io.specs.Lines.{Line, text_of}
 use Rattle.wf_json.specs.Reading.{IsReading}
 use Rattle.wf_json.specs.SpecForm.{spec_of}
 use Rattle.wf_events.specs.EventForm.{event_of}
 use Rattle.wf_spec.specs.Forming.{grammar_of}
-use Rattle.wf_query.specs.Line.{IsQuery}
 use Rattle.wf_query.proofs.Names.{query_law}
-use Rattle.wf_top.specs.Answers.{item_named, are_visible, IsShown, IsAnswerFor, IsAnswer}
-use Rattle.wf_top.specs.Outcome.{IsSpecText, TellsGrammar, TellsView, IsEventText, AreEvents, TellsRun, IsQueryLine, IsAnswered}
+use Rattle.wf_top.specs.Answers.{are_visible, IsShown, IsAnswerFor, IsAnswer}
+use Rattle.wf_top.specs.Outcome.{IsSpecText, TellsGrammar, TellsView, IsEventText, AreEvents, TellsRun, IsAnswered}
 
 some_same : {A : Type 0} (x y : A) → Some x ≡ Some y → x ≡ y
 some_same x y e = ap (λ o. unwrap_or o x) e

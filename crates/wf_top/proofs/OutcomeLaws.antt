@@ -1,5 +1,5 @@
 -- Words and files have one outcome at most.
-use Rattle.std.proofs.Common.{◌≡◌, ℕ, ◌<◌, ◌≤◌, Bool, true, false, List, [], ◌∷◌, ◌++◌, length, Option, Some, None, refl, sym, ap, ◌∙◌, subst, inl, inr, arith, true≢false}
+use Rattle.std.proofs.Common.{◌≡◌, ℕ, ◌<◌, ◌≤◌, List, [], ◌∷◌, ◌++◌, length, Option, Some, None, sym, ap, ◌∙◌, subst, inl, inr, arith, true≢false}
 use Rattle.wf_model.specs.declared.event.Event.{Event}
 use Rattle.wf_model.specs.Grammar.{Grammar}
 use Rattle.wf_model.specs.View.{View}
@@ -7,7 +7,6 @@ use Rattle.wf_model.specs.Run.{IsRun, IsFinished}
 use Rattle.wf_io.specs.Told.{File}
 use Rattle.wf_io.specs.Lines.{Line}
 use Rattle.wf_top.specs.declared.ending.Ending.{Ending}
-use Rattle.wf_top.specs.declared.ending.Ending.TheVariants.{Refused, ReadFault}
 use Rattle.wf_top.specs.declared.ending.Place.{Place}
 use Rattle.wf_top.specs.Words.{Command, Trace, command_of}
 use Rattle.wf_top.specs.Outcome.{Stage, too_long, broken, refused, goes_on, TellsGrammar, TellsView, TellsRun, TellsLines, AreAnswered, Traces, Does}

@@ -1,16 +1,16 @@
 -- How the stages of `trace` make its outcome.
-use Rattle.std.proofs.Common.{◌≡◌, ◌≢◌, ℕ, List, [], Option, Some, refl, sym, ap, ◌∙◌, subst}
-use Rattle.std.specs.Prelude.{Result, Ok, Err, IfErr, Bool}
+use Rattle.std.proofs.Common.{◌≡◌, ℕ, List, Option, Some, refl, sym, subst}
+use Rattle.std.specs.Prelude.{Result, Err, IfErr, Bool}
 use Rattle.wf_model.specs.declared.event.Event.{Event}
 use Rattle.wf_model.specs.Grammar.{Grammar}
 use Rattle.wf_model.specs.DefaultView.{default_view}
 use Rattle.wf_io.specs.Told.{File}
 use Rattle.wf_top.specs.declared.ending.Ending.{Ending}
-use Rattle.wf_top.specs.declared.ending.Ending.TheVariants.{Done, Usage, Refused, ReadFault, WriteFault, NoMemory}
+use Rattle.wf_top.specs.declared.ending.Ending.TheVariants.{NoMemory}
 use Rattle.wf_top.specs.declared.ending.Place.TheVariants.{Spec, View, Events, Queries}
-use Rattle.wf_top.specs.Words.{Command, Trace, command_of}
+use Rattle.wf_top.specs.Words.{Command, Trace}
 use Rattle.wf_top.specs.Outcome.{Stage, TellsGrammar, TellsView, TellsRun, TellsLines, AreAnswered, Traces, Does, short_most, long_most, instance_most}
-use Rattle.wf_top.specs.Meets.{EndsBy, IsOfOutcome, ending_of}
+use Rattle.wf_top.specs.Meets.{EndsBy, ending_of}
 use Rattle.wf_flat.specs.Table.{Table, events_of}
 use Rattle.wf_top.specs.Stages.{IsTold, StopsAt, IsCause}
 use Rattle.wf_top.proofs.Stages.{nothing_put, stop_ends, on_ends}

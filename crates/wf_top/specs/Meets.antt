@@ -1,5 +1,5 @@
 -- How a call stands to the outcome: what was put, and the line for err.
-use Rattle.std.specs.Prelude.{◌≡◌, ◌≢◌, ◌⊎◌, ◌<◌, ◌≤◌, ℕ, Bool, true, false, List, [], ◌∷◌, ◌++◌, length, take, Option, Some, option_map, Result, Ok, Err, codes}
+use Rattle.std.specs.Prelude.{◌≡◌, ◌≢◌, ◌⊎◌, ℕ, Bool, List, [], ◌++◌, take, Option, Some, option_map, Result, Ok, Err, codes}
 use Rattle.wf_io.specs.Told.{File, Rose}
 use Rattle.wf_top.specs.declared.ending.Ending.{Ending}
 use Rattle.wf_top.specs.declared.ending.Ending.TheVariants.{Done, Usage, Refused, ReadFault, WriteFault, NoMemory}

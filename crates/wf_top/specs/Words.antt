@@ -1,5 +1,5 @@
 -- The words that the program is called with, and the command that they are.
-use Rattle.std.specs.Prelude.{◌≡◌, ℕ, cond, List, [], ◌∷◌, Option, Some, None, bytes_eq, codes}
+use Rattle.std.specs.Prelude.{ℕ, cond, List, [], ◌∷◌, Option, Some, None, bytes_eq, codes}
 
 -- a command, by the names of the files that it reads
 pub data Command : Type 0 where

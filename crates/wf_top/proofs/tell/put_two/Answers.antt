@@ -1,4 +1,4 @@
-use Rattle.std.proofs.Common.{◌++◌, refl}
+use Rattle.std.proofs.Common.{refl}
 use Rattle.wf_top.proofs.Putting.{put_more, put_failed}
 use Rattle.wf_top.proofs.tell.put_two.Goals as goal
 

@@ -1,6 +1,5 @@
 use Rattle.std.proofs.Common.{refl}
 use Rattle.wf_model.specs.DefaultView.{default_view}
-use Rattle.wf_top.specs.declared.ending.Place.TheVariants.{View}
 use Rattle.wf_top.specs.Outcome.{TellsView, short_most}
 use Rattle.wf_top.proofs.Stages.{told_by}
 use Rattle.wf_top.proofs.trace.view_stage.Goals as goal
