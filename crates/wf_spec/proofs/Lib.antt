@@ -6,7 +6,6 @@ pub mod Fitting
 pub mod Formed
 pub mod Graphs
 pub mod Listing
-pub mod Making
 pub mod Names
 pub mod Placing
 pub mod Sides

@@ -9,10 +9,11 @@ use Rattle.std.proofs.lemmas.Nat.Bits.{bit_at_ones, bit_at_ones_above, bit_at-ze
 use Rattle.std.proofs.lemmas.List.Sums.{count_by-le-length, count_by_more_yes, count_by_more_no}
 use Rattle.std.specs.Int.{bit_at}
 use borrow.Author.Tests.{ltb-true, ltb-false}
-use Rattle.wf_model.specs.Grammar.{Grammar, Module, Production, inputs_of, outputs_of, module_at, is_given}
+use Rattle.wf_model.specs.Grammar.{Grammar, Module, Production, inputs_of, outputs_of, module_at, is_given, alternative_of}
 use Rattle.wf_model.specs.WellFormed.{IsWellFormed}
 use Rattle.wf_model.proofs.Lists.{at_in, is_at, in_at, at_is, at_below}
-use Rattle.wf_spec.specs.Tables.{head_at, headed, places, AreByHead, AreRowsOf, full_rows, numbers_in}
+use Rattle.wf_spec.specs.Tables.{head_at, headed, places, AreByHead, AreRows, AreRowsOf, full_rows, numbers_in}
+use Rattle.wf_spec.specs.Held.{HeldProduction}
 
 pub get_in : {A : Type 0} (k : ℕ) (xs : List A) (d : A) → k < length xs → IsIn (get_or xs k d) xs
 get_in k xs d h = at_in (get_or xs k d) k xs (is_at k xs d h)
@@ -99,16 +100,30 @@ listed modules ps n m lists v known below was =
     ap numbers was ∙ sym (get_or-map numbers lists m v [] (list_within modules ps n m lists known below)) ∙ known.each m below
 
 -- the rows of a module, as they are kept
-pub rowed : (ms : List Module) (m : ℕ) (lists : List (Vec ℕ Global)) (v : Vec ℕ Global) → map (λ (r : Vec ℕ Global). r.items) lists ≡ map full_rows ms
-    → m < length ms → v ≡ get_or lists m v → v.items ≡ full_rows (get_or ms m no_module)
-rowed ms m lists v known below was =
-    ap items was ∙ sym (get_or-map items lists m v [] inside) ∙ ap (λ rs. get_or rs m []) known ∙ get_or-map full_rows ms m no_module [] below
+pub rowed : (g : Grammar) (m : ℕ) (lists : List (Vec ℕ Global)) (v : Vec ℕ Global) (rows : List ℕ) → AreRows g (map (λ (r : Vec ℕ Global). r.items) lists)
+    → m < length g.modules → v ≡ get_or lists m v → rows ≡ v.items → AreRowsOf g m rows
+rowed g m lists v rows known below was is =
+    subst (AreRowsOf g m) (sym (is ∙ ap items was ∙ sym (get_or-map items lists m v [] inside))) (known.1 m below)
   where
     items : Vec ℕ Global → List ℕ
     items r = r.items
 
     inside : m < length lists
-    inside = omega (arith, length-map lists items, ap length known, length-map ms full_rows)
+    inside = omega (arith, length-map lists items, known.0)
+
+-- the alternative number of a production, as it is kept
+pub alternative_is : (g : Grammar) (p : ℕ) (held : List HeldProduction) (r : HeldProduction) → map (λ (q : HeldProduction). q.alternative) held ≡ map (alternative_of g) (numbers_from 0 (length g.productions))
+    → map (λ (q : HeldProduction). q.core) held ≡ g.productions → p < length g.productions → r ≡ get_or held p r → r.alternative ≡ alternative_of g p
+alternative_is g p held r known same below was =
+    ap number was ∙ sym (get_or-map number held p r 0 inside) ∙ ap (λ ks. get_or ks p 0) known
+    ∙ get_or-map (alternative_of g) (numbers_from 0 (length g.productions)) p 0 0 (subst (λ n. p < n) (sym (length-numbers 0 (length g.productions))) below)
+    ∙ ap (alternative_of g) (number_at 0 (length g.productions) p below ∙ zero-add p)
+  where
+    number : HeldProduction → ℕ
+    number q = q.alternative
+
+    inside : p < length held
+    inside = omega (arith, length-map held (λ (q : HeldProduction). q.core), ap length same)
 
 -- full rows are those of a module to which no pairs are given
 pub full_are : (g : Grammar) (m : ℕ) → g.given ≡ [] → outputs_of g m ≤ 64 → AreRowsOf g m (full_rows (module_at g m))

@@ -12,9 +12,8 @@ use Rattle.wf_model.specs.declared.parts.ExitPart.{ExitPart}
 use Rattle.wf_model.specs.declared.parts.DepsPart.{DepsPart}
 use Rattle.wf_model.specs.declared.parts.PairPart.{PairPart}
 use Rattle.wf_model.specs.Lists.{IsIn}
-use Rattle.wf_model.specs.Grammar.{Grammar, Module, Position, Inner, Edge, Production, Given, body_of, head_of, IsComposite}
+use Rattle.wf_model.specs.Grammar.{Grammar, Module, Position, Inner, Edge, Production, Given}
 use Rattle.wf_model.specs.WellFormed.{IsWellFormed}
-use Rattle.wf_model.specs.Proper.{Derives}
 
 -- the place of a name among names, the first, and their number where it is not there
 abbrev pub place_of : List (List ℕ) → List ℕ → ℕ
@@ -137,9 +136,3 @@ HasAllLinks parts = (p : ProdPart) → IsIn p parts.productions → HasItsLinks 
 pub record IsFormed (parts : Parts) : Type 0 where
   pub links : HasAllLinks parts
   pub well_formed : IsWellFormed (grammar_of parts)
-
--- a grammar as this version takes it: no pairs are given, every composite module is reached, and a body has modules of greater number than its head's alone
-pub record IsPlain (g : Grammar) : Type 0 where
-  pub no_pairs : g.given ≡ []
-  pub reached : (m : ℕ) → IsComposite g m → Derives g g.start m
-  pub downward : (p m : ℕ) → p < length g.productions → IsIn m (body_of g p) → head_of g p < m

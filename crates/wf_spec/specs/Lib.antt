@@ -2,6 +2,7 @@ pub mod Bodies
 pub mod Ends
 pub mod Forming
 pub mod Graphs
-pub mod Making
+pub mod Held
 pub mod Resolving
+pub mod Rules
 pub mod Tables

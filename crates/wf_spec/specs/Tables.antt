@@ -5,7 +5,7 @@ use Rattle.std.specs.Int.{bit_at}
 use Rattle.std.specs.declared.alloc.Global.{Global}
 use Rattle.wf_model.specs.declared.numbers.ProdNo.{ProdNo}
 use Rattle.wf_model.specs.Lists.{numbers_from}
-use Rattle.wf_model.specs.Grammar.{Grammar, Module, Production, inputs_of, outputs_of, is_given, head_of}
+use Rattle.wf_model.specs.Grammar.{Grammar, Module, Production, inputs_of, outputs_of, is_given, head_of, alternative_of}
 use Rattle.wf_model.specs.WellFormed.{IsWellFormed}
 
 -- the productions of a module, in order
@@ -43,10 +43,14 @@ places productions n = map (λ p. length (headed productions p (head_at producti
 abbrev pub full_rows : Module → List ℕ
 full_rows m = replicate (length m.inputs) (2 ^ length m.outputs - 1)
 
+-- rows for each of so many modules
+abbrev pub AreRows : Grammar → List (List ℕ) → Type 0
+AreRows g bits = (length bits ≡ length g.modules) × ((m : ℕ) → m < length g.modules → AreRowsOf g m (get_or bits m []))
+
 -- a well-formed grammar with its tables: the names of the modules, the productions of each, all rows, and the places of productions among those of their heads
 pub record IsKept (g : Grammar) (known lists bits : List (List ℕ)) (among : List ℕ) : Type 0 where
   pub well_formed : IsWellFormed g
   pub names : known ≡ map (λ (m : Module). m.name) g.modules
   pub by_head : AreByHead (length g.modules) g.productions (length g.productions) lists
-  pub rows : bits ≡ map full_rows g.modules
-  pub places : among ≡ places g.productions (length g.productions)
+  pub rows : AreRows g bits
+  pub places : among ≡ map (alternative_of g) (numbers_from 0 (length g.productions))

@@ -2,30 +2,22 @@
 #![tactic(auto)]
 
 mod build;
-mod by_head;
 mod deps;
-mod draft;
 mod fault;
+mod given;
 mod grammar;
-mod graph;
-mod inner;
-mod links;
-mod modules;
-mod places;
-mod plain;
-mod productions;
-mod resolve;
-mod rows;
-mod well_formed;
+mod module;
+mod production;
+mod rule;
 
 pub use deps::Deps;
-pub use fault::FormFault;
-pub use grammar::{Grammar, Module, Production};
+pub use fault::{FormFault, Spot};
+pub use grammar::Grammar;
+pub use module::Module;
+pub use production::Production;
 pub use wf_model::{
     DepsPart, Edge, EdgeNo, EdgePart, EntryPart, Event, ExitPart, Inner, ModNo, ModulePart, Name,
     PairPart, Parts, PortNo, PortPart, PosNo, PosPart, Position, ProdNo, ProdPart, RunFault, Seq,
     Side, Step, ViewParts,
 };
 
-#[cfg(test)]
-mod tests;

@@ -1,0 +1,2 @@
+pub mod Improper
+pub mod Proper

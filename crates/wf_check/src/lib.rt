@@ -1,0 +1,10 @@
+//! Proper grammars: each composite module is reached and has an expansion that ends, and none becomes itself by unit productions.
+#![tactic(auto)]
+
+mod check;
+mod fault;
+mod ranking;
+
+pub use check::proper;
+pub use fault::CheckFault;
+pub use ranking::Proper;

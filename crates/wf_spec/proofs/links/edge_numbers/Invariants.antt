@@ -1,7 +1,0 @@
-use Rattle.std.proofs.Common.{◌≡◌, map, take}
-use Rattle.wf_model.specs.Meaning.{position_of, edge_of}
-use Rattle.wf_spec.specs.Forming.{edge_in}
-use Rattle.wf_spec.proofs.links.edge_numbers.Given as goal
-
-abbrev pub invariant-loop-part : goal.invariant-loop-part
-invariant-loop-part l = map edge_of l.list.items ≡ map (edge_in l.modules (map position_of l.body)) (take l.part-index l.parts)
