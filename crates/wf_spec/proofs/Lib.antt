@@ -11,3 +11,4 @@ pub mod Placing
 pub mod Sides
 pub mod Sizes
 pub mod Tables
+pub mod Numbering

@@ -6,3 +6,4 @@ pub mod Held
 pub mod Resolving
 pub mod Rules
 pub mod Tables
+pub mod Wiring

@@ -6,9 +6,11 @@ mod deps;
 mod fault;
 mod given;
 mod grammar;
+mod links;
 mod module;
 mod production;
 mod rule;
+mod wiring;
 
 pub use deps::Deps;
 pub use fault::{FormFault, Spot};
