@@ -8,6 +8,7 @@ pub mod Graphs
 pub mod Listing
 pub mod Names
 pub mod Placing
+pub mod Rules
 pub mod Sides
 pub mod Sizes
 pub mod Tables
