@@ -127,12 +127,16 @@ each list Holds told = record { places = length list; holds = λ k. (x : _) → 
 abbrev pub once : Type 0 → FormFault → Rule
 once Holds told = record { places = 1; holds = λ k. Holds; fault = λ k. told }
 
+-- the rule that no module has the name of an earlier one
+abbrev pub new_names : List ModulePart → Rule
+new_names modules = record { places = length modules; holds = IsNewAt (module_names modules); fault = NameTwice }
+
 -- the rules on modules by themselves, and on the numbers of modules and productions
 abbrev pub first_rules : Parts → List Rule
 first_rules parts =
     each parts.modules HasShortNames (λ k. NameBad (AtModule k)) ∷
     each parts.productions HasShortPositions (λ k. NameBad (AtProduction k)) ∷
-    record { places = length parts.modules; holds = IsNewAt (module_names parts.modules); fault = NameTwice } ∷
+    new_names parts.modules ∷
     each parts.modules HasDifferentPorts PortTwice ∷
     each parts.modules HasFewPorts TooManyPorts ∷
     once (length parts.modules ≤ 1024) TooManyModules ∷

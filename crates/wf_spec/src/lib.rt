@@ -2,6 +2,7 @@
 #![tactic(auto)]
 
 mod build;
+mod checks;
 mod deps;
 mod fault;
 mod given;
@@ -10,6 +11,7 @@ mod module;
 mod production;
 mod rule;
 
+pub use checks::{check_bodies, check_modules};
 pub use deps::Deps;
 pub use fault::{FormFault, Spot};
 pub use grammar::Grammar;
@@ -20,4 +22,3 @@ pub use wf_model::{
     PairPart, Parts, PortNo, PortPart, PosNo, PosPart, Position, ProdNo, ProdPart, RunFault, Seq,
     Side, Step, ViewParts,
 };
-
