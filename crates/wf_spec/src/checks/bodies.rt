@@ -11,25 +11,28 @@ use crate::checks::different::first_position_twice;
 use crate::checks::sizes::{first_empty_body, first_long_body, sum_of_squares};
 use crate::fault::{FormFault, Spot};
 use std::alloc::Global;
-use wf_model::{DepsPart, Parts, ProdPart};
+use wf_model::{DepsPart, Parts, PosPart, ProdPart};
 use wf_names::Names;
 
-fn names_modules(names: &Names, rule: &ProdPart) -> bool
+fn are_known(names: &Names, body: &[PosPart]) -> bool
+    ensures { result ≡ list_all (λ q. is_one_of names.now q.«module») body.now }
+{
+    body.iter().all(|q| names.holds(q.module.bytes()))
+}
+
+fn has_known_modules(names: &Names, rule: &ProdPart) -> bool
     ensures { result ≡ is_one_of names.now rule.now.head && list_all (λ q. is_one_of names.now q.«module») rule.now.body }
 {
-    names.holds(rule.head.bytes())
-        && rule
-            .body
-            .items()
-            .iter()
-            .all(|q| names.holds(q.module.bytes()))
+    names.holds(rule.head.bytes()) && are_known(names, rule.body.items())
 }
 
 /// The first production whose head, or the module of one of whose positions, is none of these.
 fn first_unknown_rule(names: &Names, productions: &[ProdPart]) -> Option<usize>
     ensures { IsFirstFailing (each productions.now (HasKnownModules names.now) (λ k. UnknownModule (AtProduction k))) result }
 {
-    productions.iter().position(|p| !names_modules(names, p))
+    productions
+        .iter()
+        .position(|p| !has_known_modules(names, p))
 }
 
 /// The first deps part whose module is none of these.

@@ -1,5 +1,5 @@
 // Names that differ, found by hashing.
-ghost use Rattle.std.specs.Prelude.{◌≡◌, ◌++◌, [], not, IfOk};
+ghost use Rattle.std.specs.Prelude.{◌≡◌, ◌++◌, [], not, map, IfOk};
 ghost use Rattle.std.specs.Bool.{OnTrue};
 ghost use Rattle.wf_model.specs.Faults.{some_twice};
 ghost use Rattle.wf_spec.specs.Rules.{each, position_names, HasDifferentPorts, IsFirstFailing};
@@ -38,11 +38,11 @@ fn ports_differ(alloc: Global, inputs: &[Name], outputs: &[Name]) -> Result<bool
 }
 
 /// Whether the names of the positions of a body differ.
-fn positions_differ(alloc: Global, rule: &ProdPart) -> Result<bool, AllocError>
-    ensures { IfOk result (λ b. b ≡ not (some_twice [] (position_names rule.now))) }
+fn positions_differ(alloc: Global, body: &[PosPart]) -> Result<bool, AllocError>
+    ensures { IfOk result (λ b. b ≡ not (some_twice [] (map (λ q. q.name) body.now))) }
 {
     let mut taken = Names::new(alloc);
-    for q in rule.body.items() {
+    for q in body {
         if taken.holds(q.name.bytes()) {
             return Ok(false);
         }
@@ -76,7 +76,7 @@ pub fn first_position_twice(
     ensures { IfOk result (λ answer. IsFirstFailing (each productions.now (λ p. AllDiffer (position_names p)) PositionTwice) answer) }
 {
     for (k, rule) in productions.iter().enumerate() {
-        let differ = positions_differ(alloc, rule)?;
+        let differ = positions_differ(alloc, rule.body.items())?;
         if !differ {
             return Ok(Some(k));
         }

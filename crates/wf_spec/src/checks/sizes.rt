@@ -1,8 +1,6 @@
 // The sizes of bodies, and the sum of their squares.
-ghost use Rattle.std.specs.Prelude.{◌≡◌, ◌<◌, ◌≤◌, length};
+ghost use Rattle.std.specs.Prelude.{◌≡◌, ◌<◌, ◌≤◌, ◌*◌, length};
 ghost use Rattle.wf_spec.specs.Rules.{each, squares, HoldsThroughout, IsFirstFailing};
-ghost use Rattle.wf_model.specs.Lists.{IsIn};
-ghost use Rattle.wf_model.specs.declared.parts.ProdPart.{ProdPart as ProdPartSeen};
 ghost use Rattle.wf_spec.specs.declared.fault.FormFault.TheVariants.{EmptyBody, BodyTooLong};
 
 use wf_model::ProdPart;
@@ -21,6 +19,15 @@ pub fn first_long_body(productions: &[ProdPart]) -> Option<usize>
     productions.iter().position(|p| p.body.items().len() > 64)
 }
 
+fn square_of(rule: &ProdPart) -> usize
+    requires { length rule.now.body ≤ 64 }
+    ensures value { result ≡ length rule.now.body * length rule.now.body }
+    ensures small { result ≤ 4096 }
+{
+    let len = rule.body.items().len();
+    len * len
+}
+
 /// The sum of the squares of the lengths of bodies.
 pub fn sum_of_squares(productions: &[ProdPart]) -> usize
     requires few { length productions.now ≤ 1024 }
@@ -29,8 +36,7 @@ pub fn sum_of_squares(productions: &[ProdPart]) -> usize
 {
     let mut sum = 0;
     for rule in productions {
-        let len = rule.body.items().len();
-        sum += len * len;
+        sum += square_of(rule);
     }
     sum
 }
