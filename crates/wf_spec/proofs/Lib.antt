@@ -5,9 +5,13 @@ pub mod Finding
 pub mod Fitting
 pub mod Formed
 pub mod Graphs
+pub mod KnownModules
 pub mod Listing
 pub mod Names
+pub mod NewNames
 pub mod Placing
+pub mod Rules
+pub mod ShortNames
 pub mod Sides
 pub mod Sizes
 pub mod Tables

@@ -2,6 +2,7 @@
 #![tactic(auto)]
 
 mod build;
+mod checks;
 mod deps;
 mod fault;
 mod given;
@@ -12,6 +13,7 @@ mod production;
 mod rule;
 mod wiring;
 
+pub use checks::{check_bodies, check_modules};
 pub use deps::Deps;
 pub use fault::{FormFault, Spot};
 pub use grammar::Grammar;
@@ -22,4 +24,3 @@ pub use wf_model::{
     PairPart, Parts, PortNo, PortPart, PosNo, PosPart, Position, ProdNo, ProdPart, RunFault, Seq,
     Side, Step, ViewParts,
 };
-
