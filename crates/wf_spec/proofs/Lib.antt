@@ -9,10 +9,10 @@ pub mod KnownModules
 pub mod Listing
 pub mod Names
 pub mod NewNames
+pub mod Numbering
 pub mod Placing
 pub mod Rules
 pub mod ShortNames
 pub mod Sides
 pub mod Sizes
 pub mod Tables
-pub mod Numbering
