@@ -10,6 +10,7 @@ pub mod Listing
 pub mod Names
 pub mod NewNames
 pub mod Numbering
+pub mod Pairs
 pub mod Placing
 pub mod Rules
 pub mod ShortNames

@@ -18,6 +18,7 @@ use Rattle.wf_spec.specs.Rules.{HasKnownPorts}
 use Rattle.wf_spec.specs.Wiring.{entry_of, exit_of, entry_link, exit_link, IsEntryIn, IsExitIn, IsWiringOf}
 use Rattle.wf_model.proofs.Lists.{at_is}
 use Rattle.wf_spec.proofs.Finding.{absent, present, place_within, is_in_place}
+use Rattle.wf_spec.proofs.Listing.{read_in}
 use Rattle.wf_spec.proofs.Placing.{known_modules}
 
 -- a name that a search does not find is not there
@@ -133,3 +134,13 @@ matched_more R read old new i a b as_many all last was is j x y at_read at_new =
     ⊎_elim (λ at. all j x y at_read at)
     (λ d. subst (λ z. R x z) (sym d.1) (subst (λ z. R z b) (was ∙ at_is x i read a (subst (λ n. IsAt x n read) (d.0 ∙ as_many) at_read)) last))
     (at_push_cases y j old b (subst (IsAt y j) is at_new))
+
+-- an element that is read and of which a name was said
+pub name_read : {A : Type 0} (f : A → List ℕ) (names : List (List ℕ)) (xs : List A) (i : ℕ) (x : A) (name : List ℕ) → ((y : A) → IsIn y xs → IsIn (f y) names)
+    → x ≡ get_or xs i x → i < length xs → name ≡ f x → IsIn name names
+name_read f names xs i x name all was inside is = subst (λ n. IsIn n names) (sym is) (all x (read_in xs i x was inside))
+
+-- what holds at the places before one that is past the end holds at all places
+pub holds_to_end : {A : Type 0} (Good : A → Type 0) (xs : List A) (i : ℕ) → ((j : ℕ) → j < i → (x : A) → IsAt x j xs → Good x) → length xs ≤ i
+    → (k : ℕ) → k < length xs → (x : A) → IsAt x k xs → Good x
+holds_to_end Good xs i all past k below = all k (omega arith)
