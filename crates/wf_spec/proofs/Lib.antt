@@ -5,6 +5,7 @@ pub mod Finding
 pub mod Fitting
 pub mod Formed
 pub mod Graphs
+pub mod Heads
 pub mod KnownModules
 pub mod Listing
 pub mod Names
