@@ -8,6 +8,7 @@ pub mod Graphs
 pub mod Heads
 pub mod KnownModules
 pub mod Listing
+pub mod Meeting
 pub mod Names
 pub mod NewNames
 pub mod Numbering

@@ -78,6 +78,22 @@ entered_by w = map (λ (e : Entry). e.port.0) w.entries.items
 abbrev pub left_by : Wiring → List ℕ
 left_by w = map (λ (e : Exit). e.port.0) w.exits.items
 
+-- a port of a head, as one of a single position
+abbrev pub in_head : ℕ → Inner
+in_head k = record { position = 0; port = k }
+
+-- ends stand at one of so many positions, with ports of small numbers
+abbrev pub AreSmall : ℕ → List Inner → Type 0
+AreSmall positions ends = (i : Inner) → IsIn i ends → (i.position < positions) × (i.port < 64)
+
+-- so do those of a wiring
+pub record IsSmall (w : Wiring) : Type 0 where
+  pub few_positions : length w.positions.items ≤ 64
+  pub fed : AreSmall (length w.positions.items) (fed_by w)
+  pub used : AreSmall (length w.positions.items) (used_by w)
+  pub entered : AreSmall 1 (map in_head (entered_by w))
+  pub left : AreSmall 1 (map in_head (left_by w))
+
 -- the modules of a wiring are there, and the ports that its links join, on the side that each needs
 pub record IsWithin (modules : List Module) (w : Wiring) : Type 0 where
   pub head : w.head.0 < length modules
