@@ -7,6 +7,7 @@ pub mod Formed
 pub mod Graphs
 pub mod Heads
 pub mod KnownModules
+pub mod Linking
 pub mod Listing
 pub mod Meeting
 pub mod Names
