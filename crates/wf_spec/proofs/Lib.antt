@@ -17,6 +17,7 @@ pub mod Pairs
 pub mod Placing
 pub mod Rules
 pub mod ShortNames
+pub mod Sided
 pub mod Sides
 pub mod Sizes
 pub mod Tables
