@@ -3,18 +3,20 @@ use Rattle.std.proofs.Common.{◌≡◌, ◌↔◌, ℕ, ◌<◌, ◌≤◌, Boo
 use Rattle.std.proofs.lemmas.List.{length-map, get_or-map}
 use Rattle.wf_model.specs.declared.body.Position.{Position as PositionHeld}
 use Rattle.wf_model.specs.declared.body.Inner.{Inner as InnerHeld}
+use Rattle.wf_model.specs.declared.body.Edge.{Edge as EdgeHeld}
 use Rattle.wf_model.specs.Lists.{IsIn}
-use Rattle.wf_model.specs.Grammar.{Module, Position, Inner}
-use Rattle.wf_model.specs.Meaning.{position_of, inner_of}
-use Rattle.wf_model.proofs.Lists.{in_map_from}
+use Rattle.wf_model.specs.Grammar.{Module, Position, Inner, Edge}
+use Rattle.wf_model.specs.Meaning.{position_of, inner_of, edge_of}
+use Rattle.wf_model.proofs.Lists.{in_append_left, in_map, in_map_from}
 use Rattle.wf_spec.specs.Bodies.{modules_at, inputs_in, outputs_in}
 use Rattle.wf_spec.specs.Ends.{IsPortOf, HaveFew}
 use Rattle.wf_spec.specs.Forming.{module_in, module_at_place}
 use Rattle.wf_spec.specs.Resolving.{HaveFewPorts, AreOfModules, IsInputIn, IsOutputIn}
-use Rattle.wf_spec.specs.Wiring.{AreSmall}
+use Rattle.wf_spec.specs.Wiring.{AreSmall, IsSmall, IsWithin, body_of, head_of, fed_by, used_by, entered_by, left_by}
+use Rattle.wf_spec.specs.declared.wiring.Wiring.{Wiring}
 use Rattle.wf_spec.proofs.Bodies.{few_of}
 use Rattle.wf_spec.proofs.Ends.{position_below}
-use Rattle.wf_spec.proofs.Linking.{read_as, seen_as}
+use Rattle.wf_spec.proofs.Linking.{read_as, seen_as, small_heads}
 use Rattle.wf_spec.proofs.Tables.{get_in}
 
 -- how many ports of a side each position has
@@ -84,3 +86,28 @@ body_side Port counts seen_counts ends seen made b same as_many kept is h = (
 pub counts_read : (f : ℕ → ℕ) (seen made : List ℕ) (positions held : List PositionHeld) → seen ≡ made → made ≡ map f (modules_at (map position_of positions)) → positions ≡ held
     → seen ≡ map f (modules_at (map position_of held))
 counts_read f seen made positions held kept is same = kept ∙ (is ∙ ap (λ l. map f (modules_at (map position_of l))) same)
+
+-- the ports of a wiring that are there have small numbers
+pub within_small : (modules : List Module) (w : Wiring) → HaveFewPorts modules → IsWithin modules w → IsSmall w
+within_small modules w few h = record {
+  few_positions = h.few_positions;
+  fed = small_ports (map (inputs_in modules) (modules_at (body_of w))) (length w.positions.items) (fed_by w) (few_inputs modules (body_of w) few h.of_modules)
+      (length_counts (λ m. length m.inputs) modules (body_of w) ∙ length-map w.positions.items position_of) (λ i here. (input_port modules (body_of w) i).0 (h.fed i here));
+  used = small_ports (map (outputs_in modules) (modules_at (body_of w))) (length w.positions.items) (used_by w) (few_outputs modules (body_of w) few h.of_modules)
+      (length_counts (λ m. length m.outputs) modules (body_of w) ∙ length-map w.positions.items position_of) (λ i here. (output_port modules (body_of w) i).0 (h.used i here));
+  entered = small_heads (length (head_of modules w).inputs) (entered_by w) (few (head_of modules w) (get_in w.head.0 modules _ h.head)).inputs h.entered;
+  left = small_heads (length (head_of modules w).outputs) (left_by w) (few (head_of modules w) (get_in w.head.0 modules _ h.head)).outputs h.left;
+}
+
+-- the ends of edges stand at positions, as they are read
+pub from_there : (w : Wiring) (seen : List EdgeHeld) (n : ℕ) → IsSmall w → seen ≡ w.edges.items → n ≡ length w.positions.items → (e : Edge) → IsIn e (map edge_of seen) → e.from.position < n
+from_there w seen n small kept as_many e here =
+    let r = in_map_from edge_of e seen here in
+    let i = in_append_left (inner_of r.0.from) (map (λ (x : EdgeHeld). inner_of x.from) w.edges.items) _ (in_map (λ (x : EdgeHeld). inner_of x.from) r.0 w.edges.items (subst (IsIn r.0) kept r.1)) in
+    subst (λ k. e.from.position < k) (sym as_many) (subst (λ (z : Edge). z.from.position < length w.positions.items) (sym r.2) (small.used (inner_of r.0.from) i).0)
+
+pub to_there : (w : Wiring) (seen : List EdgeHeld) (n : ℕ) → IsSmall w → seen ≡ w.edges.items → n ≡ length w.positions.items → (e : Edge) → IsIn e (map edge_of seen) → e.to.position < n
+to_there w seen n small kept as_many e here =
+    let r = in_map_from edge_of e seen here in
+    let i = in_append_left (inner_of r.0.to) (map (λ (x : EdgeHeld). inner_of x.to) w.edges.items) _ (in_map (λ (x : EdgeHeld). inner_of x.to) r.0 w.edges.items (subst (IsIn r.0) kept r.1)) in
+    subst (λ k. e.to.position < k) (sym as_many) (subst (λ (z : Edge). z.to.position < length w.positions.items) (sym r.2) (small.fed (inner_of r.0.to) i).0)

@@ -10,3 +10,4 @@ pub mod numbers;
 mod pairs;
 pub mod places;
 mod tables;
+mod wirings;
