@@ -1,3 +1,4 @@
+pub mod Agreeing
 pub mod Bodies
 pub mod Differing
 pub mod Ends
@@ -7,11 +8,13 @@ pub mod Formed
 pub mod Graphs
 pub mod Heads
 pub mod KnownModules
+pub mod LinkRules
 pub mod Linking
 pub mod Listing
 pub mod Meeting
 pub mod Names
 pub mod NewNames
+pub mod Numbered
 pub mod Numbering
 pub mod Pairs
 pub mod Placing
