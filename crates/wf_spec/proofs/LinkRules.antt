@@ -13,7 +13,7 @@ use Rattle.wf_spec.specs.declared.fault.FormFault.TheVariants.{NoMemory, TooMany
 use Rattle.wf_spec.specs.declared.fault.Spot.TheVariants.{Production as AtProduction, DepsAt}
 use Rattle.wf_spec.specs.declared.wiring.Wiring.{Wiring}
 use Rattle.wf_spec.specs.Forming.{place_of, names_of, module_of, module_in, modules_of, head_in}
-use Rattle.wf_spec.specs.Resolving.{HaveFewPorts}
+use Rattle.wf_spec.specs.Resolving.{HaveFewPorts, HasFewPorts as HasFewPortsOf}
 use Rattle.wf_spec.specs.Rules.{Rule, each, AllHold, FailsFirstAt, HoldsThroughout, IsFirstFailing, IsFirstFault, first_rules, body_rules, link_rules, module_names, HasDifferentPorts, HasFewPorts, HasKnownModules, HasKnownPorts, HasKnownPairs, IsLinkedAtMostOnce, IsLinkedAtLeastOnce, HasNoCycle, IsOfAtomic}
 use Rattle.wf_spec.specs.Wiring.{AreReady, AreWiringsOf, IsWithin, IsWiredAtMostOnce, IsWiredAtLeastOnce, IsWiredForward, wiring_rules, rules_on}
 use Rattle.wf_spec.proofs.Agreeing.{most_same, least_same, forward_same, within_parts}
@@ -133,3 +133,35 @@ module _ (names : List (List ℕ)) (modules : List Module) (productions : List P
     pub all_kept : HoldsThroughout (each deps (HasKnownPairs modules) (λ k. UnknownPort (DepsAt k))) → AllHold (wiring_rules modules wirings)
         → HoldsThroughout (each deps (IsOfAtomic productions) DepsOnComposite) → AllHold (rules_on modules productions deps)
     all_kept pairs all atomic = let h = wirings_kept all in (ports, (pairs, (h.0, (h.1.0, (h.1.1.0, (atomic, tt))))))
+
+-- what holds over parts holds over them as they are read
+pub on_read : (F : List Module → List ProdPart → List DepsPart → Type 0) (modules ms : List Module) (productions ps : List ProdPart) (deps ds : List DepsPart)
+    → modules ≡ ms → productions ≡ ps → deps ≡ ds → F ms ps ds → F modules productions deps
+on_read F modules ms productions ps deps ds a b c h =
+    subst (λ l. F l productions deps) (sym a) (subst (λ l. F ms l deps) (sym b) (subst (λ l. F ms ps l) (sym c) h))
+
+-- the names of the modules of parts
+module_names_same : (ms : List ModulePart) → module_names ms ≡ names_of (map module_of ms)
+module_names_same [] = refl
+module_names_same (m ∷ ms) = ap (λ l. m.name ∷ l) (module_names_same ms)
+
+-- what the rules on modules and bodies give
+pub ready_of : (parts : Parts) → AllHold (first_rules parts) → AllHold (body_rules parts) → AreReady (names_of (modules_of parts)) (modules_of parts) parts.productions parts.deps
+ready_of parts first bodies = record {
+  numbered = refl;
+  few_modules = subst (λ n. n ≤ 1024) (sym (length-map parts.modules module_of)) (first.1.1.1.1.1.0 0 (omega arith));
+  few_ports = λ m i.
+      (let r = in_map_from module_of m parts.modules i in
+      let few = holds_of HasFewPorts TooManyPorts parts.modules first.1.1.1.1.0 r.0 r.1 in
+      subst (λ (z : Module). HasFewPortsOf z) (sym r.2) (record { inputs = few.0; outputs = few.1 }));
+  ports_differ = λ m i.
+      (let r = in_map_from module_of m parts.modules i in
+      subst (λ (z : Module). AllDiffer (z.inputs ++ z.outputs)) (sym r.2) (holds_of HasDifferentPorts PortTwice parts.modules first.1.1.1.0 r.0 r.1));
+  few_positions = holds_of (λ (p : ProdPart). length p.body ≤ 64) BodyTooLong parts.productions bodies.1.1.1.1.0;
+  known = λ p i.
+      subst (λ ns. HasKnownModules ns p) (module_names_same parts.modules)
+      (holds_of (HasKnownModules (module_names parts.modules)) (λ k. UnknownModule (AtProduction k)) parts.productions bodies.1.0 p i);
+  given = λ d i.
+      subst (IsIn d.«module») (module_names_same parts.modules)
+      (holds_of (λ (e : DepsPart). IsIn e.«module» (module_names parts.modules)) (λ k. UnknownModule (DepsAt k)) parts.deps bodies.1.1.0 d i);
+}
