@@ -9,7 +9,7 @@ pub mod Graphs
 pub mod Heads
 pub mod KnownModules
 pub mod LinkRules
-pub mod Linking
+pub mod LinkEnds
 pub mod Listing
 pub mod Meeting
 pub mod Names

@@ -4,7 +4,7 @@ use Rattle.wf_model.specs.Lists.{IsIn, AllDiffer}
 use Rattle.wf_model.proofs.Lists.{in_map, in_map_from, same_bytes, bytes_same}
 use Rattle.wf_spec.specs.Forming.{place_of}
 use Rattle.wf_spec.proofs.Finding.{place_within}
-use Rattle.wf_spec.proofs.Linking.{differ_before, differ_after}
+use Rattle.wf_spec.proofs.LinkEnds.{differ_before, differ_after}
 use Rattle.wf_spec.proofs.Tables.{get_in}
 
 -- a name stands at its place

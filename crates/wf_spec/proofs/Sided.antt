@@ -16,7 +16,7 @@ use Rattle.wf_spec.specs.Wiring.{AreSmall, IsSmall, IsWithin, body_of, head_of, 
 use Rattle.wf_spec.specs.declared.wiring.Wiring.{Wiring}
 use Rattle.wf_spec.proofs.Bodies.{few_of}
 use Rattle.wf_spec.proofs.Ends.{position_below}
-use Rattle.wf_spec.proofs.Linking.{read_as, seen_as, small_heads}
+use Rattle.wf_spec.proofs.LinkEnds.{read_as, seen_as, small_heads}
 use Rattle.wf_spec.proofs.Tables.{get_in}
 
 -- how many ports of a side each position has

@@ -11,7 +11,6 @@ ghost use Rattle.wf_spec.specs.declared.fault.Spot.TheVariants.{Production as At
 
 use crate::fault::{FormFault, Spot};
 use crate::links::numbers::{edge_numbers, entry_numbers, exit_numbers};
-use crate::links::places::module_number;
 use crate::module::Module;
 use std::alloc::{AllocError, Global};
 use wf_model::{Edge, Inner, ModNo, Name, PortNo, PosPart, Position, ProdPart};
@@ -41,8 +40,18 @@ pub struct Wiring {
     pub exits: Vec<Exit>,
 }
 
+/// The number of a module that is one of these.
+pub fn module_number(names: &Names, name: &[u8]) -> ModNo
+    requires few { length names.now ≤ 1024 }
+    requires known { IsIn name.now names.now }
+    ensures place { result.0 ≡ place_of names.now name.now }
+    ensures within { result.0 < length names.now }
+{
+    ModNo(names.find(name).unwrap() as u16)
+}
+
 /// A copy of a name.
-fn copied(alloc: Global, name: &Name) -> Result<Name, AllocError>
+pub fn copied(alloc: Global, name: &Name) -> Result<Name, AllocError>
     ensures { IfOk result (λ n. n ≡ name.now) }
 {
     let bytes = Vec::from_slice(alloc, name.bytes())?;

@@ -7,8 +7,9 @@ ghost use Rattle.wf_spec.specs.Rules.{each, HasKnownPairs, IsFirstFailing};
 ghost use Rattle.wf_spec.specs.declared.fault.FormFault.TheVariants.{UnknownPort};
 ghost use Rattle.wf_spec.specs.declared.fault.Spot.TheVariants.{DepsAt};
 
-use crate::links::places::{has_port, module_number};
+use crate::links::places::has_port;
 use crate::module::Module;
+use crate::wiring::module_number;
 use wf_model::{DepsPart, PairPart};
 use wf_names::Names;
 

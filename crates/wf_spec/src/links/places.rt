@@ -1,11 +1,10 @@
-// Places of names.
-ghost use Rattle.std.specs.Prelude.{◌≡◌, ◌<◌, ◌≤◌, length, position, bytes_eq, MatchOption};
+// Places of names among a few.
+ghost use Rattle.std.specs.Prelude.{◌≡◌, ◌≤◌, length, position, bytes_eq, MatchOption};
 ghost use Rattle.std.specs.List.{list_any};
 ghost use Rattle.wf_model.specs.Lists.{IsIn};
 ghost use Rattle.wf_spec.specs.Forming.{place_of};
 
-use wf_model::{ModNo, Name, PortNo, Position};
-use wf_names::Names;
+use wf_model::{Name, PortNo, Position};
 
 /// The place of a port among ports.
 pub fn port_place(ports: &[Name], name: &[u8]) -> Option<usize>
@@ -38,14 +37,4 @@ pub fn position_place(body: &[Position], name: &[u8]) -> Option<usize>
 {
     body.iter()
         .position(|position| name == position.name.bytes())
-}
-
-/// The number of a module that is one of these.
-pub fn module_number(names: &Names, name: &[u8]) -> ModNo
-    requires few { length names.now ≤ 1024 }
-    requires known { IsIn name.now names.now }
-    ensures place { result.0 ≡ place_of names.now name.now }
-    ensures within { result.0 < length names.now }
-{
-    ModNo(names.find(name).unwrap() as u16)
 }

@@ -1,7 +1,7 @@
 use Rattle.std.proofs.Common.{◌≡◌, ◌↔◌, ◌<◌, ℕ, IsTrue, ap, length, map}
 use Rattle.wf_model.specs.Lists.{IsIn, AllDiffer}
 use Rattle.wf_spec.specs.Wiring.{AreSmall, entered_by, left_by, in_head}
-use Rattle.wf_spec.proofs.Linking.{read_as, heads_differ, head_side, small_heads, not_both, and_then_both}
+use Rattle.wf_spec.proofs.LinkEnds.{read_as, heads_differ, head_side, small_heads, not_both, and_then_both}
 use Rattle.wf_spec.proofs.links.linked.head_is_met.Goals as goal
 use Rattle.wf_spec.proofs.links.linked.head_is_met.Goals.{In_ok-fed}
 

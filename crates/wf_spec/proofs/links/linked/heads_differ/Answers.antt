@@ -1,7 +1,7 @@
 use Rattle.std.proofs.Common.{◌∙◌, map, sym, true≢false}
 use Rattle.wf_model.specs.Lists.{AllDiffer}
 use Rattle.wf_spec.specs.Wiring.{AreSmall, entered_by, left_by, in_head}
-use Rattle.wf_spec.proofs.Linking.{read_as, seen_as, heads_differ}
+use Rattle.wf_spec.proofs.LinkEnds.{read_as, seen_as, heads_differ}
 use Rattle.wf_spec.proofs.links.linked.heads_differ.Goals as goal
 
 pub differ-requires-clause-small : goal.differ-requires-clause-small

@@ -1,6 +1,6 @@
 use Rattle.std.proofs.Common.{◌∙◌, subst, sym}
 use Rattle.wf_spec.specs.Wiring.{AreSmall, fed_by, used_by}
-use Rattle.wf_spec.proofs.Linking.{read_as}
+use Rattle.wf_spec.proofs.LinkEnds.{read_as}
 use Rattle.wf_spec.proofs.links.linked.positions_differ.Goals as goal
 
 pub differ-requires-clause-small : goal.differ-requires-clause-small
