@@ -2,8 +2,10 @@
 #![tactic(auto)]
 
 mod check;
+mod composite;
 mod fault;
 mod ranking;
+mod reach;
 
 pub use check::proper;
 pub use fault::CheckFault;

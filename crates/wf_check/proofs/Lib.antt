@@ -1,0 +1,4 @@
+pub mod Heads
+pub mod Least
+pub mod Reaching
+pub mod Rows
