@@ -4,11 +4,14 @@ use Rattle.std.specs.Prelude.{◌==◌}
 use Rattle.std.proofs.lemmas.Bool.{eqb-true, eq-eqb}
 use Rattle.std.proofs.lemmas.Bool.Decides.{nat_tests}
 use Rattle.wf_model.specs.declared.numbers.ProdNo.{ProdNo}
+use Rattle.wf_model.specs.declared.body.Position.{Position as PositionHeld}
+use Rattle.wf_model.specs.Meaning.{position_of}
 use Rattle.wf_model.specs.Lists.{IsIn, numbers_from}
 use Rattle.wf_model.specs.Grammar.{Grammar, head_of, body_of, IsComposite, IsProductionOf}
 use Rattle.wf_model.specs.Proper.{Makes}
 use Rattle.wf_model.proofs.Lists.{in_filter, in_filter_from, in_flat_map, in_flat_map_from, in_map, at_in, is_at}
 use Rattle.wf_model.proofs.Level.{in_numbers, numbers_in}
+use Rattle.wf_spec.specs.Bodies.{modules_at}
 use Rattle.wf_spec.specs.Tables.{productions_of}
 
 pub headed_gives : (g : Grammar) (m p : ℕ) → IsIn p (productions_of g m) → IsProductionOf g p m
@@ -45,3 +48,9 @@ composite_told g m (p ∷ ps) empty e is = (
   where
     some_there : (n : ℕ) → 0 < n → (n == 0) ≡ false
     some_there n h = grind (arith, nat_tests)
+
+-- the module at a position stands in the body
+pub stands_at : (xs : List PositionHeld) (k : ℕ) (q : PositionHeld) (body : List ℕ) → k < length xs → q ≡ get_or xs k q → modules_at (map position_of xs) ≡ body → IsIn q.module.0 body
+stands_at xs k q body h e is =
+    let i : IsIn q xs = subst (λ z. IsIn z xs) (sym e) (at_in (get_or xs k q) k xs (is_at k xs q h)) in
+    subst (IsIn q.module.0) is (in_map _ (position_of q) (map position_of xs) (in_map position_of q xs i))

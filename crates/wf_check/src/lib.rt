@@ -5,6 +5,7 @@ mod check;
 mod composite;
 mod fault;
 mod ranking;
+mod ranks;
 mod reach;
 
 pub use check::proper;
