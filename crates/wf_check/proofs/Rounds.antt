@@ -1,14 +1,15 @@
 -- Ranks that are found in rounds.
-use Rattle.std.proofs.Common.{◌≡◌, ◌↔◌, ℕ, zero, suc, ◌+◌, ◌-◌, ◌<◌, ◌≤◌, ◌⊎◌, Bool, true, false, cond, List, Option, None, Some, MatchOption, length, get_or, set, is_some, nat_lt, refl, sym, ap, ◌∙◌, subst, inl, inr, ⊎_elim, arith, true≢false}
+use Rattle.std.proofs.Common.{◌≡◌, ◌↔◌, ℕ, zero, suc, ◌+◌, ◌-◌, ◌<◌, ◌≤◌, ◌⊎◌, Bool, true, false, cond, List, Option, None, Some, MatchOption, length, map, get_or, set, is_some, nat_lt, refl, sym, ap, ◌∙◌, subst, inl, inr, ⊎_elim, arith, true≢false}
 use Rattle.std.specs.Prelude.{count_by, IsTrue, not}
 use Rattle.std.specs.Bool.{then_some}
 use Rattle.std.proofs.lemmas.Bool.Decides.{nat_tests}
-use Rattle.std.proofs.lemmas.List.{get_or-set_same, get_or-set_other, length-set}
+use Rattle.std.proofs.lemmas.List.{get_or-set_same, get_or-set_other, get_or-map, length-set}
 use Rattle.std.proofs.lemmas.List.Sums.{sum_by-set}
 use Rattle.wf_model.specs.Lists.{IsIn}
 use Rattle.wf_model.specs.Grammar.{Grammar, body_of, IsAtomic, IsComposite, IsProductionOf}
 use Rattle.wf_model.specs.Proper.{RankWithin, IsRank}
 use Rattle.wf_model.specs.WellFormed.{IsWellFormed}
+use Rattle.wf_check.specs.Improper.{IsProductive}
 use Rattle.wf_check.specs.Ranks.{TellsRank, AreRanks, TellsRankBelow, AreRanksBelow, IsRound, is_below, IsLower, unranked, IsMoreRanked}
 
 same_or_not : (a b : ℕ) → (a ≡ b) ⊎ (a ≡ b → ⊥)
@@ -181,3 +182,15 @@ ranks_done g (suc j) ranks w pos below more = record { one_each = below.one_each
     tells : (m : ℕ) → m < length g.modules → (o : Option ℕ) → TellsRankBelow g (suc j) m o → TellsRank g m o
     tells m low None h = λ k r. h j (omega arith) (no_higher g j ranks w below more k m low r)
     tells m low (Some n) h = h.1
+
+-- a module has a rank where one is told
+pub productive_told : (g : Grammar) (ranks : List (Option ℕ)) → IsWellFormed g → AreRanks g ranks → (m : ℕ) → IsComposite g m → (get_or (map is_some ranks) m false ≡ true) ↔ IsProductive g m
+productive_told g ranks w h m c =
+    let low = subst (λ k. k < length g.modules) c.1.1 (w.heads c.0 c.1.0) in
+    let len = h.one_each in
+    let within : m < length ranks = omega arith in
+    subst (λ b. (b ≡ true) ↔ IsProductive g m) (sym (get_or-map is_some ranks m None false within)) (told (get_or ranks m None) (h.told m low))
+  where
+    told : (o : Option ℕ) → TellsRank g m o → (is_some o ≡ true) ↔ IsProductive g m
+    told None t = (λ e. absurd (true≢false (sym e)), λ r. absurd (t r.0 r.1))
+    told (Some n) t = (λ e. (n, t.0), λ r. refl)

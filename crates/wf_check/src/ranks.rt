@@ -1,12 +1,13 @@
 // The ranks of modules, found in rounds.
-ghost use Rattle.std.specs.Prelude.{◌≡◌, ◌<◌, ◌≤◌, ◌+◌, ℕ, None, Bool, length, get_or, IfOk, MatchOption};
+ghost use Rattle.std.specs.Prelude.{◌≡◌, ◌<◌, ◌≤◌, ◌+◌, ℕ, None, Bool, length, map, get_or, is_some, IfOk, MatchOption};
 ghost use Rattle.std.specs.List.{list_all};
 ghost use Rattle.wf_model.specs.Lists.{IsIn};
 ghost use Rattle.wf_model.specs.WellFormed.{IsWellFormed};
 ghost use Rattle.wf_spec.specs.Bodies.{modules_at};
+ghost use Rattle.wf_check.specs.Improper.{IsProductive, IsLeastWithout, OfAllComposite};
 ghost use Rattle.wf_check.specs.Ranks.{AreRanks, AreRanksBelow, IsRound, IsMoreRanked, IsLower, is_below};
 
-use crate::composite::is_composite;
+use crate::composite::{is_composite, least_unmarked};
 use std::alloc::{AllocError, Global};
 use wf_spec::{Grammar, ModNo, ProdNo, Production};
 
@@ -101,4 +102,23 @@ pub fn ranks(alloc: Global, g: &Grammar) -> Result<Vec<Option<u32>>, AllocError>
         n += 1;
     }
     Ok(ranks)
+}
+
+fn ranked(alloc: Global, ranks: &[Option<u32>]) -> Result<Vec<bool>, AllocError>
+    ensures { IfOk result (λ marks. marks.items ≡ map is_some ranks.now) }
+{
+    ranks.iter().map(|rank| rank.is_some()).collect(alloc)
+}
+
+/// The least composite module that has no rank, or `None` where there is none. Fails only for want of memory.
+pub fn unproductive(
+    alloc: Global,
+    g: &Grammar,
+    ranks: &[Option<u32>],
+) -> Result<Option<ModNo>, AllocError>
+    requires { AreRanks g.now.core ranks.now }
+    ensures { IfOk result (λ o. MatchOption o (OfAllComposite g.now.core (IsProductive g.now.core)) (λ m. IsLeastWithout g.now.core (IsProductive g.now.core) m.0)) }
+{
+    let marks = ranked(alloc, ranks)?;
+    Ok(least_unmarked(g, &marks))
 }

@@ -19,4 +19,4 @@ returns c =
     let told = subst (λ (l : List Bool). (v : ℕ) → (get_or l v false ≡ true) ↔ IsReached c.deref.result.now c.from.result v) (sym c.deref-2.ensures.value) c.in_ok-marks.ensures.reached in
     let told' = subst (λ (l : List (Vec ℕ Global)). (v : ℕ) → (get_or marks v false ≡ true) ↔ IsReached l c.from.result v) c.deref.ensures.value told in
     let told'' = subst (λ s. (v : ℕ) → (get_or marks v false ≡ true) ↔ IsReached c.in_ok-graph.graph.items s v) (c.from.ensures ∙ c.start.ensures.start) told' in
-    least_same g (λ k. get_or marks k false ≡ true) (Derives g g.start) c.least_unmarked.result (λ k h. derived_reached g c.in_ok-graph.graph.items marks g.start c.in_ok-graph.ensures.edges told'' k) c.least_unmarked.ensures
+    least_same g (λ k. get_or marks k false ≡ true) (Derives g g.start) c.least_unmarked.result (λ k h. derived_reached g c.in_ok-graph.graph.items marks g.start c.in_ok-graph.ensures.edges told'' k) c.least_unmarked.ensures.least
