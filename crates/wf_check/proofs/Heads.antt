@@ -9,6 +9,7 @@ use Rattle.wf_model.specs.Meaning.{position_of}
 use Rattle.wf_model.specs.Lists.{IsIn, numbers_from}
 use Rattle.wf_model.specs.Grammar.{Grammar, head_of, body_of, IsComposite, IsProductionOf}
 use Rattle.wf_model.specs.Proper.{Makes}
+use Rattle.wf_model.specs.WellFormed.{IsWellFormed}
 use Rattle.wf_model.proofs.Lists.{in_filter, in_filter_from, in_flat_map, in_flat_map_from, in_map, at_in, is_at}
 use Rattle.wf_model.proofs.Level.{in_numbers, numbers_in}
 use Rattle.wf_spec.specs.Bodies.{modules_at}
@@ -34,6 +35,9 @@ bodies_make g m k = (
   λ i. (let r = in_flat_map_from (body_of g) k (productions_of g m) i in (r.0, headed_gives g m r.0 r.1, r.2)),
   λ d. in_flat_map (body_of g) d.0 k (productions_of g m) (headed_from g m d.0 d.1) d.2,
 )
+
+pub composite_below : (g : Grammar) → IsWellFormed g → (m : ℕ) → IsComposite g m → m < length g.modules
+composite_below g w m d = subst (λ k. k < length g.modules) d.1.1 (w.heads d.0 d.1.0)
 
 -- a module is composite where it heads some production
 pub composite_told : (g : Grammar) (m : ℕ) (ps : List ProdNo) (empty : Bool) → empty ≡ (length ps == 0) → map (λ (p : ProdNo). p.0) ps ≡ productions_of g m → IsTrue (not empty) ↔ IsComposite g m

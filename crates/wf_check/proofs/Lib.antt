@@ -1,3 +1,4 @@
+pub mod Choosing
 pub mod Heads
 pub mod Least
 pub mod Lists

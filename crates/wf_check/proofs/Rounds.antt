@@ -11,6 +11,7 @@ use Rattle.wf_model.specs.Proper.{RankWithin, IsRank}
 use Rattle.wf_model.specs.WellFormed.{IsWellFormed}
 use Rattle.wf_check.specs.Improper.{IsProductive}
 use Rattle.wf_check.specs.Ranks.{TellsRank, AreRanks, TellsRankBelow, AreRanksBelow, IsRound, is_below, IsLower, unranked, IsMoreRanked}
+use Rattle.wf_check.proofs.Heads.{composite_below}
 
 same_or_not : (a b : ℕ) → (a ≡ b) ⊎ (a ≡ b → ⊥)
 same_or_not a b = ⊎_elim (λ e. inl e) (λ s. inr (λ e. ⊎_elim (λ h. absurd (omega arith)) (λ h. absurd (omega arith)) s)) cases
@@ -186,7 +187,7 @@ ranks_done g (suc j) ranks w pos below more = record { one_each = below.one_each
 -- a module has a rank where one is told
 pub productive_told : (g : Grammar) (ranks : List (Option ℕ)) → IsWellFormed g → AreRanks g ranks → (m : ℕ) → IsComposite g m → (get_or (map is_some ranks) m false ≡ true) ↔ IsProductive g m
 productive_told g ranks w h m c =
-    let low = subst (λ k. k < length g.modules) c.1.1 (w.heads c.0 c.1.0) in
+    let low = composite_below g w m c in
     let len = h.one_each in
     let within : m < length ranks = omega arith in
     subst (λ b. (b ≡ true) ↔ IsProductive g m) (sym (get_or-map is_some ranks m None false within)) (told (get_or ranks m None) (h.told m low))

@@ -2,6 +2,7 @@
 #![tactic(auto)]
 
 mod check;
+mod choices;
 mod composite;
 mod fault;
 mod ranking;

@@ -2,6 +2,7 @@ use Rattle.std.proofs.Common.{◌↔◌, ◌<◌, ◌+◌, ◌∙◌, ◌∷◌,
 use Rattle.std.specs.declared.alloc.Global.{Global}
 use Rattle.wf_model.specs.Proper.{Makes}
 use Rattle.wf_graph.specs.Graph.{HasEdge}
+use Rattle.wf_check.proofs.Heads.{composite_below}
 use Rattle.wf_check.proofs.Rows.{rows_more}
 use Rattle.wf_check.proofs.reach.making.Goals as goal
 
@@ -19,7 +20,7 @@ pub returns-clause-edges : goal.returns-clause-edges
 returns-clause-edges c = λ a b. (
   λ i. ((c.loop-m.invariant.edges a b).0 i).1,
   λ d.
-      let h = subst (λ k. k < length c.args.g.now.core.modules) d.1.1 (c.modules-m-end.ensures.formed.heads d.0 d.1.0) in
+      let h = composite_below c.args.g.now.core c.modules-m-end.ensures.formed a (d.0, d.1) in
       let n = ap length c.modules-m-end.ensures.modules in
       let l : a < c.loop-m.m = omega arith in
       (c.loop-m.invariant.edges a b).1 (l, d),
