@@ -2,7 +2,10 @@ pub mod Choosing
 pub mod Heads
 pub mod Least
 pub mod Lists
+pub mod Loops
 pub mod Lower
+pub mod Options
 pub mod Reaching
 pub mod Rounds
 pub mod Rows
+pub mod Settled

@@ -1,5 +1,5 @@
 -- Ranks that are found in rounds.
-use Rattle.std.proofs.Common.{◌≡◌, ◌↔◌, ℕ, zero, suc, ◌+◌, ◌-◌, ◌<◌, ◌≤◌, ◌⊎◌, Bool, true, false, cond, List, Option, None, Some, MatchOption, length, map, get_or, set, is_some, nat_lt, refl, sym, ap, ◌∙◌, subst, inl, inr, ⊎_elim, arith, true≢false}
+use Rattle.std.proofs.Common.{◌≡◌, ◌↔◌, ℕ, zero, suc, ◌+◌, ◌-◌, ◌<◌, ◌≤◌, ◌⊎◌, Bool, true, false, cond, List, Option, None, Some, length, map, get_or, set, is_some, nat_lt, refl, sym, ap, ◌∙◌, subst, inl, inr, ⊎_elim, arith, true≢false}
 use Rattle.std.specs.Prelude.{count_by, IsTrue, not}
 use Rattle.std.specs.Bool.{then_some}
 use Rattle.std.proofs.lemmas.Bool.Decides.{nat_tests}
@@ -112,14 +112,6 @@ tells_more g n m (Some k) h t = let l = h.0 in (omega arith, h.1)
 is_none_told : (o : Option ℕ) → is_some o ≡ false → o ≡ None
 is_none_told None t = refl
 is_none_told (Some k) t = absurd (true≢false t)
-
-pub match_some : {A : Type 0} (o : Option A) (P : Type 0) (Q : A → Type 0) → MatchOption o P Q → is_some o ≡ true → (x : A) × Q x
-match_some None P Q h t = absurd (true≢false (sym t))
-match_some (Some x) P Q h t = (x, h)
-
-pub match_none : {A : Type 0} (o : Option A) (P : Type 0) (Q : A → Type 0) → MatchOption o P Q → is_some o ≡ false → P
-match_none None P Q h t = h
-match_none (Some x) P Q h t = absurd (true≢false t)
 
 -- one module more is tried, and nothing is written
 round_kept : (g : Grammar) (n m : ℕ) (ranks : List (Option ℕ)) → IsRound g n m ranks → TellsRankBelow g (n + 1) m (get_or ranks m None) → IsRound g n (m + 1) ranks
