@@ -4,6 +4,7 @@
 mod check;
 mod fault;
 mod ranking;
+mod unit;
 
 pub use check::proper;
 pub use fault::CheckFault;
