@@ -1,2 +1,4 @@
 pub mod Improper
 pub mod Proper
+pub mod UnitPaths
+pub mod UnitRules

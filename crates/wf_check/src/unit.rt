@@ -1,4 +1,6 @@
 // The cycle of unit productions that is told.
+mod rule;
+
 ghost use Rattle.std.specs.Prelude.{ℕ, List, map, IfOk, MatchOption};
 ghost use Rattle.wf_check.specs.Improper.{IsUnitCycle, IsToldCycle};
 
