@@ -1,1 +1,3 @@
+pub mod UnitGraphs
+pub mod UnitPaths
 pub mod UnitRules

@@ -1,4 +1,5 @@
 // The cycle of unit productions that is told.
+mod graph;
 mod rule;
 
 ghost use Rattle.std.specs.Prelude.{ℕ, List, map, IfOk, MatchOption};
