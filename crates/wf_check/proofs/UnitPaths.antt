@@ -4,6 +4,7 @@ use Rattle.std.specs.declared.alloc.Global.{Global}
 use Rattle.wf_model.specs.Lists.{IsIn, Walk, here, onward}
 use Rattle.wf_graph.specs.Graph.{HasEdge, IsReached}
 use Rattle.wf_check.specs.declared.unit.rule.UnitRule.{UnitRule}
+use Rattle.wf_check.specs.UnitRules.{AreBelow}
 use Rattle.wf_check.specs.UnitPaths.{Turns, LeadTo, IsOnCycle, IsGraphOf}
 
 -- one path after another
@@ -43,3 +44,11 @@ no_cycle us graph same m none cycle = go cycle.0 cycle.1 cycle.2
     go (p ∷ ps) h l =
         let r = last_turn us m m p ps l in
         none r.0 r.1 r.2 (path_walks us graph same m r.0.head.0 r.3.0 r.3.1)
+
+-- a module on a cycle is the head of a unit production
+pub on_cycle_below : (us : List UnitRule) (n m : ℕ) → AreBelow n us → IsOnCycle us m → m < n
+on_cycle_below us n m below cycle = go cycle.0 cycle.1 cycle.2
+  where
+    go : (ps : List ℕ) → 0 < length ps → LeadTo us m ps m → m < n
+    go [] h l = absurd (omega arith)
+    go (p ∷ ps) h l = let t = l.1 in subst (λ k. k < n) t.3 (below t.0 t.1).0

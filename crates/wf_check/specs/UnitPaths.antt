@@ -44,3 +44,7 @@ layer_at (x ∷ xs) (suc k) = layer_at xs k
 pub record AreLayers (units : List UnitRule) (n m : ℕ) (layers : List (Vec Bool Global)) : Type 0 where
   pub one_each : (k : ℕ) → k < length layers → length (layer_at layers k) ≡ n
   pub each : (k : ℕ) → k < length layers → IsLayer units m k (layer_at layers k)
+
+-- the least module from which unit productions lead back to it
+abbrev pub IsLeastOnCycle : List UnitRule → ℕ → Type 0
+IsLeastOnCycle units m = IsOnCycle units m × ((k : ℕ) → k < m → IsOnCycle units k → ⊥)

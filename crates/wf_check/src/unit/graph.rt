@@ -1,8 +1,8 @@
 // The graph of unit productions.
-ghost use Rattle.std.specs.Prelude.{◌≡◌, ◌<◌, ◌↔◌, ℕ, length, IfOk, IsTrue};
+ghost use Rattle.std.specs.Prelude.{◌≡◌, ◌<◌, ◌↔◌, ℕ, length, IfOk, IsTrue, MatchOption};
 ghost use Rattle.wf_graph.specs.Graph.{HasEdge, InRange};
 ghost use Rattle.wf_check.specs.UnitRules.{AreBelow};
-ghost use Rattle.wf_check.specs.UnitPaths.{IsGraphOf, IsOnCycle};
+ghost use Rattle.wf_check.specs.UnitPaths.{IsGraphOf, IsOnCycle, IsLeastOnCycle};
 
 use crate::unit::rule::UnitRule;
 use std::alloc::{AllocError, Global};
@@ -60,4 +60,25 @@ pub fn is_on_cycle(
         }
     }
     Ok(false)
+}
+
+/// The least module from which unit productions lead back to it, if there is one.
+///
+/// Cost: a search of the graph for each module. Fails only for want of memory.
+pub fn least_on_cycle(
+    alloc: Global,
+    units: &[UnitRule],
+    modules: u16,
+) -> Result<Option<ModNo>, AllocError>
+    requires { AreBelow modules units.now }
+    ensures { IfOk result (λ o. MatchOption o ((m : ℕ) → IsOnCycle units.now m → ⊥) (λ m. IsLeastOnCycle units.now m.0)) }
+{
+    let graph = unit_graph(alloc, units, usize::from(modules))?;
+    for m in 0..modules {
+        let found = is_on_cycle(alloc, units, &graph, ModNo(m))?;
+        if found {
+            return Ok(Some(ModNo(m)));
+        }
+    }
+    Ok(None)
 }
