@@ -1,3 +1,4 @@
 pub mod UnitGraphs
+pub mod UnitLayers
 pub mod UnitPaths
 pub mod UnitRules

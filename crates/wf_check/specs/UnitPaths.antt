@@ -34,6 +34,10 @@ IsLayer units m k marks = (v : ℕ) → (get_or marks v false ≡ true) ↔ Reac
 abbrev pub TurnsInto : List UnitRule → List Bool → ℕ → Type 0
 TurnsInto units marks v = (u : UnitRule) × IsIn u units × (u.head.0 ≡ v) × (get_or marks u.target.0 false ≡ true)
 
+-- the marked modules are those from which a unit production leads to one that is marked in the layer
+abbrev pub IsBefore : List UnitRule → List Bool → List Bool → Type 0
+IsBefore units layer marks = (v : ℕ) → (get_or marks v false ≡ true) ↔ TurnsInto units layer v
+
 -- the marks of one layer, and none past the last
 abbrev pub layer_at : List (Vec Bool Global) → ℕ → List Bool
 layer_at [] k = []

@@ -1,5 +1,6 @@
 // The cycle of unit productions that is told.
 mod graph;
+mod layers;
 mod rule;
 
 ghost use Rattle.std.specs.Prelude.{ℕ, List, map, IfOk, MatchOption};
