@@ -2,3 +2,4 @@ pub mod UnitGraphs
 pub mod UnitLayers
 pub mod UnitPaths
 pub mod UnitRules
+pub mod UnitSimple

@@ -1,10 +1,14 @@
 -- Layers of modules, by how many unit productions lead to one module.
-use Rattle.std.proofs.Common.{◌≡◌, ℕ, zero, suc, ◌↔◌, ◌<◌, ◌⊎◌, Bool, true, false, true≢false, List, [], ◌∷◌, ◌++◌, length, get_or, set, replicate, refl, sym, ap, ◌∙◌, subst, inl, inr, ⊎_elim, arith, get_or-set_same, get_or-set_other}
+use Rattle.std.proofs.Common.{◌≡◌, ℕ, zero, suc, ◌+◌, ◌↔◌, ◌<◌, ◌≤◌, ◌⊎◌, Bool, true, false, true≢false, List, [], ◌∷◌, ◌++◌, length, get_or, set, Vec, refl, sym, ap, ◌∙◌, subst, inl, inr, ⊎_elim, arith, get_or-set_same, get_or-set_other, length-append}
+use Rattle.std.specs.declared.alloc.Global.{Global}
+use Rattle.std.proofs.lemmas.Bool.{cases_lt}
 use Rattle.wf_model.specs.Lists.{IsIn}
 use Rattle.wf_model.proofs.Lists.{in_append_left, in_append_right, in_append_cases}
 use Rattle.wf_spec.proofs.Ends.{same_or_not}
 use Rattle.wf_check.specs.declared.unit.rule.UnitRule.{UnitRule}
-use Rattle.wf_check.specs.UnitPaths.{TurnsInto, IsBefore}
+use Rattle.wf_check.specs.UnitRules.{AreBelow}
+use Rattle.wf_check.specs.UnitPaths.{LeadTo, IsOnCycle, ReachesIn, IsLayer, IsShortest, TurnsInto, IsBefore, AreLayers, layer_at}
+use Rattle.wf_check.proofs.UnitSimple.{cycle_within}
 
 -- a mark that is set is there, and those of other modules stay
 marked-set : (marks : List Bool) (h v : ℕ) → h < length marks → (get_or (set marks h true) v false ≡ true) ↔ ((get_or marks v false ≡ true) ⊎ (v ≡ h))
@@ -38,3 +42,88 @@ before_same us u layer marks out before v = (
       (λ i. ⊎_elim (λ (d : t.0 ≡ u). absurd (true≢false (sym t.3 ∙ ap (λ (w : UnitRule). get_or layer w.target.0 false) d ∙ out))) (λ z. absurd z) i)
       (in_append_cases t.0 us (u ∷ []) t.1),
 )
+
+-- the module itself is the layer of no unit productions
+pub layer_first : (us : List UnitRule) (m : ℕ) (marks : List Bool) → ((v : ℕ) → (get_or marks v false ≡ true) ↔ (v ≡ m)) → IsLayer us m 0 marks
+layer_first us m marks same v = (λ h. ([], refl, (same v).0 h), λ r. (same v).1 (from r.0 r.1 r.2))
+  where
+    from : (ps : List ℕ) → length ps ≡ 0 → LeadTo us v ps m → v ≡ m
+    from [] e l = l
+    from (p ∷ ps) e l = absurd (omega arith)
+
+-- before the layer of k unit productions is that of one more
+pub layer_next : (us : List UnitRule) (m k : ℕ) (layer marks : List Bool) → IsLayer us m k layer → IsBefore us layer marks → IsLayer us m (suc k) marks
+layer_next us m k layer marks is before v = (
+  λ h.
+      let t = (before v).0 h in
+      let r = (is t.0.target.0).0 t.3 in
+      (t.0.number.0 ∷ r.0, ap suc r.1, (t.0.target.0, (t.0, t.1, refl, t.2, refl), r.2)),
+  λ r. (before v).1 (from r.0 r.1 r.2),
+)
+  where
+    from : (ps : List ℕ) → length ps ≡ suc k → LeadTo us v ps m → TurnsInto us layer v
+    from [] e l = absurd (omega arith)
+    from (p ∷ ps) e l =
+        let t = l.1 in
+        let r : length ps ≡ k = omega (arith, e) in
+        (t.0, t.1, t.3, ap (λ c. get_or layer c false) t.4 ∙ (is l.0).1 (ps, r, l.2))
+
+layer_at_old : (xs : List (Vec Bool Global)) (x : Vec Bool Global) (k : ℕ) → k < length xs → layer_at (xs ++ x ∷ []) k ≡ layer_at xs k
+layer_at_old [] x k h = absurd (omega arith)
+layer_at_old (y ∷ xs) x zero h = refl
+layer_at_old (y ∷ xs) x (suc k) h = let r : k < length xs = omega arith in layer_at_old xs x k r
+
+layer_at_last : (xs : List (Vec Bool Global)) (x : Vec Bool Global) → layer_at (xs ++ x ∷ []) (length xs) ≡ x.items
+layer_at_last [] x = refl
+layer_at_last (y ∷ xs) x = layer_at_last xs x
+
+-- no layers
+pub layers_none : (us : List UnitRule) (n m : ℕ) → AreLayers us n m []
+layers_none us n m = record { one_each = λ k h. absurd (omega arith); each = λ k h. absurd (omega arith) }
+
+-- one layer more
+pub layers_more : (us : List UnitRule) (n m : ℕ) (xs : List (Vec Bool Global)) (x : Vec Bool Global) → AreLayers us n m xs → length x.items ≡ n → IsLayer us m (length xs) x.items → AreLayers us n m (xs ++ x ∷ [])
+layers_more us n m xs x so_far count is = record {
+  one_each = λ k h. ⊎_elim
+      (λ (e : k ≡ length xs). ap length (ap (layer_at (xs ++ x ∷ [])) e ∙ layer_at_last xs x) ∙ count)
+      (λ e. let l : k < length xs = omega (arith, length-append xs (x ∷ []), e) in ap length (layer_at_old xs x k l) ∙ so_far.one_each k l)
+      (same_or_not k (length xs));
+  each = λ k h. ⊎_elim
+      (λ (e : k ≡ length xs). subst (λ j. IsLayer us m j (layer_at (xs ++ x ∷ []) j)) (sym e) (subst (IsLayer us m (length xs)) (sym (layer_at_last xs x)) is))
+      (λ e. let l : k < length xs = omega (arith, length-append xs (x ∷ []), e) in subst (IsLayer us m k) (sym (layer_at_old xs x k l)) (so_far.each k l))
+      (same_or_not k (length xs));
+}
+
+-- a layer is kept, and the one before it follows
+pub layers_round : (us : List UnitRule) (n m : ℕ) (xs ys : List (Vec Bool Global)) (x : Vec Bool Global) (layer marks : List Bool)
+    → AreLayers us n m xs → length x.items ≡ n → IsLayer us m (length xs) x.items → ys ≡ xs ++ x ∷ [] → layer ≡ x.items → IsBefore us layer marks
+    → AreLayers us n m ys × IsLayer us m (length ys) marks
+layers_round us n m xs ys x layer marks so_far count is kept same before = (
+  subst (AreLayers us n m) (sym kept) (layers_more us n m xs x so_far count is),
+  subst (λ k. IsLayer us m k marks) (sym (ap length kept ∙ length-push))
+      (layer_next us m (length xs) x.items marks is (subst (λ l. IsBefore us l marks) same before)),
+)
+  where
+    length-push : length (xs ++ x ∷ []) ≡ suc (length xs)
+    length-push = omega (arith, length-append xs (x ∷ []))
+
+-- from the first layer that has the module again the shortest cycle is known
+pub shortest_found : (us : List UnitRule) (m k : ℕ) (marks : List Bool) → IsLayer us m k marks → get_or marks m false ≡ true → 0 < k → ((j : ℕ) → 0 < j → j < k → ReachesIn us m j m → ⊥) → IsShortest us m k
+shortest_found us m k marks is marked some none = record {
+  some = some;
+  back = (is m).0 marked;
+  least = λ j h r. ⊎_elim (λ l. absurd (none j h l r)) (λ l. l) (cases_lt j k);
+}
+
+-- nor is the module on a cycle of so many, where the layer does not have it
+pub none_more : (us : List UnitRule) (m k : ℕ) (marks : List Bool) → IsLayer us m k marks → get_or marks m false ≡ false → ((j : ℕ) → 0 < j → j < k → ReachesIn us m j m → ⊥) → (j : ℕ) → 0 < j → j < k + 1 → ReachesIn us m j m → ⊥
+none_more us m k marks is unmarked none j h l r = ⊎_elim
+    (λ (e : j ≡ k). true≢false (sym ((is m).1 (subst (λ i. ReachesIn us m i m) e r)) ∙ unmarked))
+    (λ e. let below : j < k = omega (arith, e) in none j h below r)
+    (same_or_not j k)
+
+-- a module on a cycle has fewer layers than there are modules while it is not found again
+pub layers_few : (us : List UnitRule) (n m k : ℕ) → AreBelow n us → IsOnCycle us m → ((j : ℕ) → 0 < j → j < k + 1 → ReachesIn us m j m → ⊥) → k < n
+layers_few us n m k below cycle none =
+    let w = cycle_within us n m below cycle in
+    ⊎_elim (λ l. absurd (none w.0 w.1 l w.3)) (λ l. let few = w.2 in omega arith) (cases_lt w.0 (k + 1))

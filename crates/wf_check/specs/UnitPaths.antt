@@ -1,5 +1,5 @@
 -- Paths along unit productions, and the modules from which they lead to one.
-use Rattle.std.specs.Prelude.{◌≡◌, ◌↔◌, ℕ, zero, suc, ◌<◌, Bool, true, false, List, [], ◌∷◌, length, get_or, Vec}
+use Rattle.std.specs.Prelude.{◌≡◌, ◌↔◌, ℕ, zero, suc, ◌<◌, ◌≤◌, Bool, true, false, List, [], ◌∷◌, length, get_or, Vec}
 use Rattle.std.specs.declared.alloc.Global.{Global}
 use Rattle.wf_model.specs.Lists.{IsIn}
 use Rattle.wf_graph.specs.Graph.{HasEdge}
@@ -52,3 +52,9 @@ pub record AreLayers (units : List UnitRule) (n m : ℕ) (layers : List (Vec Boo
 -- the least module from which unit productions lead back to it
 abbrev pub IsLeastOnCycle : List UnitRule → ℕ → Type 0
 IsLeastOnCycle units m = IsOnCycle units m × ((k : ℕ) → k < m → IsOnCycle units k → ⊥)
+
+-- no fewer than k unit productions lead from m back to it, and k do
+pub record IsShortest (units : List UnitRule) (m k : ℕ) : Type 0 where
+  pub some : 0 < k
+  pub back : ReachesIn units m k m
+  pub least : (j : ℕ) → 0 < j → ReachesIn units m j m → k ≤ j
