@@ -1,3 +1,4 @@
+pub mod UnitFirst
 pub mod UnitGraphs
 pub mod UnitLayers
 pub mod UnitPaths

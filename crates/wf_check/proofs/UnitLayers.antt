@@ -78,15 +78,15 @@ layer_at_last [] x = refl
 layer_at_last (y ∷ xs) x = layer_at_last xs x
 
 -- no layers
-pub layers_none : (us : List UnitRule) (n m : ℕ) → AreLayers us n m []
-layers_none us n m = record { one_each = λ k h. absurd (omega arith); each = λ k h. absurd (omega arith) }
+pub layers_none : (us : List UnitRule) (m : ℕ) → AreLayers us m []
+layers_none us m = record { wide = λ k h. absurd (omega arith); each = λ k h. absurd (omega arith) }
 
 -- one layer more
-pub layers_more : (us : List UnitRule) (n m : ℕ) (xs : List (Vec Bool Global)) (x : Vec Bool Global) → AreLayers us n m xs → length x.items ≡ n → IsLayer us m (length xs) x.items → AreLayers us n m (xs ++ x ∷ [])
-layers_more us n m xs x so_far count is = record {
-  one_each = λ k h. ⊎_elim
-      (λ (e : k ≡ length xs). ap length (ap (layer_at (xs ++ x ∷ [])) e ∙ layer_at_last xs x) ∙ count)
-      (λ e. let l : k < length xs = omega (arith, length-append xs (x ∷ []), e) in ap length (layer_at_old xs x k l) ∙ so_far.one_each k l)
+pub layers_more : (us : List UnitRule) (m : ℕ) (xs : List (Vec Bool Global)) (x : Vec Bool Global) → AreLayers us m xs → AreBelow (length x.items) us → IsLayer us m (length xs) x.items → AreLayers us m (xs ++ x ∷ [])
+layers_more us m xs x so_far below is = record {
+  wide = λ k h. ⊎_elim
+      (λ (e : k ≡ length xs). subst (λ l. AreBelow (length l) us) (sym (ap (layer_at (xs ++ x ∷ [])) e ∙ layer_at_last xs x)) below)
+      (λ e. let l : k < length xs = omega (arith, length-append xs (x ∷ []), e) in subst (λ l. AreBelow (length l) us) (sym (layer_at_old xs x k l)) (so_far.wide k l))
       (same_or_not k (length xs));
   each = λ k h. ⊎_elim
       (λ (e : k ≡ length xs). subst (λ j. IsLayer us m j (layer_at (xs ++ x ∷ []) j)) (sym e) (subst (IsLayer us m (length xs)) (sym (layer_at_last xs x)) is))
@@ -95,11 +95,11 @@ layers_more us n m xs x so_far count is = record {
 }
 
 -- a layer is kept, and the one before it follows
-pub layers_round : (us : List UnitRule) (n m : ℕ) (xs ys : List (Vec Bool Global)) (x : Vec Bool Global) (layer marks : List Bool)
-    → AreLayers us n m xs → length x.items ≡ n → IsLayer us m (length xs) x.items → ys ≡ xs ++ x ∷ [] → layer ≡ x.items → IsBefore us layer marks
-    → AreLayers us n m ys × IsLayer us m (length ys) marks
-layers_round us n m xs ys x layer marks so_far count is kept same before = (
-  subst (AreLayers us n m) (sym kept) (layers_more us n m xs x so_far count is),
+pub layers_round : (us : List UnitRule) (m : ℕ) (xs ys : List (Vec Bool Global)) (x : Vec Bool Global) (layer marks : List Bool)
+    → AreLayers us m xs → AreBelow (length x.items) us → IsLayer us m (length xs) x.items → ys ≡ xs ++ x ∷ [] → layer ≡ x.items → IsBefore us layer marks
+    → AreLayers us m ys × IsLayer us m (length ys) marks
+layers_round us m xs ys x layer marks so_far below is kept same before = (
+  subst (AreLayers us m) (sym kept) (layers_more us m xs x so_far below is),
   subst (λ k. IsLayer us m k marks) (sym (ap length kept ∙ length-push))
       (layer_next us m (length xs) x.items marks is (subst (λ l. IsBefore us l marks) same before)),
 )

@@ -4,6 +4,7 @@ use Rattle.std.specs.declared.alloc.Global.{Global}
 use Rattle.wf_model.specs.Lists.{IsIn}
 use Rattle.wf_graph.specs.Graph.{HasEdge}
 use Rattle.wf_check.specs.declared.unit.rule.UnitRule.{UnitRule}
+use Rattle.wf_check.specs.UnitRules.{AreBelow}
 
 -- the unit production p leads from a to b
 abbrev pub Turns : List UnitRule → ℕ → ℕ → ℕ → Type 0
@@ -44,10 +45,17 @@ layer_at [] k = []
 layer_at (x ∷ xs) zero = x.items
 layer_at (x ∷ xs) (suc k) = layer_at xs k
 
--- the layers around m, from 0 productions on, with a mark for each of n modules
-pub record AreLayers (units : List UnitRule) (n m : ℕ) (layers : List (Vec Bool Global)) : Type 0 where
-  pub one_each : (k : ℕ) → k < length layers → length (layer_at layers k) ≡ n
+-- the layers around m, from 0 unit productions on, each with a mark for every head and target
+pub record AreLayers (units : List UnitRule) (m : ℕ) (layers : List (Vec Bool Global)) : Type 0 where
+  pub wide : (k : ℕ) → k < length layers → AreBelow (length (layer_at layers k)) units
   pub each : (k : ℕ) → k < length layers → IsLayer units m k (layer_at layers k)
+
+-- the unit production of least number that leads from v to a marked module
+pub record IsFirstInto (units : List UnitRule) (marks : List Bool) (v : ℕ) (u : UnitRule) : Type 0 where
+  pub there : IsIn u units
+  pub head : u.head.0 ≡ v
+  pub into : get_or marks u.target.0 false ≡ true
+  pub least : (w : UnitRule) → IsIn w units → w.head.0 ≡ v → get_or marks w.target.0 false ≡ true → u.number.0 ≤ w.number.0
 
 -- the least module from which unit productions lead back to it
 abbrev pub IsLeastOnCycle : List UnitRule → ℕ → Type 0

@@ -1,6 +1,7 @@
 // The cycle of unit productions that is told.
 mod graph;
 mod layers;
+mod path;
 mod rule;
 
 ghost use Rattle.std.specs.Prelude.{ℕ, List, map, IfOk, MatchOption};

@@ -44,7 +44,7 @@ pub fn layers_around(
 ) -> Result<Vec<Vec<bool>>, AllocError>
     requires below { AreBelow modules units.now }
     requires cycle { IsOnCycle units.now m.0 }
-    ensures layers { IfOk result (λ layers. AreLayers units.now modules m.0 layers.items) }
+    ensures layers { IfOk result (λ layers. AreLayers units.now m.0 layers.items) }
     ensures shortest { IfOk result (λ layers. IsShortest units.now m.0 (length layers.items)) }
 {
     let mut layers = Vec::new(alloc);

@@ -15,7 +15,7 @@ loop-layer-init c =
     let m = c.args.m.0 in
     record {
       count = c.in_ok-layer.ensures.count;
-      layers = subst (AreLayers c.args.units.now c.args.modules m) (sym none) (layers_none c.args.units.now c.args.modules m);
+      layers = subst (AreLayers c.args.units.now m) (sym none) (layers_none c.args.units.now m);
       layer = subst (λ k. IsLayer c.args.units.now m k c.in_ok-layer.layer.items) (sym (ap length none)) (layer_first c.args.units.now m c.in_ok-layer.layer.items c.in_ok-layer.ensures.marks);
       none = λ k some few r. absurd (omega (arith, ap length none));
     }
@@ -31,16 +31,16 @@ index-requires c =
 
 pub returns-then-index-clause-layers : goal.returns-then-index-clause-layers
 returns-then-index-clause-layers c =
-    (layers_round c.args.units.now c.args.modules c.args.m.0 c.loop-layer.layers.items c.push.new.self.items c.loop-layer.layer c.deref.result.now c.in_ok-next.next.items
-    c.loop-layer.invariant.layers c.loop-layer.invariant.count c.loop-layer.invariant.layer c.in_ok-push.ensures.items c.deref.ensures.value c.in_ok-next.ensures.marks).0
+    (layers_round c.args.units.now c.args.m.0 c.loop-layer.layers.items c.push.new.self.items c.loop-layer.layer c.deref.result.now c.in_ok-next.next.items
+    c.loop-layer.invariant.layers (subst (λ n. AreBelow n c.args.units.now) (sym c.loop-layer.invariant.count) c.requires.below) c.loop-layer.invariant.layer c.in_ok-push.ensures.items c.deref.ensures.value c.in_ok-next.ensures.marks).0
 
 pub returns-then-index-clause-shortest : goal.returns-then-index-clause-shortest
 returns-then-index-clause-shortest c =
     let us = c.args.units.now in
     let m = c.args.m.0 in
     let next = c.in_ok-next.next.items in
-    let r = layers_round us c.args.modules m c.loop-layer.layers.items c.push.new.self.items c.loop-layer.layer c.deref.result.now next
-        c.loop-layer.invariant.layers c.loop-layer.invariant.count c.loop-layer.invariant.layer c.in_ok-push.ensures.items c.deref.ensures.value c.in_ok-next.ensures.marks in
+    let r = layers_round us m c.loop-layer.layers.items c.push.new.self.items c.loop-layer.layer c.deref.result.now next
+        c.loop-layer.invariant.layers (subst (λ n. AreBelow n c.args.units.now) (sym c.loop-layer.invariant.count) c.requires.below) c.loop-layer.invariant.layer c.in_ok-push.ensures.items c.deref.ensures.value c.in_ok-next.ensures.marks in
     let same : length c.push.new.self.items ≡ length c.loop-layer.layers.items + 1 = ap length c.in_ok-push.ensures.items ∙ length-append c.loop-layer.layers.items (c.loop-layer.layer ∷ []) in
     let within : m < length next = omega (arith, on_cycle_below us c.args.modules m c.requires.below c.requires.cycle, c.in_ok-next.ensures.count, ap length c.deref.ensures.value, c.loop-layer.invariant.count) in
     shortest_found us m (length c.push.new.self.items) next r.1 (sym (get_or_read next m c.index.result.now within c.index.ensures false) ∙ c.if-index.true) (omega arith)
@@ -56,8 +56,8 @@ loop-layer-preserved c =
     let us = c.args.units.now in
     let m = c.args.m.0 in
     let next = c.in_ok-next.next.items in
-    let r = layers_round us c.args.modules m c.loop-layer.layers.items c.push.new.self.items c.loop-layer.layer c.deref.result.now next
-        c.loop-layer.invariant.layers c.loop-layer.invariant.count c.loop-layer.invariant.layer c.in_ok-push.ensures.items c.deref.ensures.value c.in_ok-next.ensures.marks in
+    let r = layers_round us m c.loop-layer.layers.items c.push.new.self.items c.loop-layer.layer c.deref.result.now next
+        c.loop-layer.invariant.layers (subst (λ n. AreBelow n c.args.units.now) (sym c.loop-layer.invariant.count) c.requires.below) c.loop-layer.invariant.layer c.in_ok-push.ensures.items c.deref.ensures.value c.in_ok-next.ensures.marks in
     let same : length c.push.new.self.items ≡ length c.loop-layer.layers.items + 1 = ap length c.in_ok-push.ensures.items ∙ length-append c.loop-layer.layers.items (c.loop-layer.layer ∷ []) in
     let within : m < length next = omega (arith, on_cycle_below us c.args.modules m c.requires.below c.requires.cycle, c.in_ok-next.ensures.count, ap length c.deref.ensures.value, c.loop-layer.invariant.count) in
     record {
