@@ -51,15 +51,9 @@ layer_first us m marks same v = (λ h. ([], refl, (same v).0 h), λ r. (same v).
     from [] e l = l
     from (p ∷ ps) e l = absurd (omega arith)
 
--- before the layer of k unit productions is that of one more
-pub layer_next : (us : List UnitRule) (m k : ℕ) (layer marks : List Bool) → IsLayer us m k layer → IsBefore us layer marks → IsLayer us m (suc k) marks
-layer_next us m k layer marks is before v = (
-  λ h.
-      let t = (before v).0 h in
-      let r = (is t.0.target.0).0 t.3 in
-      (t.0.number.0 ∷ r.0, ap suc r.1, (t.0.target.0, (t.0, t.1, refl, t.2, refl), r.2)),
-  λ r. (before v).1 (from r.0 r.1 r.2),
-)
+-- where k + 1 unit productions lead to m, the first of them leads into the layer of k
+pub turns_into : (us : List UnitRule) (m k v : ℕ) (layer : List Bool) → IsLayer us m k layer → ReachesIn us m (suc k) v → TurnsInto us layer v
+turns_into us m k v layer is r = from r.0 r.1 r.2
   where
     from : (ps : List ℕ) → length ps ≡ suc k → LeadTo us v ps m → TurnsInto us layer v
     from [] e l = absurd (omega arith)
@@ -67,6 +61,16 @@ layer_next us m k layer marks is before v = (
         let t = l.1 in
         let r : length ps ≡ k = omega (arith, e) in
         (t.0, t.1, t.3, ap (λ c. get_or layer c false) t.4 ∙ (is l.0).1 (ps, r, l.2))
+
+-- before the layer of k unit productions is that of one more
+pub layer_next : (us : List UnitRule) (m k : ℕ) (layer marks : List Bool) → IsLayer us m k layer → IsBefore us layer marks → IsLayer us m (suc k) marks
+layer_next us m k layer marks is before v = (
+  λ h.
+      let t = (before v).0 h in
+      let r = (is t.0.target.0).0 t.3 in
+      (t.0.number.0 ∷ r.0, ap suc r.1, (t.0.target.0, (t.0, t.1, refl, t.2, refl), r.2)),
+  λ r. (before v).1 (turns_into us m k v layer is r),
+)
 
 layer_at_old : (xs : List (Vec Bool Global)) (x : Vec Bool Global) (k : ℕ) → k < length xs → layer_at (xs ++ x ∷ []) k ≡ layer_at xs k
 layer_at_old [] x k h = absurd (omega arith)
@@ -127,3 +131,9 @@ pub layers_few : (us : List UnitRule) (n m k : ℕ) → AreBelow n us → IsOnCy
 layers_few us n m k below cycle none =
     let w = cycle_within us n m below cycle in
     ⊎_elim (λ l. absurd (none w.0 w.1 l w.3)) (λ l. let few = w.2 in omega arith) (cases_lt w.0 (k + 1))
+
+-- the marks of a layer, as they are kept
+pub layer_read : (xs : List (Vec Bool Global)) (k : ℕ) (x : Vec Bool Global) → k < length xs → x ≡ get_or xs k x → layer_at xs k ≡ x.items
+layer_read [] k x h e = absurd (omega arith)
+layer_read (y ∷ xs) zero x h e = ap (λ (z : Vec Bool Global). z.items) (sym e)
+layer_read (y ∷ xs) (suc k) x h e = let r : k < length xs = omega arith in layer_read xs k x r e
