@@ -4,3 +4,4 @@ pub mod UnitLayers
 pub mod UnitPaths
 pub mod UnitRules
 pub mod UnitSimple
+pub mod UnitTold
