@@ -9,3 +9,10 @@ pub mod Reaching
 pub mod Rounds
 pub mod Rows
 pub mod Settled
+pub mod UnitFirst
+pub mod UnitGraphs
+pub mod UnitLayers
+pub mod UnitPaths
+pub mod UnitRules
+pub mod UnitSimple
+pub mod UnitTold

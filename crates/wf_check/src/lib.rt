@@ -8,6 +8,7 @@ mod fault;
 mod ranking;
 mod ranks;
 mod reach;
+mod unit;
 
 pub use check::proper;
 pub use fault::CheckFault;
