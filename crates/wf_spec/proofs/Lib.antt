@@ -7,6 +7,7 @@ pub mod Formed
 pub mod Graphs
 pub mod Listing
 pub mod Names
+pub mod Once
 pub mod Placing
 pub mod Sides
 pub mod Sizes

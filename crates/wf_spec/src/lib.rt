@@ -6,6 +6,7 @@ mod deps;
 mod fault;
 mod given;
 mod grammar;
+mod law;
 mod module;
 mod production;
 mod rule;
@@ -13,6 +14,7 @@ mod rule;
 pub use deps::Deps;
 pub use fault::{FormFault, Spot};
 pub use grammar::Grammar;
+pub use law::forming_law;
 pub use module::Module;
 pub use production::Production;
 pub use wf_model::{

@@ -1,0 +1,5 @@
+use Rattle.wf_spec.proofs.Once.{filled}
+use Rattle.wf_spec.proofs.law.forming_law.Goals as goal
+
+pub returns : goal.returns
+returns c = ?
