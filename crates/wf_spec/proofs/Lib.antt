@@ -1,4 +1,5 @@
 pub mod Bodies
+pub mod Counting
 pub mod Differing
 pub mod Ends
 pub mod Finding
@@ -8,6 +9,7 @@ pub mod Graphs
 pub mod Listing
 pub mod Names
 pub mod Once
+pub mod Picking
 pub mod Placing
 pub mod Sides
 pub mod Sizes
