@@ -6,6 +6,7 @@ pub mod Finding
 pub mod Fitting
 pub mod Formed
 pub mod Graphs
+pub mod Kept
 pub mod Linking
 pub mod Listing
 pub mod Names
