@@ -7,6 +7,7 @@ pub mod Fitting
 pub mod Formed
 pub mod Graphs
 pub mod Kept
+pub mod Lawful
 pub mod Linking
 pub mod Listing
 pub mod Names

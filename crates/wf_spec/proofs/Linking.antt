@@ -1,17 +1,16 @@
 -- The links of a production part, by the rules and in its body.
-use Rattle.std.proofs.Common.{◌≡◌, ℕ, zero, suc, ◌<◌, List, [], ◌∷◌, ◌++◌, map, length, get_or, refl, sym, ap, ◌∙◌, subst, inl, inr, ⊎_elim, arith}
+use Rattle.std.proofs.Common.{◌≡◌, ℕ, zero, suc, ◌<◌, List, [], ◌∷◌, ◌++◌, map, length, get_or, refl, sym, ap, ◌∙◌, subst, arith}
 use Rattle.std.proofs.lemmas.List.{length-map}
 use Rattle.wf_model.specs.declared.parts.ProdPart.{ProdPart}
-use Rattle.wf_model.specs.declared.parts.PortPart.{PortPart}
 use Rattle.wf_model.specs.declared.parts.EdgePart.{EdgePart}
 use Rattle.wf_model.specs.declared.parts.EntryPart.{EntryPart}
 use Rattle.wf_model.specs.declared.parts.ExitPart.{ExitPart}
 use Rattle.wf_model.specs.Lists.{IsIn, AllDiffer}
-use Rattle.wf_model.specs.Grammar.{Module, Position, Inner, Edge, Production}
-use Rattle.wf_model.proofs.Lists.{in_append_left, in_append_right, in_append_cases, in_map, in_map_from}
+use Rattle.wf_model.specs.Grammar.{Module, Position, Inner, Edge}
+use Rattle.wf_model.proofs.Lists.{in_map, in_map_from}
 use Rattle.wf_spec.specs.Ends.{IsPortOf, AreMetOnce}
 use Rattle.wf_spec.specs.Bodies.{modules_at, inputs_in, outputs_in, IsLinkedOnce}
-use Rattle.wf_spec.specs.Forming.{module_in, module_at_place, inner_input, inner_output, edge_in, body_in, head_in, production_in, HasItsLinks}
+use Rattle.wf_spec.specs.Forming.{inner_input, inner_output, edge_in, body_in, head_in, production_in, HasItsLinks}
 use Rattle.wf_spec.specs.Resolving.{IsInputIn, IsOutputIn}
 use Rattle.wf_spec.specs.Rules.{HasKnownPorts, IsLinkedAtMostOnce, IsLinkedAtLeastOnce, entered, left}
 use Rattle.wf_spec.proofs.Picking.{AreTidy, tidy_met, met_tidy}
@@ -70,9 +69,9 @@ pub links_tidy : (modules : List Module) (p : ProdPart) → HasKnownPorts module
 links_tidy modules p known most least = record {
   inputs = record {
     edges_within = λ i h. (let r = in_map_from (λ (e : EdgePart). inner_input modules (body_in modules p) e.to) i p.edges h in
-      subst (IsPortOf (inputs_at modules p)) (sym r.2) (input_port modules p (inner_input modules (body_in modules p) r.0.to) (known.edges r.0 r.1).to));
+        subst (IsPortOf (inputs_at modules p)) (sym r.2) (input_port modules p (inner_input modules (body_in modules p) r.0.to) (known.edges r.0 r.1).to));
     values_within = λ i h. (let r = in_map_from (λ (e : EntryPart). inner_input modules (body_in modules p) e.to) i p.entries h in
-      subst (IsPortOf (inputs_at modules p)) (sym r.2) (input_port modules p (inner_input modules (body_in modules p) r.0.to) (known.entries_to r.0 r.1)));
+        subst (IsPortOf (inputs_at modules p)) (sym r.2) (input_port modules p (inner_input modules (body_in modules p) r.0.to) (known.entries_to r.0 r.1)));
     at_most_once = most.inputs;
     at_least_once = λ i h. least.inputs i (port_input modules p i h);
     known = λ n h. (let r = in_map_from (λ (e : EntryPart). e.port) n p.entries h in subst (λ m. IsIn m (head_in modules p).inputs) (sym r.2) (known.entries_from r.0 r.1));
@@ -81,9 +80,9 @@ links_tidy modules p known most least = record {
   };
   outputs = record {
     edges_within = λ i h. (let r = in_map_from (λ (e : EdgePart). inner_output modules (body_in modules p) e.from) i p.edges h in
-      subst (IsPortOf (outputs_at modules p)) (sym r.2) (output_port modules p (inner_output modules (body_in modules p) r.0.from) (known.edges r.0 r.1).from));
+        subst (IsPortOf (outputs_at modules p)) (sym r.2) (output_port modules p (inner_output modules (body_in modules p) r.0.from) (known.edges r.0 r.1).from));
     values_within = λ i h. (let r = in_map_from (λ (e : ExitPart). inner_output modules (body_in modules p) e.from) i p.exits h in
-      subst (IsPortOf (outputs_at modules p)) (sym r.2) (output_port modules p (inner_output modules (body_in modules p) r.0.from) (known.exits_from r.0 r.1)));
+        subst (IsPortOf (outputs_at modules p)) (sym r.2) (output_port modules p (inner_output modules (body_in modules p) r.0.from) (known.exits_from r.0 r.1)));
     at_most_once = most.outputs;
     at_least_once = λ i h. least.outputs i (port_output modules p i h);
     known = λ n h. (let r = in_map_from (λ (e : ExitPart). e.port) n p.exits h in subst (λ m. IsIn m (head_in modules p).outputs) (sym r.2) (known.exits_to r.0 r.1));

@@ -1,5 +1,5 @@
 -- Values that are picked by names, as the entries and exits of a head.
-use Rattle.std.proofs.Common.{◌≡◌, ℕ, zero, suc, ◌+◌, ◌<◌, Bool, true, false, cond, not, List, [], ◌∷◌, ◌++◌, map, length, get_or, bytes_eq, refl, sym, ap, ◌∙◌, subst, inl, inr, ⊎_elim, arith, true≢false}
+use Rattle.std.proofs.Common.{◌≡◌, ℕ, suc, ◌+◌, Bool, true, false, cond, not, List, [], ◌∷◌, ◌++◌, map, length, get_or, bytes_eq, refl, sym, ap, ◌∙◌, subst, inl, inr, ⊎_elim, arith, true≢false}
 use Rattle.std.specs.Prelude.{count_by, sum_by}
 use Rattle.std.proofs.lemmas.List.Sums.{sum_by-append, sum_by-cons}
 use Rattle.wf_model.specs.Lists.{IsIn, IsAt, AllDiffer}
@@ -113,7 +113,7 @@ met_tidy counts ports edges names values d differ long met named =
     λ i. count_after (same_inner i) edges (map (pick names values d) ports) values (same_count (same_inner i) ports names values d differ f.0 named.each f.1 long) in
     let in_values : (i : Inner) → IsIn i values → IsPortOf counts i =
     λ i h. (let r = in_map_from (pick names values d) i names (subst (IsIn i) (sym (picked names values d f.0 long)) h) in
-      met.within i (in_append_right i edges (map (pick names values d) ports) (subst (λ z. IsIn z (map (pick names values d) ports)) (sym r.2) (in_map (pick names values d) r.0 ports (f.1 r.0 r.1))))) in
+    met.within i (in_append_right i edges (map (pick names values d) ports) (subst (λ z. IsIn z (map (pick names values d) ports)) (sym r.2) (in_map (pick names values d) r.0 ports (f.1 r.0 r.1))))) in
     let in_edges : (i : Inner) → IsIn i edges → IsPortOf counts i = λ i h. met.within i (in_append_left i edges (map (pick names values d) ports) h) in
     record {
       edges_within = in_edges;

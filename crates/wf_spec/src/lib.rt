@@ -22,4 +22,3 @@ pub use wf_model::{
     PairPart, Parts, PortNo, PortPart, PosNo, PosPart, Position, ProdNo, ProdPart, RunFault, Seq,
     Side, Step, ViewParts,
 };
-
