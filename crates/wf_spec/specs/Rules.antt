@@ -10,7 +10,7 @@ use Rattle.wf_model.specs.declared.parts.ExitPart.{ExitPart}
 use Rattle.wf_model.specs.declared.parts.DepsPart.{DepsPart}
 use Rattle.wf_model.specs.declared.parts.PairPart.{PairPart}
 use Rattle.wf_model.specs.Lists.{IsIn, IsAt, AllDiffer}
-use Rattle.wf_model.specs.Grammar.{Module, Inner}
+use Rattle.wf_model.specs.Grammar.{Module, Position, Inner, Edge}
 use Rattle.wf_model.specs.WellFormed.{IsShortName}
 use Rattle.wf_spec.specs.declared.fault.Spot.TheVariants.{Start, Module as AtModule, Production as AtProduction, DepsAt}
 use Rattle.wf_spec.specs.declared.fault.FormFault.{FormFault}
