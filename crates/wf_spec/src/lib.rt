@@ -1,6 +1,7 @@
 //! Workflow grammars: the parts that a specification names, put together and tested.
 #![tactic(auto)]
 
+mod assemble;
 mod build;
 mod deps;
 mod fault;
