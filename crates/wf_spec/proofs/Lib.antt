@@ -7,7 +7,6 @@ pub mod Formed
 pub mod Graphs
 pub mod KnownModules
 pub mod Listing
-pub mod Names
 pub mod NewNames
 pub mod Placing
 pub mod Rules

@@ -1,6 +1,5 @@
 // The rules on modules by themselves, and on the numbers of modules and productions.
-ghost use Rattle.std.specs.Prelude.{◌≡◌, ◌⊎◌, IfOk, IfErr, OnOk};
-ghost use Rattle.std.specs.Prelude.{take, drop};
+ghost use Rattle.std.specs.Prelude.{◌≡◌, ◌⊎◌, drop, take, IfErr, IfOk, OnOk};
 ghost use Rattle.wf_spec.specs.Rules.{each, first_rules, module_names, AllHold, HasFewPorts, IsFirstFailing, IsFirstFault};
 ghost use Rattle.wf_spec.specs.declared.fault.FormFault.TheVariants.{NoMemory, TooManyPorts};
 
