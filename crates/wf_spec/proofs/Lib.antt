@@ -7,13 +7,16 @@ pub mod Fitting
 pub mod Formed
 pub mod Graphs
 pub mod Kept
+pub mod KnownModules
 pub mod Lawful
 pub mod Linking
 pub mod Listing
-pub mod Names
+pub mod NewNames
 pub mod Once
 pub mod Picking
 pub mod Placing
+pub mod Rules
+pub mod ShortNames
 pub mod Sides
 pub mod Sizes
 pub mod Tables

@@ -3,6 +3,7 @@
 
 mod assemble;
 mod build;
+mod checks;
 mod deps;
 mod fault;
 mod given;
@@ -12,6 +13,7 @@ mod module;
 mod production;
 mod rule;
 
+pub use checks::{check_bodies, check_modules};
 pub use deps::Deps;
 pub use fault::{FormFault, Spot};
 pub use grammar::Grammar;
