@@ -14,6 +14,7 @@ pub mod Names
 pub mod Once
 pub mod Picking
 pub mod Placing
+pub mod Rows
 pub mod Sides
 pub mod Sizes
 pub mod Tables

@@ -1,0 +1,57 @@
+-- Rows of bits for sets of pairs, and how they are made.
+use Rattle.std.specs.Prelude.{◌≡◌, ℕ, ◌<◌, ◌≤◌, Bool, false, cond, ◌&&◌, ◌==◌, List, [], length, get_or}
+use Rattle.std.specs.Int.{bit_at}
+use Rattle.wf_model.specs.Lists.{IsIn, some}
+use Rattle.wf_model.specs.Grammar.{Module, Given}
+use Rattle.wf_spec.specs.declared.given.Pair.{Pair}
+use Rattle.wf_spec.specs.Forming.{module_in}
+
+-- the bit of a pair in rows
+abbrev pub bit_in : List ℕ → ℕ → ℕ → ℕ
+bit_in rows i o = bit_at (get_or rows i 0) o
+
+-- a row for each input, with a bit for each output, all alike, and no further bits
+pub record AreAlike (m : Module) (all : Bool) (rows : List ℕ) : Type 0 where
+  pub one_each : length rows ≡ length m.inputs
+  pub bits : (i o : ℕ) → i < length m.inputs → o < length m.outputs → bit_in rows i o ≡ cond {A = ℕ} all 1 0
+  pub no_more : (i o : ℕ) → length m.outputs ≤ o → bit_in rows i o ≡ 0
+
+-- a pair, as it is held
+abbrev pub pair_of : Pair → ℕ × ℕ
+pair_of e = (e.input.0, e.output.0)
+
+-- pairs hold a pair
+abbrev pub has_pair : List (ℕ × ℕ) → ℕ → ℕ → Bool
+has_pair pairs i o = some (λ (e : ℕ × ℕ). (e.0 == i) && (e.1 == o)) pairs
+
+-- the bits of pairs are set, and the others are as before
+abbrev pub AreAdded : List (ℕ × ℕ) → List ℕ → List ℕ → Type 0
+AreAdded pairs before after = (i o : ℕ) → bit_in after i o ≡ cond {A = ℕ} (has_pair pairs i o) 1 (bit_in before i o)
+
+-- the rows of a module in a table
+abbrev pub rows_in : List (List ℕ) → ℕ → List ℕ
+rows_in table m = get_or table m []
+
+-- parts give a pair to a module
+abbrev pub gives : List Given → ℕ → ℕ → ℕ → Bool
+gives given m i o = some (λ (d : Given). (d.module_no == m) && has_pair d.pairs i o) given
+
+-- a part names a module
+abbrev pub names_it : List Given → ℕ → Bool
+names_it given m = some (λ (d : Given). d.module_no == m) given
+
+-- the bits of what parts give are set, and the others are as before
+pub record AreAllAdded (given : List Given) (before after : List (List ℕ)) : Type 0 where
+  pub as_many : (m : ℕ) → length (rows_in after m) ≡ length (rows_in before m)
+  pub bits : (m i o : ℕ) → bit_in (rows_in after m) i o ≡ cond {A = ℕ} (gives given m i o) 1 (bit_in (rows_in before m) i o)
+
+-- a flag for each of so many modules, that a part names it
+pub record AreNamed (given : List Given) (modules : ℕ) (flags : List Bool) : Type 0 where
+  pub one_each : length flags ≡ modules
+  pub each : (m : ℕ) → m < modules → get_or flags m false ≡ names_it given m
+
+-- the pairs of a part are ports of its module
+pub record IsGivenIn (modules : List Module) (d : Given) : Type 0 where
+  pub module_no : d.module_no < length modules
+  pub inputs : (e : ℕ × ℕ) → IsIn e d.pairs → e.0 < length (module_in modules d.module_no).inputs
+  pub outputs : (e : ℕ × ℕ) → IsIn e d.pairs → e.1 < length (module_in modules d.module_no).outputs

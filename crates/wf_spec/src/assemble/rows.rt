@@ -1,0 +1,70 @@
+// Rows of bits.
+ghost use Rattle.std.specs.Prelude.{◌≡◌, ◌^◌, ◌-◌, ◌≤◌, ◌<◌, ◌∷◌, [], ℕ, cond, IfOk, length, map, replicate};
+ghost use Rattle.wf_model.specs.Grammar.{Given as GivenSeen};
+ghost use Rattle.wf_model.specs.Lists.{IsIn};
+ghost use Rattle.wf_spec.specs.Rows.{pair_of, AreAdded, AreAlike};
+
+use crate::given::Pair;
+use crate::module::Module;
+use std::alloc::{AllocError, Global};
+
+fn low_bits(count: usize) -> u64
+    requires { count ≤ 64 }
+    ensures { result ≡ 2 ^ count - 1 }
+{
+    if count == 64 {
+        return u64::MAX;
+    }
+    (1 << count) - 1
+}
+
+fn same_rows(alloc: Global, count: usize, row: u64) -> Result<Vec<u64>, AllocError>
+    ensures { IfOk result (λ rows. rows.items ≡ replicate count row) }
+{
+    let mut rows = Vec::new(alloc);
+    for k in 0..count {
+        rows.push(row)?;
+    }
+    Ok(rows)
+}
+
+fn row_of(m: &Module, all: bool) -> u64
+    requires { length m.now.outputs ≤ 64 }
+    ensures { result ≡ cond {A = ℕ} all (2 ^ length m.now.outputs - 1) 0 }
+{
+    if all {
+        return low_bits(m.outputs().len());
+    }
+    0
+}
+
+/// All pairs of a module, or none.
+fn alike(alloc: Global, m: &Module, all: bool) -> Result<Vec<u64>, AllocError>
+    requires { length m.now.outputs ≤ 64 }
+    ensures { IfOk result (λ rows. AreAlike m.now all rows.items) }
+{
+    let row = row_of(m, all);
+    let rows = same_rows(alloc, m.inputs().len(), row)?;
+    Ok(rows)
+}
+
+fn add_pair(rows: &mut [u64], pair: Pair)
+    requires input { pair.input.0 < length rows.old }
+    requires output { pair.output.0 < 64 }
+    ensures as_many { length rows.new ≡ length rows.old }
+    ensures added { AreAdded ((pair.input.0, pair.output.0) ∷ []) rows.old rows.new }
+{
+    rows[pair.input.0 as usize] |= 1 << pair.output.0;
+}
+
+/// Adds pairs to the rows of a module.
+fn add_pairs(rows: &mut [u64], pairs: &[Pair])
+    requires inputs { (e : Pair) → IsIn e pairs.now → e.input.0 < length rows.old }
+    requires outputs { (e : Pair) → IsIn e pairs.now → e.output.0 < 64 }
+    ensures as_many { length rows.new ≡ length rows.old }
+    ensures added { AreAdded (map pair_of pairs.now) rows.old rows.new }
+{
+    for pair in pairs {
+        add_pair(rows, *pair);
+    }
+}
