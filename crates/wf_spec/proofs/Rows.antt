@@ -1,11 +1,16 @@
 -- Rows of bits for sets of pairs.
-use Rattle.std.proofs.Common.{◌≡◌, ◌≢◌, ℕ, ◌+◌, ◌*◌, ◌-◌, ◌%◌, ◌^◌, ◌<◌, ◌≤◌, Bool, true, false, cond, nat_lt, ◌==◌, ◌&&◌, ◌||◌, List, [], ◌∷◌, length, get_or, set, replicate, bit_or, w64, refl, sym, ap, ◌∙◌, subst, arith}
+use Rattle.std.proofs.Common.{◌≡◌, ◌≢◌, ℕ, ◌+◌, ◌*◌, ◌-◌, ◌%◌, ◌^◌, ◌<◌, ◌≤◌, Bool, true, false, cond, nat_lt, ◌==◌, ◌&&◌, ◌||◌, List, [], ◌∷◌, Vec, inl, map, length, get_or, set, replicate, bit_or, w64, refl, sym, ap, ◌∙◌, subst, arith}
 use Rattle.std.specs.Int.{bit_at}
+use Rattle.std.specs.Vec.{with_items}
+use Rattle.std.specs.declared.alloc.Global.{Global}
 use Rattle.std.proofs.lemmas.Bool.{eqb-true, eqb-false, eq-eqb, ltb-true, ltb-false}
-use Rattle.std.proofs.lemmas.List.{length-replicate, get_or-replicate, get_or_past, get_or-set_same, get_or-set_other}
+use Rattle.std.proofs.lemmas.List.{length-replicate, length-map, map-set, get_or-map, get_or-replicate, get_or_past, get_or-set_same, get_or-set_other, with_items_is}
 use Rattle.std.proofs.lemmas.Nat.Bits.{bit_at_ones, bit_at_ones_above, bit_at-zero, bit_at_set_same, bit_at_set_other}
-use Rattle.wf_model.specs.Grammar.{Module}
-use Rattle.wf_spec.specs.Rows.{bit_in, AreAlike, has_pair, AreAdded}
+use Rattle.wf_model.specs.Grammar.{Module, Given}
+use Rattle.wf_model.specs.Lists.{IsIn}
+use Rattle.wf_model.proofs.Lists.{in_map}
+use Rattle.wf_spec.specs.declared.given.Pair.{Pair}
+use Rattle.wf_spec.specs.Rows.{bit_in, pair_of, rows_in, table_of, AreAlike, AreAllAdded, HavePlaces, has_pair, AreAdded}
 
 -- rows that are all alike
 pub alike_from : (m : Module) (all : Bool) (rows : List ℕ) (ins : List (List ℕ)) (row : ℕ) → ins ≡ m.inputs → rows ≡ replicate (length ins) row
@@ -53,3 +58,63 @@ pair_added rows i o inside low j p = by (i == j) refl
     by false e =
         ap (λ r. bit_at r p) (get_or-set_other rows i j row 0 (λ d. eqb-false i j e (sym d)))
         ∙ sym (ap (λ c. cond {A = ℕ} (c && (o == p) || false) 1 (bit_in rows j p)) e)
+
+-- rows in a table, as they are held
+pub rows_read : (table : List (Vec ℕ Global)) (m : ℕ) (v : Vec ℕ Global) → m < length table → rows_in (table_of table) m ≡ (get_or table m v).items
+rows_read table m v inside = get_or-map (λ (w : Vec ℕ Global). w.items) table m v [] inside
+
+or_nothing : (b : Bool) → b ≡ b || false
+or_nothing true = refl
+or_nothing false = refl
+
+-- what a part gives is added to the rows of its module
+pub part_added : (table : List (Vec ℕ Global)) (d : Given) (m : ℕ) (v : Vec ℕ Global) (pairs : List Pair) (rows new : List ℕ) → m ≡ d.module_no → m < length table → rows ≡ (get_or table m v).items
+    → map pair_of pairs ≡ d.pairs → AreAdded (map pair_of pairs) rows new → length new ≡ length rows
+    → AreAllAdded (d ∷ []) (table_of table) (table_of (set table m (with_items (get_or table m v) new)))
+part_added table d m v pairs rows new number inside was same added count = record {
+  as_many = λ n. ap (λ t. length (rows_in t n)) after ∙ lengths n (m == n) refl;
+  bits = λ n i o. ap (λ t. bit_in (rows_in t n) i o) after ∙ bits_at n i o (m == n) refl;
+}
+  where
+    after : table_of (set table m (with_items (get_or table m v) new)) ≡ set (table_of table) m new
+    after = map-set (λ (w : Vec ℕ Global). w.items) table m (with_items (get_or table m v) new)
+        ∙ ap (set (table_of table) m) (with_items_is (get_or table m v) new (count ∙ (ap length was ∙ sym (get_or table m v).ok.0)))
+
+    here : rows ≡ rows_in (table_of table) m
+    here = was ∙ sym (rows_read table m v inside)
+
+    below : m < length (table_of table)
+    below = subst (λ n. m < n) (sym (length-map table (λ (w : Vec ℕ Global). w.items))) inside
+
+    lengths : (n : ℕ) (b : Bool) → m == n ≡ b → length (rows_in (set (table_of table) m new) n) ≡ length (rows_in (table_of table) n)
+    lengths n true e =
+        subst (λ k. length (rows_in (set (table_of table) m new) k) ≡ length (rows_in (table_of table) k)) (eqb-true m n e)
+        (ap length (get_or-set_same (table_of table) m new [] below) ∙ (count ∙ ap length here))
+    lengths n false e = ap length (get_or-set_other (table_of table) m n new [] (λ q. eqb-false m n e (sym q)))
+
+    bits_at : (n i o : ℕ) (b : Bool) → m == n ≡ b → bit_in (rows_in (set (table_of table) m new) n) i o ≡ cond {A = ℕ} ((d.module_no == n) && has_pair d.pairs i o || false) 1 (bit_in (rows_in (table_of table) n) i o)
+    bits_at n i o true e =
+        subst (λ k. bit_in (rows_in (set (table_of table) m new) k) i o ≡ cond {A = ℕ} ((d.module_no == k) && has_pair d.pairs i o || false) 1 (bit_in (rows_in (table_of table) k) i o)) (eqb-true m n e)
+        (ap (λ r. bit_in r i o) (get_or-set_same (table_of table) m new [] below)
+        ∙ (added i o
+        ∙ (ap (λ ps. cond {A = ℕ} (has_pair ps i o) 1 (bit_in rows i o)) same
+        ∙ (ap (λ r. cond {A = ℕ} (has_pair d.pairs i o) 1 (bit_in r i o)) here
+        ∙ (ap (λ b. cond {A = ℕ} b 1 (bit_in (rows_in (table_of table) m) i o)) (or_nothing (has_pair d.pairs i o))
+        ∙ sym (ap (λ b. cond {A = ℕ} (b && has_pair d.pairs i o || false) 1 (bit_in (rows_in (table_of table) m) i o)) (eq-eqb d.module_no m (sym number))))))))
+    bits_at n i o false e =
+        ap (λ r. bit_in r i o) (get_or-set_other (table_of table) m n new [] (λ q. eqb-false m n e (sym q)))
+        ∙ sym (ap (λ b. cond {A = ℕ} (b && has_pair d.pairs i o || false) 1 (bit_in (rows_in (table_of table) n) i o)) (ap (λ k. k == n) (sym number) ∙ e))
+
+-- the pairs of a part have places
+pub part_inputs : (table : List (Vec ℕ Global)) (d : Given) (m : ℕ) (v : Vec ℕ Global) (pairs : List Pair) (rows : List ℕ) → m ≡ d.module_no → HavePlaces (d ∷ []) (table_of table) → m < length table
+    → rows ≡ (get_or table m v).items → map pair_of pairs ≡ d.pairs → (e : Pair) → IsIn e pairs → e.input.0 < length rows
+part_inputs table d m v pairs rows number h inside was same e i =
+    subst (λ rs. e.input.0 < length rs) (ap (rows_in (table_of table)) (sym number) ∙ (rows_read table m v inside ∙ sym was))
+    (h.inputs d (pair_of e) (inl refl) (subst (IsIn (pair_of e)) same (in_map pair_of e pairs i)))
+
+pub part_outputs : (table : List (List ℕ)) (d : Given) (pairs : List Pair) → HavePlaces (d ∷ []) table → map pair_of pairs ≡ d.pairs → (e : Pair) → IsIn e pairs → e.output.0 < 64
+part_outputs table d pairs h same e i = h.outputs d (pair_of e) (inl refl) (subst (IsIn (pair_of e)) same (in_map pair_of e pairs i))
+
+pub part_module : (table : List (Vec ℕ Global)) (d : Given) (m : ℕ) → m ≡ d.module_no → HavePlaces (d ∷ []) (table_of table) → m < length table
+part_module table d m number h =
+    subst (λ k. k < length table) (sym number) (subst (λ n. d.module_no < n) (length-map table (λ (w : Vec ℕ Global). w.items)) (h.module_no d (inl refl)))

@@ -1,10 +1,10 @@
 -- Rows of bits for sets of pairs, and how they are made.
-use Rattle.std.specs.Prelude.{◌≡◌, ℕ, ◌<◌, ◌≤◌, Bool, false, cond, ◌&&◌, ◌==◌, List, [], length, get_or}
+use Rattle.std.specs.Prelude.{◌≡◌, ℕ, ◌<◌, ◌≤◌, Bool, false, cond, ◌&&◌, ◌==◌, List, [], map, length, get_or, Vec}
+use Rattle.std.specs.declared.alloc.Global.{Global}
 use Rattle.std.specs.Int.{bit_at}
 use Rattle.wf_model.specs.Lists.{IsIn, some}
 use Rattle.wf_model.specs.Grammar.{Module, Given}
 use Rattle.wf_spec.specs.declared.given.Pair.{Pair}
-use Rattle.wf_spec.specs.Forming.{module_in}
 
 -- the bit of a pair in rows
 abbrev pub bit_in : List ℕ → ℕ → ℕ → ℕ
@@ -28,6 +28,10 @@ has_pair pairs i o = some (λ (e : ℕ × ℕ). (e.0 == i) && (e.1 == o)) pairs
 abbrev pub AreAdded : List (ℕ × ℕ) → List ℕ → List ℕ → Type 0
 AreAdded pairs before after = (i o : ℕ) → bit_in after i o ≡ cond {A = ℕ} (has_pair pairs i o) 1 (bit_in before i o)
 
+-- a table of rows, as it is held
+abbrev pub table_of : List (Vec ℕ Global) → List (List ℕ)
+table_of = map (λ v. v.items)
+
 -- the rows of a module in a table
 abbrev pub rows_in : List (List ℕ) → ℕ → List ℕ
 rows_in table m = get_or table m []
@@ -45,13 +49,13 @@ pub record AreAllAdded (given : List Given) (before after : List (List ℕ)) : T
   pub as_many : (m : ℕ) → length (rows_in after m) ≡ length (rows_in before m)
   pub bits : (m i o : ℕ) → bit_in (rows_in after m) i o ≡ cond {A = ℕ} (gives given m i o) 1 (bit_in (rows_in before m) i o)
 
+-- what parts give has a place in a table
+pub record HavePlaces (given : List Given) (table : List (List ℕ)) : Type 0 where
+  pub module_no : (d : Given) → IsIn d given → d.module_no < length table
+  pub inputs : (d : Given) (e : ℕ × ℕ) → IsIn d given → IsIn e d.pairs → e.0 < length (rows_in table d.module_no)
+  pub outputs : (d : Given) (e : ℕ × ℕ) → IsIn d given → IsIn e d.pairs → e.1 < 64
+
 -- a flag for each of so many modules, that a part names it
 pub record AreNamed (given : List Given) (modules : ℕ) (flags : List Bool) : Type 0 where
   pub one_each : length flags ≡ modules
   pub each : (m : ℕ) → m < modules → get_or flags m false ≡ names_it given m
-
--- the pairs of a part are ports of its module
-pub record IsGivenIn (modules : List Module) (d : Given) : Type 0 where
-  pub module_no : d.module_no < length modules
-  pub inputs : (e : ℕ × ℕ) → IsIn e d.pairs → e.0 < length (module_in modules d.module_no).inputs
-  pub outputs : (e : ℕ × ℕ) → IsIn e d.pairs → e.1 < length (module_in modules d.module_no).outputs

@@ -2,9 +2,9 @@
 ghost use Rattle.std.specs.Prelude.{◌≡◌, ◌^◌, ◌-◌, ◌≤◌, ◌<◌, ◌∷◌, [], ℕ, cond, IfOk, length, map, replicate};
 ghost use Rattle.wf_model.specs.Grammar.{Given as GivenSeen};
 ghost use Rattle.wf_model.specs.Lists.{IsIn};
-ghost use Rattle.wf_spec.specs.Rows.{pair_of, AreAdded, AreAlike};
+ghost use Rattle.wf_spec.specs.Rows.{pair_of, table_of, AreAdded, AreAllAdded, AreAlike, HavePlaces};
 
-use crate::given::Pair;
+use crate::given::{Given, Pair};
 use crate::module::Module;
 use std::alloc::{AllocError, Global};
 
@@ -67,4 +67,13 @@ fn add_pairs(rows: &mut [u64], pairs: &[Pair])
     for pair in pairs {
         add_pair(rows, *pair);
     }
+}
+
+/// Adds the pairs of a part to the rows of its module.
+fn add_part(table: &mut [Vec<u64>], part: &Given)
+    requires { HavePlaces (part.now ∷ []) (table_of table.old) }
+    ensures { AreAllAdded (part.now ∷ []) (table_of table.old) (table_of table.new) }
+{
+    let rows = &mut table[part.module().0 as usize];
+    add_pairs(rows, part.pairs());
 }
