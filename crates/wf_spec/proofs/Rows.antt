@@ -1,16 +1,16 @@
 -- Rows of bits for sets of pairs.
-use Rattle.std.proofs.Common.{◌≡◌, ◌≢◌, ℕ, ◌+◌, ◌*◌, ◌-◌, ◌%◌, ◌^◌, ◌<◌, ◌≤◌, Bool, true, false, cond, nat_lt, ◌==◌, ◌&&◌, ◌||◌, List, [], ◌∷◌, Vec, inl, map, length, get_or, set, replicate, bit_or, w64, refl, sym, ap, ◌∙◌, subst, arith}
+use Rattle.std.proofs.Common.{◌≡◌, ◌≢◌, ℕ, ◌+◌, ◌*◌, ◌-◌, ◌%◌, ◌^◌, ◌<◌, ◌≤◌, Bool, true, false, cond, nat_lt, ◌==◌, ◌&&◌, ◌||◌, List, [], ◌∷◌, ◌++◌, Vec, inl, inr, map, take, length, get_or, set, replicate, bit_or, w64, refl, sym, ap, ◌∙◌, subst, arith}
 use Rattle.std.specs.Int.{bit_at}
 use Rattle.std.specs.Vec.{with_items}
 use Rattle.std.specs.declared.alloc.Global.{Global}
 use Rattle.std.proofs.lemmas.Bool.{eqb-true, eqb-false, eq-eqb, ltb-true, ltb-false}
-use Rattle.std.proofs.lemmas.List.{length-replicate, length-map, map-set, get_or-map, get_or-replicate, get_or_past, get_or-set_same, get_or-set_other, with_items_is}
+use Rattle.std.proofs.lemmas.List.{take_more, length-replicate, length-map, map-set, get_or-map, get_or-replicate, get_or_past, get_or-set_same, get_or-set_other, with_items_is}
 use Rattle.std.proofs.lemmas.Nat.Bits.{bit_at_ones, bit_at_ones_above, bit_at-zero, bit_at_set_same, bit_at_set_other}
 use Rattle.wf_model.specs.Grammar.{Module, Given}
-use Rattle.wf_model.specs.Lists.{IsIn}
+use Rattle.wf_model.specs.Lists.{IsIn, some}
 use Rattle.wf_model.proofs.Lists.{in_map}
 use Rattle.wf_spec.specs.declared.given.Pair.{Pair}
-use Rattle.wf_spec.specs.Rows.{bit_in, pair_of, rows_in, table_of, AreAlike, AreAllAdded, HavePlaces, has_pair, AreAdded}
+use Rattle.wf_spec.specs.Rows.{bit_in, gives, pair_of, rows_in, table_of, AreAlike, AreAllAdded, HavePlaces, has_pair, AreAdded}
 
 -- rows that are all alike
 pub alike_from : (m : Module) (all : Bool) (rows : List ℕ) (ins : List (List ℕ)) (row : ℕ) → ins ≡ m.inputs → rows ≡ replicate (length ins) row
@@ -118,3 +118,44 @@ part_outputs table d pairs h same e i = h.outputs d (pair_of e) (inl refl) (subs
 pub part_module : (table : List (Vec ℕ Global)) (d : Given) (m : ℕ) → m ≡ d.module_no → HavePlaces (d ∷ []) (table_of table) → m < length table
 part_module table d m number h =
     subst (λ k. k < length table) (sym number) (subst (λ n. d.module_no < n) (length-map table (λ (w : Vec ℕ Global). w.items)) (h.module_no d (inl refl)))
+
+has_more : {A : Type 0} (t : A → Bool) (xs : List A) (x : A) → some t (xs ++ x ∷ []) ≡ some t xs || t x
+has_more t [] x = sym (or_nothing (t x))
+has_more t (y ∷ xs) x = ap (λ b. t y || b) (has_more t xs x) ∙ by (t y)
+  where
+    by : (b : Bool) → b || (some t xs || t x) ≡ (b || some t xs) || t x
+    by true = refl
+    by false = refl
+
+-- one part more is added
+pub all_more : (given : List Given) (k : ℕ) (d : Given) (a b c : List (List ℕ)) → d ≡ get_or given k d → k < length given → AreAllAdded (take k given) a b → AreAllAdded (d ∷ []) b c
+    → AreAllAdded (take (k + 1) given) a c
+all_more given k d a b c was inside old new =
+    subst (λ ds. AreAllAdded ds a c) (sym (take_more given k d inside ∙ ap (λ x. take k given ++ x ∷ []) (sym was))) (record {
+      as_many = λ m. new.as_many m ∙ old.as_many m;
+      bits = λ m i o. new.bits m i o ∙ (ap (λ x. cond {A = ℕ} (gives (d ∷ []) m i o) 1 x) (old.bits m i o) ∙ both m i o);
+    })
+  where
+    chain : (x y : Bool) (n : ℕ) → cond {A = ℕ} (y || false) 1 (cond {A = ℕ} x 1 n) ≡ cond {A = ℕ} (x || y) 1 n
+    chain true true n = refl
+    chain true false n = refl
+    chain false true n = refl
+    chain false false n = refl
+
+    both : (m i o : ℕ) → cond {A = ℕ} (gives (d ∷ []) m i o) 1 (cond {A = ℕ} (gives (take k given) m i o) 1 (bit_in (rows_in a m) i o)) ≡ cond {A = ℕ} (gives (take k given ++ d ∷ []) m i o) 1 (bit_in (rows_in a m) i o)
+    both m i o =
+        chain (gives (take k given) m i o) ((d.module_no == m) && has_pair d.pairs i o) (bit_in (rows_in a m) i o)
+        ∙ ap (λ x. cond {A = ℕ} x 1 (bit_in (rows_in a m) i o)) (sym (has_more (λ (e : Given). (e.module_no == m) && has_pair e.pairs i o) (take k given) d))
+
+-- a part has its place still
+pub still_placed : (given : List Given) (done : List Given) (d : Given) (before after : List (List ℕ)) → HavePlaces given before → AreAllAdded done before after → length after ≡ length before → IsIn d given
+    → HavePlaces (d ∷ []) after
+still_placed given done d before after h added count here = record {
+  module_no = λ e i. subst (λ n. e.module_no < n) (sym count) (h.module_no e (is e i));
+  inputs = λ e p i j. subst (λ n. p.0 < n) (sym (added.as_many e.module_no)) (h.inputs e p (is e i) j);
+  outputs = λ e p i j. h.outputs e p (is e i) j;
+}
+  where
+    is : (e : Given) → IsIn e (d ∷ []) → IsIn e given
+    is e (inl q) = subst (λ x. IsIn x given) (sym q) here
+    is e (inr q) = absurd q

@@ -1,10 +1,11 @@
 -- Rows of bits for sets of pairs, and how they are made.
-use Rattle.std.specs.Prelude.{◌≡◌, ℕ, ◌<◌, ◌≤◌, Bool, false, cond, ◌&&◌, ◌==◌, List, [], map, length, get_or, Vec}
+use Rattle.std.specs.Prelude.{◌≡◌, ℕ, ◌<◌, ◌≤◌, Bool, false, not, cond, ◌&&◌, ◌==◌, List, [], map, length, get_or, Vec}
 use Rattle.std.specs.declared.alloc.Global.{Global}
 use Rattle.std.specs.Int.{bit_at}
 use Rattle.wf_model.specs.Lists.{IsIn, some}
 use Rattle.wf_model.specs.Grammar.{Module, Given}
 use Rattle.wf_spec.specs.declared.given.Pair.{Pair}
+use Rattle.wf_spec.specs.Forming.{module_in}
 
 -- the bit of a pair in rows
 abbrev pub bit_in : List ℕ → ℕ → ℕ → ℕ
@@ -59,3 +60,13 @@ pub record HavePlaces (given : List Given) (table : List (List ℕ)) : Type 0 wh
 pub record AreNamed (given : List Given) (modules : ℕ) (flags : List Bool) : Type 0 where
   pub one_each : length flags ≡ modules
   pub each : (m : ℕ) → m < modules → get_or flags m false ≡ names_it given m
+
+-- the rows of the first n modules, before pairs are added: none where a part names the module, and else all
+pub record AreFirst (modules : List Module) (flags : List Bool) (n : ℕ) (table : List (List ℕ)) : Type 0 where
+  pub one_each : length table ≡ n
+  pub each : (m : ℕ) → m < n → AreAlike (module_in modules m) (not (get_or flags m false)) (rows_in table m)
+
+-- the pairs of parts are ports of modules
+pub record AreGivenIn (modules : List Module) (given : List Given) : Type 0 where
+  pub module_no : (d : Given) → IsIn d given → d.module_no < length modules
+  pub pairs : (d : Given) (e : ℕ × ℕ) → IsIn d given → IsIn e d.pairs → (e.0 < length (module_in modules d.module_no).inputs) × (e.1 < length (module_in modules d.module_no).outputs)
