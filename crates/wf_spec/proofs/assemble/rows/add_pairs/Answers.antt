@@ -3,7 +3,6 @@ use Rattle.wf_spec.specs.declared.given.Pair.{Pair}
 use Rattle.wf_spec.proofs.Tables.{get_in}
 use Rattle.wf_spec.proofs.assemble.rows.add_pairs.Goals as goal
 
-
 pub add_pair-requires-clause-input : goal.add_pair-requires-clause-input
 add_pair-requires-clause-input c =
     let e : Pair = record { input = record { 0 = 0 }; output = record { 0 = 0 } } in
