@@ -7,3 +7,4 @@ pub mod Resolving
 pub mod Rows
 pub mod Rules
 pub mod Tables
+pub mod Wiring
