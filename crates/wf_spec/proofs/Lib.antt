@@ -12,9 +12,11 @@ pub mod Lawful
 pub mod Linking
 pub mod Listing
 pub mod NewNames
+pub mod Numbering
 pub mod Once
 pub mod Picking
 pub mod Placing
+pub mod Rows
 pub mod Rules
 pub mod ShortNames
 pub mod Sides

@@ -9,9 +9,11 @@ mod fault;
 mod given;
 mod grammar;
 mod law;
+mod links;
 mod module;
 mod production;
 mod rule;
+mod wiring;
 
 pub use checks::{check_bodies, check_modules};
 pub use deps::Deps;
