@@ -4,6 +4,8 @@ ghost use Rattle.std.specs.Prelude.{◌≡◌, IfOk};
 ghost use Rattle.wf_json.specs.Canonical.{canonical_of};
 
 mod list;
+mod module;
+mod port;
 mod text;
 
 use std::alloc::{AllocError, Global};
