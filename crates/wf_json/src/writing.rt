@@ -3,7 +3,11 @@ ghost use Rattle.sha2.specs.Sha256.{sha256};
 ghost use Rattle.std.specs.Prelude.{◌≡◌, IfOk};
 ghost use Rattle.wf_json.specs.Canonical.{canonical_of};
 
+mod body;
 mod list;
+mod module;
+mod port;
+mod production;
 mod text;
 
 use std::alloc::{AllocError, Global};
