@@ -1,2 +1,3 @@
 pub mod Improper
 pub mod Proper
+pub mod Ranks

@@ -2,8 +2,12 @@
 #![tactic(auto)]
 
 mod check;
+mod choices;
+mod composite;
 mod fault;
 mod ranking;
+mod ranks;
+mod reach;
 
 pub use check::proper;
 pub use fault::CheckFault;
