@@ -4,5 +4,7 @@ pub mod Forming
 pub mod Graphs
 pub mod Held
 pub mod Resolving
+pub mod Rows
 pub mod Rules
 pub mod Tables
+pub mod Wiring

@@ -1,0 +1,3 @@
+// Grammars put together from parts that keep all rules.
+mod heads;
+mod rows;
