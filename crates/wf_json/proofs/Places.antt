@@ -2,7 +2,7 @@
 use Rattle.std.proofs.Common.{◌≡◌, ℕ, ◌<◌, List, [], map, length, get_or, sym, ap, subst, ◌∙◌, ◌++◌, OnOk, arith, codes, append_assoc}
 use Rattle.std.proofs.lemmas.List.{get_or-map, get_or_default, length-map}
 use Rattle.std.proofs.Math.ListN.{get_or-map as get_or-map_same}
-use Rattle.std.proofs.lemmas.Slice.Zip.{get_or-zip}
+use Rattle.std.proofs.lemmas.Slice.Zip.{get_or-zip, seconds-zip}
 use Rattle.std.specs.List.{zip}
 use Rattle.std.specs.declared.result.Result.{Result}
 use Rattle.wf_model.specs.Items.{dotted}
@@ -25,6 +25,10 @@ seen_at f held xs k a d seen was inside =
 pub read_at : {A : Type 0} (xs ys : List A) (k : ℕ) (x d : A) → xs ≡ ys → x ≡ get_or xs k x → k < length ys → x ≡ get_or ys k d
 read_at xs ys k x d same was inside = was ∙ ap (λ l. get_or l k x) same ∙ get_or_default ys k x d inside
 
+-- a list has the length that is seen
+pub length-seen : {A B : Type 0} (f : A → B) (held : List A) (xs : List B) → map f held ≡ xs → length held ≡ length xs
+length-seen f held xs seen = sym (length-map held f) ∙ ap length seen
+
 -- an element that is read is seen as one of the list
 pub read_in : {A B : Type 0} (f : A → B) (held : List A) (xs : List B) (k : ℕ) (d : A) → map f held ≡ xs → k < length xs → IsIn (f (get_or held k d)) xs
 read_in f held xs k d seen inside =
@@ -40,6 +44,10 @@ pub together : {A B : Type 0} (xs : List A) (ys : List B) (k : ℕ) (x d : A) (y
 together xs ys k x d y e same inside first second =
     let inside' : k < length xs = omega arith in
     get_or-zip xs ys k (d, e) inside' inside ∙ ap (λ a. (a, get_or ys k e)) (sym first) ∙ ap (λ b. (x, b)) (sym second)
+
+-- two lists of one length that are taken together have it
+pub length-together : {A B : Type 0} (xs : List A) (ys : List B) → length ys ≡ length xs → length ys ≡ length (zip xs ys)
+length-together xs ys same = sym (ap length (seconds-zip xs ys same)) ∙ length-map (zip xs ys) (λ (p : _). p.1)
 
 -- the module that stands at a position is one of the grammar's
 pub module_below : (g : Grammar) (p k : ℕ) → IsWellFormed g → p < length g.productions → k < length (production_at g p).positions → (position_at (production_at g p) k).module_no < length g.modules
