@@ -15,6 +15,7 @@ pub mod Names
 pub mod NewNames
 pub mod Numbering
 pub mod Once
+pub mod PairsOf
 pub mod Picking
 pub mod Placing
 pub mod Rows

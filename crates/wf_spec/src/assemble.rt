@@ -1,3 +1,4 @@
 // Grammars put together from parts that keep all rules.
 mod heads;
+mod pairs;
 mod rows;
