@@ -1,3 +1,4 @@
+pub mod Assembling
 pub mod Bodies
 pub mod Counting
 pub mod Differing
