@@ -1,13 +1,14 @@
 -- Productions made from wirings.
-use Rattle.std.proofs.Common.{◌≡◌, ℕ, zero, suc, ◌+◌, ◌<◌, List, [], ◌∷◌, ◌++◌, map, length, get_or, set, take, Vec, refl, sym, ap, ◌∙◌, subst, inl, inr, ⊎_elim, arith}
-use Rattle.std.proofs.lemmas.List.{length-map, length-set, map-set, get_or-set_same, get_or-set_other, take_more, map-append}
+use Rattle.std.proofs.Common.{◌≡◌, ℕ, zero, suc, ◌+◌, ◌<◌, ◌⊎◌, List, [], ◌∷◌, ◌++◌, map, length, get_or, set, take, Vec, refl, sym, ap, ◌∙◌, subst, inl, inr, ⊎_elim, arith}
+use Rattle.std.proofs.lemmas.List.{length-map, length-append, length-set, map-set, get_or-set_same, get_or-set_other, take_more, map-append}
 use Rattle.std.specs.declared.alloc.Global.{Global}
 use Rattle.wf_model.specs.declared.body.Inner.{Inner as InnerHeld}
-use Rattle.wf_model.specs.Lists.{IsIn, AllDiffer}
-use Rattle.wf_model.specs.Grammar.{Inner}
+use Rattle.wf_spec.specs.declared.wiring.Wiring.{Wiring}
+use Rattle.wf_model.specs.Lists.{IsIn, IsAt, AllDiffer}
+use Rattle.wf_model.specs.Grammar.{Inner, Module, Production}
 use Rattle.wf_model.specs.Meaning.{inner_of}
-use Rattle.wf_model.proofs.Lists.{in_map, in_map_from, in_append_cases}
-use Rattle.wf_spec.specs.Assembling.{origin, AreByPort}
+use Rattle.wf_model.proofs.Lists.{in_map, in_map_from, in_append_cases, at_below}
+use Rattle.wf_spec.specs.Assembling.{origin, AreByPort, IsRuleOf, AreRulesOf}
 use Rattle.wf_spec.proofs.Tables.{get_in}
 
 -- where numbers differ, the next is none of those before it
@@ -70,3 +71,29 @@ by_port_more {A} port held ports xs k d ends differ within inside old = record {
         last e =
             ap (λ (p : ℕ × Inner). get_or (set (map inner_of ends) at (inner_of new)) p.0 origin) e
             ∙ (get_or-set_same (map inner_of ends) at (inner_of new) origin below ∙ sym (ap (λ (p : ℕ × Inner). p.1) e))
+
+-- the ports of links are those of the module that was read
+pub within_read : {A : Type 0} (port : A → ℕ) (links read : List A) (names told : List (List ℕ)) → read ≡ links → told ≡ names → ((k : ℕ) → IsIn k (map port links) → k < length names)
+    → (k : ℕ) → IsIn k (map port read) → k < length told
+within_read port links read names told same is h k here = subst (λ ns. k < length ns) (sym is) (h k (subst (λ ls. IsIn k (map port ls)) same here))
+
+-- an element of a longer list is one of the list, or the last
+at_push : {A : Type 0} (x y : A) (k : ℕ) (xs : List A) → IsAt x k (xs ++ y ∷ []) → IsAt x k xs ⊎ ((k ≡ length xs) × (x ≡ y))
+at_push x y zero [] h = inr (refl, h)
+at_push x y (suc k) [] h = absurd h
+at_push x y zero (z ∷ xs) h = inl h
+at_push x y (suc k) (z ∷ xs) h = ⊎_elim (λ a. inl a) (λ b. inr (ap suc b.0, b.1)) (at_push x y k xs h)
+
+-- one production more
+pub rules_more : (modules : List Module) (ws : List Wiring) (w : Wiring) (old new : List Production) (r : Production) → AreRulesOf modules ws old → IsRuleOf modules w r → new ≡ old ++ r ∷ []
+    → AreRulesOf modules (ws ++ w ∷ []) new
+rules_more modules ws w old new r are one is = subst (AreRulesOf modules (ws ++ w ∷ [])) (sym is) (record {
+  as_many = length-append old (r ∷ []) ∙ (ap (λ n. n + 1) are.as_many ∙ sym (length-append ws (w ∷ [])));
+  each = λ k v q at_w at_q. by k v q (at_push v w k ws at_w) (at_push q r k old at_q);
+})
+  where
+    by : (k : ℕ) (v : Wiring) (q : Production) → IsAt v k ws ⊎ ((k ≡ length ws) × (v ≡ w)) → IsAt q k old ⊎ ((k ≡ length old) × (q ≡ r)) → IsRuleOf modules v q
+    by k v q (inl a) (inl b) = are.each k v q a b
+    by k v q (inl a) (inr b) = absurd (let l = at_below v k ws a in let n = are.as_many in let e = b.0 in omega arith)
+    by k v q (inr a) (inl b) = absurd (let l = at_below q k old b in let n = are.as_many in let e = a.0 in omega arith)
+    by k v q (inr a) (inr b) = subst (λ x. IsRuleOf modules x q) (sym a.1) (subst (IsRuleOf modules w) (sym b.1) one)

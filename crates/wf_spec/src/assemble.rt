@@ -1,4 +1,5 @@
 // Grammars put together from parts that keep all rules.
+mod bodies;
 mod ends;
 mod heads;
 mod pairs;
