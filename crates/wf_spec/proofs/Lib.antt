@@ -1,3 +1,4 @@
+pub mod Assembling
 pub mod Bodies
 pub mod Counting
 pub mod Differing
@@ -14,6 +15,7 @@ pub mod Listing
 pub mod NewNames
 pub mod Numbering
 pub mod Once
+pub mod PairsOf
 pub mod Picking
 pub mod Placing
 pub mod Rows

@@ -1,3 +1,4 @@
+pub mod Assembling
 pub mod Bodies
 pub mod Ends
 pub mod Forming

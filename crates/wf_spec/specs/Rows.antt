@@ -2,10 +2,11 @@
 use Rattle.std.specs.Prelude.{◌≡◌, ℕ, ◌<◌, ◌≤◌, Bool, false, not, cond, ◌&&◌, ◌==◌, List, [], map, length, get_or, Vec}
 use Rattle.std.specs.declared.alloc.Global.{Global}
 use Rattle.std.specs.Int.{bit_at}
+use Rattle.wf_model.specs.declared.parts.PairPart.{PairPart}
 use Rattle.wf_model.specs.Lists.{IsIn, some}
 use Rattle.wf_model.specs.Grammar.{Module, Given}
 use Rattle.wf_spec.specs.declared.given.Pair.{Pair}
-use Rattle.wf_spec.specs.Forming.{module_in}
+use Rattle.wf_spec.specs.Forming.{place_of, module_in}
 
 -- the bit of a pair in rows
 abbrev pub bit_in : List ℕ → ℕ → ℕ → ℕ
@@ -20,6 +21,10 @@ pub record AreAlike (m : Module) (all : Bool) (rows : List ℕ) : Type 0 where
 -- a pair, as it is held
 abbrev pub pair_of : Pair → ℕ × ℕ
 pair_of e = (e.input.0, e.output.0)
+
+-- a pair of names, by numbers
+abbrev pub pair_in : Module → PairPart → ℕ × ℕ
+pair_in m e = (place_of m.inputs e.input, place_of m.outputs e.output)
 
 -- pairs hold a pair
 abbrev pub has_pair : List (ℕ × ℕ) → ℕ → ℕ → Bool

@@ -41,7 +41,7 @@ pub struct Wiring {
 }
 
 /// The number of a module that is one of these.
-fn module_number(names: &Names, name: &[u8]) -> ModNo
+pub fn module_number(names: &Names, name: &[u8]) -> ModNo
     requires few { length names.now ≤ 1024 }
     requires known { IsIn name.now names.now }
     ensures place { result.0 ≡ place_of names.now name.now }
@@ -51,7 +51,7 @@ fn module_number(names: &Names, name: &[u8]) -> ModNo
 }
 
 /// A copy of a name.
-fn copied(alloc: Global, name: &Name) -> Result<Name, AllocError>
+pub fn copied(alloc: Global, name: &Name) -> Result<Name, AllocError>
     ensures { IfOk result (λ n. n ≡ name.now) }
 {
     let bytes = Vec::from_slice(alloc, name.bytes())?;
