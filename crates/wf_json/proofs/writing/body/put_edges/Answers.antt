@@ -1,4 +1,4 @@
-use Rattle.std.proofs.Common.{rules, [], ◌∙◌, ap}
+use Rattle.std.proofs.Common.{rules, ◌∙◌, ap}
 use Rattle.wf_model.specs.Grammar.{Production, production_at}
 use Rattle.wf_model.specs.Meaning.{edge_of}
 use Rattle.wf_json.specs.Canonical.{edge_text}

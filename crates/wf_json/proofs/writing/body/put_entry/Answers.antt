@@ -1,4 +1,4 @@
-use Rattle.std.proofs.Common.{◌≡◌, ◌++◌, ◌∙◌, [], ℕ, List, ap, sym, subst, length, get_or, arith, ◌<◌}
+use Rattle.std.proofs.Common.{◌≡◌, ◌++◌, ◌∙◌, [], ℕ, List, ap, sym, subst, arith}
 use Rattle.wf_model.specs.Grammar.{Inner, Module, Production, production_at}
 use Rattle.wf_model.specs.Meaning.{inner_of}
 use Rattle.wf_json.specs.Canonical.{entry_text}
