@@ -1,7 +1,6 @@
 -- Graphs of unit productions.
-use Rattle.std.proofs.Common.{◌≡◌, ℕ, ◌<◌, ◌↔◌, ◌⊎◌, length, List, [], ◌∷◌, ◌++◌, Vec, refl, sym, ap, ◌∙◌, subst, inl, inr, ⊎_elim}
+use Rattle.std.proofs.Common.{◌≡◌, ℕ, ◌<◌, length, List, [], ◌∷◌, ◌++◌, Vec, refl, sym, ap, ◌∙◌, subst, inl, inr, ⊎_elim}
 use Rattle.std.specs.declared.alloc.Global.{Global}
-use Rattle.wf_model.specs.Lists.{IsIn}
 use Rattle.wf_model.proofs.Lists.{in_append_left, in_append_right, in_append_cases}
 use Rattle.wf_graph.specs.Graph.{HasEdge, InRange}
 use Rattle.wf_spec.specs.Graphs.{HasOneMore}
@@ -23,15 +22,15 @@ graph_more us u before after same more a b = (forth, back)
   where
     forth : HasEdge after a b → (p : ℕ) × Turns (us ++ u ∷ []) p a b
     forth e = ⊎_elim
-      (λ i. let t = (same a b).0 i in (t.0, turns_left us (u ∷ []) t.0 a b t.1))
-      (λ d. (u.number.0, (u, in_append_right u us (u ∷ []) (inl refl), refl, sym d.0, sym d.1)))
-      ((more a b).0 e)
+        (λ i. let t = (same a b).0 i in (t.0, turns_left us (u ∷ []) t.0 a b t.1))
+        (λ d. (u.number.0, (u, in_append_right u us (u ∷ []) (inl refl), refl, sym d.0, sym d.1)))
+        ((more a b).0 e)
 
     back : (p : ℕ) × Turns (us ++ u ∷ []) p a b → HasEdge after a b
     back t = (more a b).1 (⊎_elim
-      (λ i. inl ((same a b).1 (t.0, (t.1.0, i, t.1.2, t.1.3, t.1.4))))
-      (λ i. ⊎_elim (λ (d : t.1.0 ≡ u). inr (sym t.1.3 ∙ ap (λ (w : UnitRule). w.head.0) d, sym t.1.4 ∙ ap (λ (w : UnitRule). w.target.0) d)) (λ z. absurd z) i)
-      (in_append_cases t.1.0 us (u ∷ []) t.1.1))
+        (λ i. inl ((same a b).1 (t.0, (t.1.0, i, t.1.2, t.1.3, t.1.4))))
+        (λ i. ⊎_elim (λ (d : t.1.0 ≡ u). inr (sym t.1.3 ∙ ap (λ (w : UnitRule). w.head.0) d, sym t.1.4 ∙ ap (λ (w : UnitRule). w.target.0) d)) (λ z. absurd z) i)
+        (in_append_cases t.1.0 us (u ∷ []) t.1.1))
 
 pub graph_in_range : (us : List UnitRule) (graph : List (Vec ℕ Global)) → IsGraphOf us graph → AreBelow (length graph) us → InRange graph
 graph_in_range us graph same below a b e =

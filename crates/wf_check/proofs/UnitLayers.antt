@@ -1,8 +1,7 @@
 -- Layers of modules, by how many unit productions lead to one module.
-use Rattle.std.proofs.Common.{◌≡◌, ℕ, zero, suc, ◌+◌, ◌↔◌, ◌<◌, ◌≤◌, ◌⊎◌, Bool, true, false, true≢false, List, [], ◌∷◌, ◌++◌, length, get_or, set, Vec, refl, sym, ap, ◌∙◌, subst, inl, inr, ⊎_elim, arith, get_or-set_same, get_or-set_other, length-append}
+use Rattle.std.proofs.Common.{◌≡◌, ℕ, zero, suc, ◌+◌, ◌↔◌, ◌<◌, ◌⊎◌, Bool, true, false, true≢false, List, [], ◌∷◌, ◌++◌, length, get_or, set, Vec, refl, sym, ap, ◌∙◌, subst, inl, inr, ⊎_elim, arith, get_or-set_same, get_or-set_other, length-append}
 use Rattle.std.specs.declared.alloc.Global.{Global}
 use Rattle.std.proofs.lemmas.Bool.{cases_lt}
-use Rattle.wf_model.specs.Lists.{IsIn}
 use Rattle.wf_model.proofs.Lists.{in_append_left, in_append_right, in_append_cases}
 use Rattle.wf_spec.proofs.Ends.{same_or_not}
 use Rattle.wf_check.specs.declared.unit.rule.UnitRule.{UnitRule}
@@ -98,39 +97,65 @@ layers_more us m xs x so_far below is = record {
       (same_or_not k (length xs));
 }
 
--- a layer is kept, and the one before it follows
-pub layers_round : (us : List UnitRule) (m : ℕ) (xs ys : List (Vec Bool Global)) (x : Vec Bool Global) (layer marks : List Bool)
-    → AreLayers us m xs → AreBelow (length x.items) us → IsLayer us m (length xs) x.items → ys ≡ xs ++ x ∷ [] → layer ≡ x.items → IsBefore us layer marks
-    → AreLayers us m ys × IsLayer us m (length ys) marks
-layers_round us m xs ys x layer marks so_far below is kept same before = (
-  subst (AreLayers us m) (sym kept) (layers_more us m xs x so_far below is),
-  subst (λ k. IsLayer us m k marks) (sym (ap length kept ∙ length-push))
-      (layer_next us m (length xs) x.items marks is (subst (λ l. IsBefore us l marks) same before)),
-)
-  where
-    length-push : length (xs ++ x ∷ []) ≡ suc (length xs)
-    length-push = omega (arith, length-append xs (x ∷ []))
+-- what is known before a round of the loop: layers, and the next of them, none of which leads back to the module
+pub record IsRound (us : List UnitRule) (n m : ℕ) (xs : List (Vec Bool Global)) (next : List Bool) : Type 0 where
+  pub count : length next ≡ n
+  pub layers : AreLayers us m xs
+  pub is_layer : IsLayer us m (length xs) next
+  pub none : (j : ℕ) → 0 < j → j < length xs + 1 → ReachesIn us m j m → ⊥
 
--- from the first layer that has the module again the shortest cycle is known
-pub shortest_found : (us : List UnitRule) (m k : ℕ) (marks : List Bool) → IsLayer us m k marks → get_or marks m false ≡ true → 0 < k → ((j : ℕ) → 0 < j → j < k → ReachesIn us m j m → ⊥) → IsShortest us m k
-shortest_found us m k marks is marked some none = record {
-  some = some;
-  back = (is m).0 marked;
-  least = λ j h r. ⊎_elim (λ l. absurd (none j h l r)) (λ l. l) (cases_lt j k);
+pub round_first : (us : List UnitRule) (n m : ℕ) (xs : List (Vec Bool Global)) (next : List Bool) → xs ≡ [] → length next ≡ n → ((v : ℕ) → (get_or next v false ≡ true) ↔ (v ≡ m)) → IsRound us n m xs next
+round_first us n m xs next empty count same = record {
+  count = count;
+  layers = subst (AreLayers us m) (sym empty) (layers_none us m);
+  is_layer = subst (λ k. IsLayer us m k next) (sym (ap length empty)) (layer_first us m next same);
+  none = λ j some few r. absurd (omega (arith, ap length empty));
 }
 
--- nor is the module on a cycle of so many, where the layer does not have it
-pub none_more : (us : List UnitRule) (m k : ℕ) (marks : List Bool) → IsLayer us m k marks → get_or marks m false ≡ false → ((j : ℕ) → 0 < j → j < k → ReachesIn us m j m → ⊥) → (j : ℕ) → 0 < j → j < k + 1 → ReachesIn us m j m → ⊥
-none_more us m k marks is unmarked none j h l r = ⊎_elim
-    (λ (e : j ≡ k). true≢false (sym ((is m).1 (subst (λ i. ReachesIn us m i m) e r)) ∙ unmarked))
-    (λ e. let below : j < k = omega (arith, e) in none j h below r)
-    (same_or_not j k)
+-- what is known in a round, once a layer is kept and the one before it is made
+pub record IsMade (us : List UnitRule) (m : ℕ) (xs : List (Vec Bool Global)) (next : List Bool) : Type 0 where
+  pub some : 0 < length xs
+  pub layers : AreLayers us m xs
+  pub is_layer : IsLayer us m (length xs) next
+  pub none : (j : ℕ) → 0 < j → j < length xs → ReachesIn us m j m → ⊥
 
--- a module on a cycle has fewer layers than there are modules while it is not found again
-pub layers_few : (us : List UnitRule) (n m k : ℕ) → AreBelow n us → IsOnCycle us m → ((j : ℕ) → 0 < j → j < k + 1 → ReachesIn us m j m → ⊥) → k < n
-layers_few us n m k below cycle none =
+pub round_made : (us : List UnitRule) (n m : ℕ) (xs ys : List (Vec Bool Global)) (x : Vec Bool Global) (layer next : List Bool) → AreBelow n us → IsRound us n m xs x.items
+    → ys ≡ xs ++ x ∷ [] → layer ≡ x.items → IsBefore us layer next → IsMade us m ys next
+round_made us n m xs ys x layer next below round kept same before = record {
+  some = omega (arith, longer);
+  layers = subst (AreLayers us m) (sym kept) (layers_more us m xs x round.layers (subst (λ k. AreBelow k us) (sym round.count) below) round.is_layer);
+  is_layer = subst (λ k. IsLayer us m k next) (sym longer) (layer_next us m (length xs) x.items next round.is_layer (subst (λ l. IsBefore us l next) same before));
+  none = λ j some few r. let l : j < length xs + 1 = omega (arith, longer) in round.none j some l r;
+}
+  where
+    longer : length ys ≡ suc (length xs)
+    longer = omega (arith, ap length kept, length-append xs (x ∷ []))
+
+-- where the layer has the module the shortest cycle is known
+pub round_found : (us : List UnitRule) (m : ℕ) (xs : List (Vec Bool Global)) (next : List Bool) → IsMade us m xs next → get_or next m false ≡ true → IsShortest us m (length xs)
+round_found us m xs next made marked = record {
+  some = made.some;
+  back = (made.is_layer m).0 marked;
+  least = λ j h r. ⊎_elim (λ l. absurd (made.none j h l r)) (λ l. l) (cases_lt j (length xs));
+}
+
+-- where it does not the next round begins
+pub round_more : (us : List UnitRule) (n m : ℕ) (xs : List (Vec Bool Global)) (next : List Bool) → IsMade us m xs next → length next ≡ n → get_or next m false ≡ false → IsRound us n m xs next
+round_more us n m xs next made count unmarked = record {
+  count = count;
+  layers = made.layers;
+  is_layer = made.is_layer;
+  none = λ j h l r. ⊎_elim
+      (λ (e : j ≡ length xs). true≢false (sym ((made.is_layer m).1 (subst (λ i. ReachesIn us m i m) e r)) ∙ unmarked))
+      (λ e. let below : j < length xs = omega (arith, e) in made.none j h below r)
+      (same_or_not j (length xs));
+}
+
+-- a round of a module on a cycle has fewer layers than there are modules
+pub round_few : (us : List UnitRule) (n m : ℕ) (xs : List (Vec Bool Global)) (next : List Bool) → AreBelow n us → IsOnCycle us m → IsRound us n m xs next → length xs < n
+round_few us n m xs next below cycle round =
     let w = cycle_within us n m below cycle in
-    ⊎_elim (λ l. absurd (none w.0 w.1 l w.3)) (λ l. let few = w.2 in omega arith) (cases_lt w.0 (k + 1))
+    ⊎_elim (λ l. absurd (round.none w.0 w.1 l w.3)) (λ l. let few = w.2 in omega arith) (cases_lt w.0 (length xs + 1))
 
 -- the marks of a layer, as they are kept
 pub layer_read : (xs : List (Vec Bool Global)) (k : ℕ) (x : Vec Bool Global) → k < length xs → x ≡ get_or xs k x → layer_at xs k ≡ x.items

@@ -1,11 +1,11 @@
 -- Paths along unit productions.
-use Rattle.std.proofs.Common.{◌≡◌, ℕ, zero, suc, ◌↔◌, ◌<◌, Bool, true, false, List, [], ◌∷◌, ◌++◌, length, get_or, Vec, refl, sym, ap, ◌∙◌, subst, arith, length-append}
+use Rattle.std.proofs.Common.{◌≡◌, ℕ, ◌<◌, List, [], ◌∷◌, ◌++◌, length, Vec, refl, sym, ◌∙◌, subst, arith, length-append}
 use Rattle.std.specs.declared.alloc.Global.{Global}
-use Rattle.wf_model.specs.Lists.{IsIn, Walk, here, onward}
-use Rattle.wf_graph.specs.Graph.{HasEdge, IsReached}
+use Rattle.wf_model.specs.Lists.{IsIn, here, onward}
+use Rattle.wf_graph.specs.Graph.{IsReached}
 use Rattle.wf_check.specs.declared.unit.rule.UnitRule.{UnitRule}
 use Rattle.wf_check.specs.UnitRules.{AreBelow}
-use Rattle.wf_check.specs.UnitPaths.{Turns, LeadTo, IsOnCycle, IsGraphOf}
+use Rattle.wf_check.specs.UnitPaths.{LeadTo, IsOnCycle, IsGraphOf}
 
 -- one path after another
 pub lead_append : (us : List UnitRule) (a b c : ℕ) (ps qs : List ℕ) → LeadTo us a ps b → LeadTo us b qs c → LeadTo us a (ps ++ qs) c

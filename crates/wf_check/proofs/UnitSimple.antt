@@ -1,14 +1,13 @@
 -- Paths along unit productions that pass no module twice, and how long these are.
-use Rattle.std.proofs.Common.{◌≡◌, ℕ, suc, ◌+◌, ◌<◌, ◌≤◌, ◌⊎◌, ◌||◌, Bool, eqb, true, false, true≢false, List, [], ◌∷◌, length, refl, sym, ap, ◌∙◌, subst, inl, inr, ⊎_elim, arith}
+use Rattle.std.proofs.Common.{◌≡◌, ℕ, suc, ◌<◌, ◌≤◌, ◌⊎◌, Bool, eqb, true, false, true≢false, List, [], ◌∷◌, length, refl, sym, ap, subst, inl, inr, ⊎_elim, arith}
 use Rattle.std.specs.List.{IsDistinct, list_any, AllByRecursion}
-use Rattle.std.proofs.lemmas.Bool.{eqb-true, eq-eqb, or_cases}
+use Rattle.std.proofs.lemmas.Bool.{eqb-true, or_cases}
 use Rattle.std.proofs.lemmas.Map.Steps.{length-le_from_distinct_below}
 use Rattle.wf_model.specs.Lists.{IsIn, AllDiffer}
 use Rattle.wf_spec.proofs.Ends.{same_or_not}
 use Rattle.wf_check.specs.declared.unit.rule.UnitRule.{UnitRule}
 use Rattle.wf_check.specs.UnitRules.{AreBelow}
 use Rattle.wf_check.specs.UnitPaths.{LeadTo, IsOnCycle, ReachesIn}
-use Rattle.wf_check.proofs.UnitPaths.{on_cycle_below}
 
 in_or_not : (x : ℕ) (ys : List ℕ) → IsIn x ys ⊎ (IsIn x ys → ⊥)
 in_or_not x [] = inr (λ h. h)

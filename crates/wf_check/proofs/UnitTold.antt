@@ -1,5 +1,5 @@
 -- The unit productions of a grammar as a list, and the cycle that is told.
-use Rattle.std.proofs.Common.{◌≡◌, ℕ, zero, suc, ◌+◌, ◌<◌, ◌≤◌, ◌⊎◌, Option, Some, None, List, [], ◌∷◌, length, get_or, refl, sym, ap, ◌∙◌, subst, inl, inr, ⊎_elim, arith, zero-add}
+use Rattle.std.proofs.Common.{◌≡◌, ℕ, zero, suc, ◌<◌, ◌≤◌, Option, Some, None, List, [], ◌∷◌, length, get_or, refl, sym, ap, ◌∙◌, subst, inl, inr, ⊎_elim, arith}
 use Rattle.std.specs.List.{filter_map, cons_option}
 use Rattle.wf_model.specs.Lists.{IsIn, numbers_from}
 use Rattle.wf_model.specs.Grammar.{Grammar, body_of, head_of, IsProductionOf}
@@ -8,7 +8,7 @@ use Rattle.wf_model.proofs.Level.{in_numbers, numbers_in}
 use Rattle.wf_check.specs.declared.unit.rule.UnitRule.{UnitRule}
 use Rattle.wf_check.specs.Improper.{UnitPath, IsUnitCycle, IsFirstOf, IsToldCycle}
 use Rattle.wf_check.specs.UnitRules.{unit_rule_of, unit_rule_at, unit_rules_of, AreInOrder, AreBelow}
-use Rattle.wf_check.specs.UnitPaths.{Turns, LeadTo, IsOnCycle, IsLeastOnCycle, ReachesIn, IsShortest}
+use Rattle.wf_check.specs.UnitPaths.{Turns, LeadTo, IsOnCycle, IsLeastOnCycle, IsShortest}
 
 number_from : (i k n : ℕ) → IsIn i (numbers_from k n) → k ≤ i
 number_from i k zero h = absurd h

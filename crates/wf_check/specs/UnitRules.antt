@@ -1,5 +1,5 @@
 -- The unit productions of a grammar.
-use Rattle.std.specs.Prelude.{◌≡◌, ℕ, ◌<◌, List, [], ◌∷◌, length, Option, Some, None}
+use Rattle.std.specs.Prelude.{ℕ, ◌<◌, List, [], ◌∷◌, length, Option, Some, None}
 use Rattle.std.specs.List.{filter_map}
 use Rattle.wf_model.specs.Lists.{IsIn, numbers_from}
 use Rattle.wf_model.specs.Grammar.{Grammar, body_of, head_of}

@@ -1,6 +1,6 @@
 // The graph of unit productions.
 ghost use Rattle.std.specs.Prelude.{◌≡◌, ◌<◌, ◌↔◌, ℕ, length, IfOk, IsTrue, MatchOption};
-ghost use Rattle.wf_graph.specs.Graph.{HasEdge, InRange};
+ghost use Rattle.wf_graph.specs.Graph.{HasEdge};
 ghost use Rattle.wf_check.specs.UnitRules.{AreBelow};
 ghost use Rattle.wf_check.specs.UnitPaths.{IsGraphOf, IsOnCycle, IsLeastOnCycle};
 
@@ -21,8 +21,8 @@ fn no_edges(alloc: Global, count: usize) -> Result<Vec<Vec<u32>>, AllocError>
     Ok(graph)
 }
 
-/// The graph whose edges are unit productions, with a vertex for each of so many modules. Fails only for want of memory.
-pub fn unit_graph(
+/// The graph whose edges are unit productions, with a vertex for each of so many modules.
+fn unit_graph(
     alloc: Global,
     units: &[UnitRule],
     modules: usize,
@@ -40,9 +40,7 @@ pub fn unit_graph(
 }
 
 /// Whether unit productions lead from a module back to it.
-///
-/// Cost: a search of the graph, and a pass over the unit productions. Fails only for want of memory.
-pub fn is_on_cycle(
+fn is_on_cycle(
     alloc: Global,
     units: &[UnitRule],
     graph: &[Vec<u32>],
@@ -64,7 +62,7 @@ pub fn is_on_cycle(
 
 /// The least module from which unit productions lead back to it, if there is one.
 ///
-/// Cost: a search of the graph for each module. Fails only for want of memory.
+/// Cost: for each module a search of the graph of unit productions, and a pass over them. Fails only for want of memory.
 pub fn least_on_cycle(
     alloc: Global,
     units: &[UnitRule],

@@ -1,4 +1,4 @@
-use Rattle.std.proofs.Common.{◌≡◌, ◌∙◌, ◌<◌, ℕ, List, ap, sym, subst, length, map}
+use Rattle.std.proofs.Common.{◌≡◌, ◌∙◌, ℕ, List, ap, sym, subst, length, map}
 use Rattle.std.proofs.lemmas.List.{length-map}
 use Rattle.wf_model.specs.declared.numbers.ProdNo.{ProdNo}
 use Rattle.wf_check.specs.Improper.{IsFirstOf, IsToldCycle}

@@ -1,7 +1,6 @@
-use Rattle.std.proofs.Common.{◌≡◌, ◌∙◌, ◌<◌, true, false, true≢false, ⊎_elim, ap, refl, sym, subst, arith, length, get_or, take}
-use Rattle.std.proofs.lemmas.List.{take_more, take_all, get_or_read}
+use Rattle.std.proofs.Common.{◌≡◌, ◌∙◌, ◌<◌, true, false, true≢false, refl, sym, subst, arith, length, get_or}
+use Rattle.std.proofs.lemmas.List.{take_all, get_or_read}
 use Rattle.wf_model.specs.Lists.{IsIn}
-use Rattle.wf_model.proofs.Lists.{in_append_cases}
 use Rattle.wf_graph.specs.Graph.{IsReached}
 use Rattle.wf_spec.proofs.Tables.{get_in}
 use Rattle.wf_check.specs.declared.unit.rule.UnitRule.{UnitRule}
@@ -38,14 +37,14 @@ loop-u-preserved c =
     let within : u.head.0 < length marks = omega (arith, (c.requires.below u (get_in c.loop-u.u-index us no_rule c.loop-u-test.true)).0, c.in_ok-marks.ensures.count) in
     holds_more (λ (w : UnitRule). w.target.0 ≡ c.args.m.0 → get_or marks w.head.0 false ≡ true → ⊥) c.loop-u.u-index us no_rule c.loop-u-test.true c.loop-u.invariant
     (elim c.else-u-m.branch [
-      else-u-m-via-then-u-m+else-index w ↦ λ t marked. true≢false (sym marked ∙ sym (get_or_read marks u.head.0 w.index.result.now within w.index.ensures false) ∙ w.if-index.false)
-    | else-u-m-via-else-u-m w ↦ λ t marked. w.if-u-m.false t
+      | else-u-m-via-then-u-m+else-index w ↦ λ t marked. true≢false (sym marked ∙ sym (get_or_read marks u.head.0 w.index.result.now within w.index.ensures false) ∙ w.if-index.false)
+      | else-u-m-via-else-u-m w ↦ λ t marked. w.if-u-m.false t
     ])
 
 pub returns : goal.returns
 returns c =
     let us = c.args.units.now in
     let none : (u : UnitRule) → IsIn u us → u.target.0 ≡ c.args.m.0 → IsReached c.args.graph.now c.args.m.0 u.head.0 → ⊥ = λ u i t w.
-        c.loop-u.invariant u (subst (IsIn u) (sym (take_all c.loop-u.u-index us c.loop-u-test.false)) i) t
-        ((c.in_ok-marks.ensures.reached u.head.0).1 (subst (λ k. IsReached c.args.graph.now k u.head.0) (sym c.from.ensures) w)) in
+    c.loop-u.invariant u (subst (IsIn u) (sym (take_all c.loop-u.u-index us c.loop-u-test.false)) i) t
+    ((c.in_ok-marks.ensures.reached u.head.0).1 (subst (λ k. IsReached c.args.graph.now k u.head.0) (sym c.from.ensures) w)) in
     (λ t. absurd (true≢false (sym t)), λ k. absurd (no_cycle us c.args.graph.now c.requires.edges c.args.m.0 none k))

@@ -1,5 +1,5 @@
-use Rattle.std.proofs.Common.{◌≡◌, ◌<◌, false, true≢false, below_more, sym, ◌∙◌, subst, arith}
-use Rattle.wf_check.specs.UnitPaths.{IsGraphOf, IsOnCycle}
+use Rattle.std.proofs.Common.{◌<◌, true≢false, below_more, sym, ◌∙◌, subst, arith}
+use Rattle.wf_check.specs.UnitPaths.{IsGraphOf}
 use Rattle.wf_check.proofs.UnitPaths.{on_cycle_below}
 use Rattle.wf_check.proofs.unit.graph.least_on_cycle.Goals as goal
 

@@ -1,4 +1,4 @@
-use Rattle.std.proofs.Common.{◌≡◌, ◌∙◌, ◌<◌, Vec, Global, Bool, true, ap, sym, subst, arith, length, get_or, set, take}
+use Rattle.std.proofs.Common.{◌∙◌, ◌<◌, Vec, Global, Bool, true, ap, sym, subst, arith, length, get_or, take}
 use Rattle.std.proofs.lemmas.List.{take_more, take_all, length-set}
 use Rattle.wf_spec.proofs.Tables.{get_in}
 use Rattle.wf_check.specs.UnitPaths.{IsBefore}
@@ -24,18 +24,18 @@ loop-u-preserved c =
     let below : u.head.0 < length marks = omega (arith, (c.requires u (get_in c.loop-u.u-index us no_rule c.loop-u-test.true)).0, c.loop-u.invariant.count) in
     let next = sym (take_more us c.loop-u.u-index no_rule c.loop-u-test.true) in
     elim c.if-layer-u.branch [
-      then-layer-u w ↦
-        let is = ap (λ (x : Vec Bool Global). x.items) w.marks-is in
-        record {
-          count = ap length is ∙ length-set marks u.head.0 true ∙ c.loop-u.invariant.count;
-          marks = subst (λ xs. IsBefore xs layer c.if-layer-u.marks.items) next (subst (IsBefore _ layer) (sym is) (before_more (take c.loop-u.u-index us) u layer marks below w.if-layer-u.true c.loop-u.invariant.marks));
-        }
-    | else-layer-u w ↦
-        let is = ap (λ (x : Vec Bool Global). x.items) w.marks-is in
-        record {
-          count = ap length is ∙ c.loop-u.invariant.count;
-          marks = subst (λ xs. IsBefore xs layer c.if-layer-u.marks.items) next (subst (IsBefore _ layer) (sym is) (before_same (take c.loop-u.u-index us) u layer marks w.if-layer-u.false c.loop-u.invariant.marks));
-        }
+      | then-layer-u w ↦
+          let is = ap (λ (x : Vec Bool Global). x.items) w.marks-is in
+          record {
+            count = ap length is ∙ length-set marks u.head.0 true ∙ c.loop-u.invariant.count;
+            marks = subst (λ xs. IsBefore xs layer c.if-layer-u.marks.items) next (subst (IsBefore _ layer) (sym is) (before_more (take c.loop-u.u-index us) u layer marks below w.if-layer-u.true c.loop-u.invariant.marks));
+          }
+      | else-layer-u w ↦
+          let is = ap (λ (x : Vec Bool Global). x.items) w.marks-is in
+          record {
+            count = ap length is ∙ c.loop-u.invariant.count;
+            marks = subst (λ xs. IsBefore xs layer c.if-layer-u.marks.items) next (subst (IsBefore _ layer) (sym is) (before_same (take c.loop-u.u-index us) u layer marks w.if-layer-u.false c.loop-u.invariant.marks));
+          }
     ]
 
 pub returns-clause-marks : goal.returns-clause-marks

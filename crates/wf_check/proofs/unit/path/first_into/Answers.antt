@@ -1,4 +1,4 @@
-use Rattle.std.proofs.Common.{◌≡◌, ◌∙◌, true, false, true≢false, refl, sym, ⊎_elim, get_or}
+use Rattle.std.proofs.Common.{◌≡◌, ◌∙◌, true, false, true≢false, sym, ⊎_elim, get_or}
 use Rattle.wf_spec.proofs.Tables.{get_in}
 use Rattle.wf_check.specs.declared.unit.rule.UnitRule.{UnitRule}
 use Rattle.wf_check.proofs.UnitRules.{no_rule, holds_more}
@@ -24,6 +24,6 @@ pub loop-u-preserved : goal.loop-u-preserved
 loop-u-preserved c =
     holds_more (λ (w : UnitRule). w.head.0 ≡ c.args.v.0 → get_or c.args.layer.now w.target.0 false ≡ true → ⊥) c.loop-u.u-index c.args.units.now no_rule c.loop-u-test.true c.loop-u.invariant
     (elim c.else-u-v.branch [
-      else-u-v-via-then-u-v+else-layer-u w ↦ λ head into. true≢false (sym into ∙ w.if-layer-u.false)
-    | else-u-v-via-else-u-v w ↦ λ head into. w.if-u-v.false head
+      | else-u-v-via-then-u-v+else-layer-u w ↦ λ head into. true≢false (sym into ∙ w.if-layer-u.false)
+      | else-u-v-via-else-u-v w ↦ λ head into. w.if-u-v.false head
     ])

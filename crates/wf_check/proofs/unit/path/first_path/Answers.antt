@@ -1,8 +1,8 @@
-use Rattle.std.proofs.Common.{◌≡◌, ◌∙◌, ◌-◌, ◌<◌, ◌++◌, ◌∷◌, [], suc, ap, sym, subst, arith, length, map}
+use Rattle.std.proofs.Common.{◌≡◌, ◌∙◌, ◌-◌, ◌<◌, ◌∷◌, [], suc, ap, sym, subst, arith, length, map}
 use Rattle.std.proofs.lemmas.List.{map-append}
 use Rattle.wf_model.specs.declared.numbers.ProdNo.{ProdNo}
 use Rattle.wf_check.specs.UnitRules.{AreBelow}
-use Rattle.wf_check.specs.UnitPaths.{IsLayer, ReachesIn, TurnsInto}
+use Rattle.wf_check.specs.UnitPaths.{IsLayer, ReachesIn}
 use Rattle.wf_check.proofs.UnitLayers.{layer_read, turns_into}
 use Rattle.wf_check.proofs.UnitFirst.{IsOnTheWay, way_more}
 use Rattle.wf_check.proofs.unit.path.first_path.Goals as goal
