@@ -5,7 +5,6 @@ use Rattle.std.proofs.lemmas.List.{get_or-map, length-map}
 use Rattle.wf_model.specs.declared.numbers.ProdNo.{ProdNo}
 use Rattle.wf_model.specs.Grammar.{Grammar}
 use Rattle.wf_model.specs.Proper.{IsRank}
-use Rattle.wf_model.specs.WellFormed.{IsWellFormed}
 use Rattle.wf_check.specs.Improper.{IsProductive, OfAllComposite}
 use Rattle.wf_check.specs.Proper.{Ranking, IsRankingOf}
 use Rattle.wf_check.specs.Ranks.{TellsRank, AreRanks}

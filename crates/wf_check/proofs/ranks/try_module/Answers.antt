@@ -1,4 +1,4 @@
-use Rattle.std.proofs.Common.{◌≡◌, ◌∙◌, sym, ap, not}
+use Rattle.std.proofs.Common.{◌∙◌, sym, ap, not}
 use Rattle.wf_check.proofs.Options.{match_some, match_none}
 use Rattle.wf_check.proofs.Rounds.{round_old, round_none, round_some}
 use Rattle.wf_check.proofs.ranks.try_module.Goals as goal
