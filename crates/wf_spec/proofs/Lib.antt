@@ -25,3 +25,4 @@ pub mod ShortNames
 pub mod Sides
 pub mod Sizes
 pub mod Tables
+pub mod Wired

@@ -1,5 +1,7 @@
 use Rattle.wf_spec.proofs.Lawful.{law}
+use Rattle.wf_spec.proofs.Wired.{rules_are}
 use Rattle.wf_spec.proofs.law.forming_law.Goals as goal
 
 pub returns : goal.returns
 returns c = law
+
