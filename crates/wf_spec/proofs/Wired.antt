@@ -17,7 +17,8 @@ use Rattle.wf_spec.specs.Forming.{place_of, names_of, module_in, module_of, modu
 use Rattle.wf_spec.specs.Wiring.{entry_of, exit_of, entry_link, exit_link, IsWiringOf, AreWiringsOf, entered_by, left_by, head_of}
 use Rattle.wf_spec.proofs.Finding.{place_within}
 use Rattle.wf_spec.proofs.Fitting.{made_production}
-use Rattle.wf_spec.proofs.Kept.{IsKeptPart, AreAllKept}
+use Rattle.wf_spec.specs.Rules.{AreKept}
+use Rattle.wf_spec.proofs.Kept.{IsKeptPart, AreAllKept, kept_gives}
 use Rattle.wf_spec.proofs.Lawful.{same_names, number_below, head_ports, differ_left, differ_right}
 use Rattle.wf_spec.proofs.Picking.{at_place, same_name, pick}
 use Rattle.wf_spec.proofs.Tables.{get_in}
@@ -97,13 +98,13 @@ part_sound : (parts : Parts) (p : ProdPart) (w : Wiring) → IsKeptPart parts p 
 part_sound parts p w k below is = record {
   head = subst (λ n. n < length modules) (sym is.head) below;
   entries_within = λ n h. (let r = in_map_from (λ (e : EntryPart). place_of (head_in modules p).inputs e.port) n p.entries (subst (IsIn n) (entry_ports modules p w is) h) in
-    subst (λ (m : Module). n < length m.inputs) (sym (same_head modules p w is))
-    (subst (λ l. l < length (head_in modules p).inputs) (sym r.2) (place_within (head_in modules p).inputs r.0.port (k.known_ports.entries_from r.0 r.1))));
+      subst (λ (m : Module). n < length m.inputs) (sym (same_head modules p w is))
+      (subst (λ l. l < length (head_in modules p).inputs) (sym r.2) (place_within (head_in modules p).inputs r.0.port (k.known_ports.entries_from r.0 r.1))));
   entries_differ = subst AllDiffer (sym (entry_ports modules p w is))
       (differ_numbers (λ (e : EntryPart). e.port) (head_in modules p).inputs p.entries k.known_ports.entries_from k.at_most_once.head_inputs);
   exits_within = λ n h. (let r = in_map_from (λ (e : ExitPart). place_of (head_in modules p).outputs e.port) n p.exits (subst (IsIn n) (exit_ports modules p w is) h) in
-    subst (λ (m : Module). n < length m.outputs) (sym (same_head modules p w is))
-    (subst (λ l. l < length (head_in modules p).outputs) (sym r.2) (place_within (head_in modules p).outputs r.0.port (k.known_ports.exits_to r.0 r.1))));
+      subst (λ (m : Module). n < length m.outputs) (sym (same_head modules p w is))
+      (subst (λ l. l < length (head_in modules p).outputs) (sym r.2) (place_within (head_in modules p).outputs r.0.port (k.known_ports.exits_to r.0 r.1))));
   exits_differ = subst AllDiffer (sym (exit_ports modules p w is))
       (differ_numbers (λ (e : ExitPart). e.port) (head_in modules p).outputs p.exits k.known_ports.exits_to k.at_most_once.head_outputs);
 }
@@ -147,18 +148,24 @@ wirings_sound parts modules ws are k of w here =
     part_sound parts p.0 w (k.productions p.0 there) (part_head parts p.0 k there).0 (subst (λ ms. IsWiringOf ms p.0 w) are (of.each a.0 p.0 w p.1 a.1)))
 
 -- their productions are those of the parts
-pub rules_are : (parts : Parts) (modules : List Module) (ws : List Wiring) (rules : List Production) → modules ≡ modules_of parts → AreAllKept parts → AreWiringsOf modules parts.productions ws
+rules_are : (parts : Parts) (modules : List Module) (ws : List Wiring) (rules : List Production) → modules ≡ modules_of parts → AreAllKept parts → AreWiringsOf modules parts.productions ws
     → AreRulesOf modules ws rules → rules ≡ map (production_in (modules_of parts)) parts.productions
 rules_are parts modules ws rules are k of made =
     same_lists rules (map (production_in (modules_of parts)) parts.productions)
     (made.as_many ∙ (of.as_many ∙ sym (length-map parts.productions (production_in (modules_of parts)))))
     (λ n d inside.
-      let r = some_at rules n inside in
-      let w = some_at ws n (let l = made.as_many in omega arith) in
-      let p = some_at parts.productions n (let l = made.as_many in let m = of.as_many in omega arith) in
-      let there = at_in p.0 n parts.productions p.1 in
-      let head = part_head parts p.0 k there in
-      at_is r.0 n rules d r.1
-      ∙ (rule_is parts p.0 w.0 r.0 (k.productions p.0 there) head.1 head.2 (subst (λ ms. IsWiringOf ms p.0 w.0) are (of.each n p.0 w.0 p.1 w.1))
-      (subst (λ ms. IsRuleOf ms w.0 r.0) are (made.each n w.0 r.0 w.1 r.1))
-      ∙ sym (at_is (production_in (modules_of parts) p.0) n (map (production_in (modules_of parts)) parts.productions) d (at_map (production_in (modules_of parts)) p.0 n parts.productions p.1))))
+    let r = some_at rules n inside in
+    let w = some_at ws n (let l = made.as_many in omega arith) in
+    let p = some_at parts.productions n (let l = made.as_many in let m = of.as_many in omega arith) in
+    let there = at_in p.0 n parts.productions p.1 in
+    let head = part_head parts p.0 k there in
+    at_is r.0 n rules d r.1
+    ∙ (rule_is parts p.0 w.0 r.0 (k.productions p.0 there) head.1 head.2 (subst (λ ms. IsWiringOf ms p.0 w.0) are (of.each n p.0 w.0 p.1 w.1))
+    (subst (λ ms. IsRuleOf ms w.0 r.0) are (made.each n w.0 r.0 w.1 r.1))
+    ∙ sym (at_is (production_in (modules_of parts) p.0) n (map (production_in (modules_of parts)) parts.productions) d (at_map (production_in (modules_of parts)) p.0 n parts.productions p.1))))
+
+-- as they are read
+pub rules_read : (parts : Parts) (modules ms : List Module) (ws : List Wiring) (rules read : List Production) → AreKept parts → modules ≡ modules_of parts → AreWiringsOf modules parts.productions ws
+    → ms ≡ modules → AreRulesOf ms ws rules → read ≡ rules → read ≡ map (production_in modules) parts.productions
+rules_read parts modules ms ws rules read kept are of same made is =
+    is ∙ (rules_are parts modules ws rules are (kept_gives parts kept) of (subst (λ l. AreRulesOf l ws rules) same made) ∙ ap (λ l. map (production_in l) parts.productions) (sym are))
