@@ -12,7 +12,6 @@ pub mod KnownModules
 pub mod Lawful
 pub mod Linking
 pub mod Listing
-pub mod Names
 pub mod NewNames
 pub mod Numbering
 pub mod Once
