@@ -7,6 +7,7 @@ ghost use Rattle.wf_spec.specs.Wiring.{AreWiringsOf};
 mod bodies;
 mod ends;
 mod heads;
+pub mod modules;
 mod pairs;
 mod rows;
 
