@@ -116,3 +116,7 @@ fault_of_rest n rs f first (inr h) = inr (go n rs first h)
     go zero rs first h = h
     go (suc n) [] first h = absurd h
     go (suc n) (r ∷ rs) first h = inr (first.0, go n rs first.1 h)
+
+-- a rule that is asked once fails at its one place
+pub once_fails : (Holds : Type 0) → ¬ Holds → FailsFirstAt 1 (λ k. Holds) 0
+once_fails Holds never = record { is_place = omega arith; before = λ j below. absurd (omega arith); fails = never }

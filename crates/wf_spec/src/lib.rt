@@ -1,12 +1,14 @@
 //! Workflow grammars: the parts that a specification names, put together and tested.
 #![tactic(auto)]
 
+mod assemble;
 mod build;
 mod checks;
 mod deps;
 mod fault;
 mod given;
 mod grammar;
+mod law;
 mod links;
 mod module;
 mod production;
@@ -17,6 +19,7 @@ pub use checks::{check_bodies, check_modules};
 pub use deps::Deps;
 pub use fault::{FormFault, Spot};
 pub use grammar::Grammar;
+pub use law::forming_law;
 pub use module::Module;
 pub use production::Production;
 pub use wf_model::{

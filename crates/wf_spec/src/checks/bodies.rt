@@ -48,15 +48,17 @@ fn check_known(names: &Names, parts: &Parts) -> Result<(), FormFault>
     ensures kept { OnOk result (AllHold (take 3 (body_rules parts.now))) }
     ensures refused { IfErr result (IsFirstFault (take 3 (body_rules parts.now))) }
 {
+    let productions = parts.productions.items();
+    let deps = parts.deps.items();
     if !names.holds(parts.start.bytes()) {
         return Err(FormFault::UnknownModule { at: Spot::Start });
     }
-    if let Some(k) = first_unknown_rule(names, parts.productions.items()) {
+    if let Some(k) = first_unknown_rule(names, productions) {
         return Err(FormFault::UnknownModule {
             at: Spot::Production(k as u64),
         });
     }
-    if let Some(k) = first_unknown_deps(names, parts.deps.items()) {
+    if let Some(k) = first_unknown_deps(names, deps) {
         return Err(FormFault::UnknownModule {
             at: Spot::DepsAt(k as u64),
         });

@@ -1,6 +1,5 @@
 // The rules on modules by themselves, and on the numbers of modules and productions.
-ghost use Rattle.std.specs.Prelude.{◌≡◌, ◌⊎◌, IfOk, IfErr, OnOk};
-ghost use Rattle.std.specs.Prelude.{take, drop};
+ghost use Rattle.std.specs.Prelude.{◌≡◌, ◌⊎◌, drop, take, IfErr, IfOk, OnOk};
 ghost use Rattle.wf_spec.specs.Rules.{each, first_rules, module_names, AllHold, HasFewPorts, IsFirstFailing, IsFirstFault};
 ghost use Rattle.wf_spec.specs.declared.fault.FormFault.TheVariants.{NoMemory, TooManyPorts};
 
@@ -25,18 +24,19 @@ fn check_names(alloc: Global, parts: &Parts) -> Result<Names, FormFault>
     ensures kept { OnOk result (AllHold (take 3 (first_rules parts.now))) }
     ensures refused { IfErr result (λ f. (f ≡ NoMemory) ⊎ IsFirstFault (take 3 (first_rules parts.now)) f) }
 {
-    if let Some(k) = first_bad_names(parts.modules.items()) {
+    let modules = parts.modules.items();
+    let productions = parts.productions.items();
+    if let Some(k) = first_bad_names(modules) {
         return Err(FormFault::NameBad {
             at: Spot::Module(k as u64),
         });
     }
-    if let Some(k) = first_bad_positions(parts.productions.items()) {
+    if let Some(k) = first_bad_positions(productions) {
         return Err(FormFault::NameBad {
             at: Spot::Production(k as u64),
         });
     }
-    let names = numbered_names(alloc, parts.modules.items())?;
-    Ok(names)
+    numbered_names(alloc, modules)
 }
 
 /// The rules on ports, and on the numbers of modules and productions.

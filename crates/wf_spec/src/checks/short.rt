@@ -1,5 +1,5 @@
 // Names of 1 to 64 letters, digits, `_` and `-`.
-ghost use Rattle.std.specs.Prelude.{◌≡◌, ◌&&◌, not};
+ghost use Rattle.std.specs.Prelude.{◌≡◌, ◌&&◌};
 ghost use Rattle.std.specs.List.{list_all};
 ghost use Rattle.wf_model.specs.Faults.{is_name_byte, is_short_name};
 ghost use Rattle.wf_spec.specs.Rules.{each, HasShortNames, HasShortPositions, IsFirstFailing};

@@ -1,6 +1,5 @@
-use Rattle.std.proofs.Common.{◌≡◌, inl, inr, refl, sym, ◌∙◌}
+use Rattle.std.proofs.Common.{inl, inr, refl, sym, ◌∙◌}
 use Rattle.wf_model.specs.declared.parts.ModulePart.{ModulePart}
-use Rattle.wf_model.specs.Faults.{is_one_of}
 use Rattle.wf_spec.proofs.NewNames.{first_not_new, new_more, names_more}
 use Rattle.wf_spec.proofs.checks.numbering.numbered_names.Goals as goal
 

@@ -1,4 +1,3 @@
-use Rattle.std.proofs.Common.{◌≤◌, ◌*◌, length, take, arith}
 use Rattle.wf_spec.proofs.Rules.{read_at}
 use Rattle.wf_spec.proofs.checks.sizes.sum_of_squares.Goals as goal
 
