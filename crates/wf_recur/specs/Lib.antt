@@ -1,2 +1,4 @@
 pub mod Cycles
 pub mod Loops
+pub mod Reaching
+pub mod Steps

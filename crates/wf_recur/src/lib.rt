@@ -2,7 +2,9 @@
 #![tactic(auto)]
 
 mod fault;
+mod reach;
 mod search;
+mod steps;
 mod table;
 
 pub use fault::RecurFault;
