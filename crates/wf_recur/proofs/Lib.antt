@@ -1,7 +1,9 @@
 pub mod Going
 pub mod Heads
 pub mod Lists
+pub mod Numbering
 pub mod Order
 pub mod Reaching
 pub mod Rows
 pub mod Stepping
+pub mod Ways

@@ -10,7 +10,7 @@ use Rattle.wf_model.specs.Lists.{IsIn, numbers_from}
 use Rattle.wf_model.specs.Grammar.{Grammar, Position, head_of, body_of}
 use Rattle.wf_model.specs.WellFormed.{IsWellFormed}
 use Rattle.wf_model.specs.Reach.{Step, target_of}
-use Rattle.wf_model.specs.Linear.{Continues, IsOnCycle}
+use Rattle.wf_model.specs.Linear.{Continues, IsOnCycle, IsLinear}
 use Rattle.wf_model.proofs.Lists.{in_filter, in_filter_from, in_flat_map, in_flat_map_from, in_map, in_map_from, at_in, is_at}
 use Rattle.wf_model.proofs.Level.{in_numbers, numbers_in}
 use Rattle.wf_spec.specs.Bodies.{modules_at}
@@ -21,7 +21,7 @@ use Rattle.wf_recur.specs.declared.fault.RecurFault.TheVariants.{TwoLoops, NoMem
 use Rattle.wf_recur.specs.Cycles.{step_of}
 use Rattle.wf_recur.specs.Loops.{IsBefore, HasOneLoop, IsTwoLoops, IsFaultOf}
 use Rattle.wf_recur.specs.Reaching.{AreDerived}
-use Rattle.wf_recur.specs.Steps.{steps_to, leads_back, back_steps, all_back_steps, TellsStep, AreTwoLeast, IsFaultAt}
+use Rattle.wf_recur.specs.Steps.{steps_to, leads_back, back_steps, all_back_steps, TellsStep, AreTwoLeast, IsFaultAt, AreOnlySteps}
 use Rattle.wf_recur.proofs.Heads.{headed_gives, headed_from}
 use Rattle.wf_recur.proofs.Order.{InOrder, numbers_in_order, filter_in_order, map_in_order, flat_in_order}
 
@@ -127,6 +127,18 @@ two_listed g m (x ∷ (y ∷ xs)) d e listed order h = record {
 pub one_loop : (g : Grammar) (m : ℕ) (o : Option StepHeld) → TellsStep g m o → HasOneLoop g m
 one_loop g m None h s t c d = absurd (h (s, c))
 one_loop g m (Some x) h s t c d = h.1 s c ∙ sym (h.1 t d)
+
+pub continues_below : (g : Grammar) → IsWellFormed g → (m : ℕ) (s : Step) → Continues g m s → m < length g.modules
+continues_below g w m s c = subst (λ k. k < length g.modules) c.0.head (w.heads s.production c.0.in_range)
+
+pub steps_linear : (g : Grammar) → IsWellFormed g → (steps : List (Option StepHeld)) → AreOnlySteps g steps → IsLinear g
+steps_linear g w steps only m s t c d = one_loop g m (get_or steps m None) (only.told m (continues_below g w m s c)) s t c d
+
+pub step_told : (g : Grammar) (steps : List (Option StepHeld)) (m : ℕ) (s : StepHeld) → AreOnlySteps g steps → m < length g.modules → get_or steps m None ≡ Some s → Continues g m (step_of s)
+step_told g steps m s only h e = (subst (TellsStep g m) e (only.told m h)).0
+
+pub none_told : (g : Grammar) (steps : List (Option StepHeld)) (m : ℕ) → AreOnlySteps g steps → m < length g.modules → get_or steps m None ≡ None → ¬ IsOnCycle g m
+none_told g steps m only h e = subst (TellsStep g m) e (only.told m h)
 
 -- the fault of the first module with two continuing steps is that of the grammar
 pub fault_first : (g : Grammar) (m : ℕ) (steps : List (Option StepHeld)) → ((k : ℕ) → k < m → TellsStep g k (get_or steps k None)) → (f : RecurFault) → (f ≡ NoMemory) ⊎ IsFaultAt g m f → (f ≡ NoMemory) ⊎ IsFaultOf g f

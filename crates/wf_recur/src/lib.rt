@@ -3,6 +3,7 @@
 
 mod fault;
 mod reach;
+mod rounds;
 mod search;
 mod steps;
 mod table;

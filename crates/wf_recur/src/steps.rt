@@ -2,6 +2,7 @@
 ghost use Rattle.std.specs.Prelude.{◌≡◌, ◌<◌, ◌++◌, ◌∷◌, ◌⊎◌, [], length, map, IfOk, IfErr, OnOk};
 ghost use Rattle.std.specs.List.{filter};
 ghost use Rattle.wf_model.specs.Grammar.{body_of};
+ghost use Rattle.wf_model.specs.Linear.{IsLinear};
 ghost use Rattle.wf_model.specs.Reach.{target_of};
 ghost use Rattle.wf_model.specs.WellFormed.{IsWellFormed};
 ghost use Rattle.wf_recur.specs.Cycles.{step_of};
@@ -120,6 +121,7 @@ fn only_step(
 /// Cost: as `derived`, and one look at each position of each body.
 pub fn only_steps(alloc: Global, g: &Grammar) -> Result<Vec<Option<Step>>, RecurFault>
     ensures only { IfOk result (λ steps. AreOnlySteps g.now.core steps.items) }
+    ensures linear { IfOk result (λ _. IsLinear g.now.core) }
     ensures refused { IfErr result (λ f. (f ≡ NoMemory) ⊎ IsFaultOf g.now.core f) }
 {
     let rows = derived(alloc, g)?;
