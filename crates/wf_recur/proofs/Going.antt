@@ -1,34 +1,34 @@
 -- Continuing steps, one after another.
-use Rattle.std.proofs.Common.{◌≡◌, ℕ, zero, suc, ◌+◌, ◌-◌, ◌<◌, ◌≤◌, ◌⊎◌, length, get_or, refl, sym, ap, ◌∙◌, subst, inl, inr, ⊎_elim, arith}
-use Rattle.wf_model.specs.Lists.{IsIn, IsAt, Walk, here, onward}
+use Rattle.std.proofs.Common.{◌≡◌, ℕ, zero, suc, ◌+◌, ◌-◌, ◌<◌, ◌≤◌, ◌⊎◌, get_or, refl, sym, ap, ◌∙◌, subst, ⊎_elim, arith}
+use Rattle.wf_model.specs.Lists.{Walk, here, onward}
 use Rattle.wf_model.specs.Grammar.{Grammar, body_of}
 use Rattle.wf_model.specs.Proper.{Makes, Derives}
 use Rattle.wf_model.specs.Reach.{Step, target_of}
-use Rattle.wf_model.specs.Linear.{IsStepOf, Continues, IsLinear, IsOnCycle, GoesOn, GoesOnBy}
+use Rattle.wf_model.specs.Linear.{IsStepOf, IsLinear, IsOnCycle, GoesOn, GoesOnBy}
 use Rattle.wf_model.proofs.Lists.{in_at, at_is, at_below, at_in, is_at}
 use Rattle.wf_model.proofs.Walks.{walk-append, walk_one}
 
 -- a step makes its target
-pub step_makes : (g : Grammar) (m : ℕ) (s : Step) → IsStepOf g m s → Makes g m (target_of g s)
+step_makes : (g : Grammar) (m : ℕ) (s : Step) → IsStepOf g m s → Makes g m (target_of g s)
 step_makes g m s i = (s.production, (i.in_range, i.head), at_in (target_of g s) s.position (body_of g s.production) (is_at s.position (body_of g s.production) 0 i.position))
 
-pub goes_makes : (g : Grammar) (a b : ℕ) → GoesOn g a b → Makes g a b
+goes_makes : (g : Grammar) (a b : ℕ) → GoesOn g a b → Makes g a b
 goes_makes g a b h = subst (Makes g a) h.2 (step_makes g a h.0 h.1.0)
 
 -- what makes a module that derives it back goes on to it
-pub makes_goes : (g : Grammar) (a b : ℕ) → Makes g a b → Derives g b a → GoesOn g a b
+makes_goes : (g : Grammar) (a b : ℕ) → Makes g a b → Derives g b a → GoesOn g a b
 makes_goes g a b h back =
     let k = in_at b (body_of g h.0) h.2 in
     let is : get_or (body_of g h.0) k.0 0 ≡ b = at_is b k.0 (body_of g h.0) 0 k.1 in
     (record { production = h.0; position = k.0 }, (record { in_range = h.1.0; head = h.1.1; position = at_below b k.0 (body_of g h.0) k.1 }, subst (λ z. Derives g z a) (sym is) back), is)
 
 -- modules that derive each other go on to each other
-pub derives_goes : (g : Grammar) {a b : ℕ} → Derives g a b → Derives g b a → Walk (GoesOn g) a b
+derives_goes : (g : Grammar) {a b : ℕ} → Derives g a b → Derives g b a → Walk (GoesOn g) a b
 derives_goes g here back = here
 derives_goes g (onward {x = x} {y = y} m w) back = onward (makes_goes g x y m (walk-append w back)) (derives_goes g w (walk-append back (walk_one m)))
 
 -- from where a module goes on, there is a way back to it
-pub goes_back : (g : Grammar) (a b : ℕ) → GoesOn g a b → Walk (GoesOn g) b a
+goes_back : (g : Grammar) (a b : ℕ) → GoesOn g a b → Walk (GoesOn g) b a
 goes_back g a b h = derives_goes g (subst (λ z. Derives g z a) h.2 h.1.1) (walk_one (goes_makes g a b h))
 
 pub walks_back : (g : Grammar) {a b : ℕ} → Walk (GoesOn g) a b → Walk (GoesOn g) b a
@@ -59,7 +59,7 @@ by_join g (suc n) k a b c h i =
     let q : GoesOnBy g (suc (n + k)) a c = (h.0, h.1, by_join g n k h.0 b c h.2 i) in
     subst (λ j. GoesOnBy g j a c) e q
 
-pub goes_same : (g : Grammar) → IsLinear g → (a b c : ℕ) → GoesOn g a b → GoesOn g a c → b ≡ c
+goes_same : (g : Grammar) → IsLinear g → (a b c : ℕ) → GoesOn g a b → GoesOn g a c → b ≡ c
 goes_same g linear a b c h i = sym h.2 ∙ (ap (target_of g) (linear a h.0 i.0 h.1 i.1) ∙ i.2)
 
 pub by_same : (g : Grammar) → IsLinear g → (n a b c : ℕ) → GoesOnBy g n a b → GoesOnBy g n a c → b ≡ c

@@ -1,16 +1,16 @@
 -- Cycles are numbered by their least modules.
-use Rattle.std.proofs.Common.{◌≡◌, ◌≢◌, ℕ, zero, suc, ◌+◌, ◌<◌, ◌≤◌, ◌⊎◌, ◌∙◌, List, [], ◌∷◌, ◌++◌, map, length, get_or, replicate, Option, None, Some, refl, sym, ap, subst, inl, inr, ⊎_elim, arith}
-use Rattle.std.proofs.lemmas.List.{get_or_append_left, get_or_push, length_push, map_push, length-map, get_or_past}
+use Rattle.std.proofs.Common.{◌≡◌, ℕ, zero, suc, ◌+◌, ◌<◌, ◌≤◌, ◌⊎◌, ◌∙◌, List, [], ◌∷◌, ◌++◌, map, length, get_or, Option, None, Some, refl, sym, ap, subst, inl, inr, ⊎_elim, arith}
+use Rattle.std.proofs.lemmas.List.{get_or_append_left, get_or_push, length_push, map_push, get_or_past}
 use Rattle.wf_model.specs.Lists.{IsIn, IsAt, Walk}
 use Rattle.wf_model.specs.Grammar.{Grammar}
 use Rattle.wf_model.specs.WellFormed.{IsWellFormed}
 use Rattle.wf_model.specs.Linear.{IsLinear, IsOnCycle, GoesOn, GoesOnBy, IsLeast}
 use Rattle.wf_model.proofs.Lists.{in_append_left, in_append_right, in_append_cases, in_map, at_in, at_below, is_at}
 use Rattle.wf_recur.specs.Cycles.{OnSeen, least_of, IsRound, StandsAt, AreCyclesOf}
-use Rattle.wf_recur.specs.Rounds.{IsPlaced, IsClosed, IsPlaceOn, ArePlaced, IsRoundFrom, AreCyclesBelow, AreRoundsBelow}
+use Rattle.wf_recur.specs.Rounds.{IsPlaced, IsPlaceOn, ArePlaced, IsRoundFrom, AreCyclesBelow, AreRoundsBelow}
 use Rattle.wf_recur.proofs.Lists.{each_more}
 use Rattle.wf_recur.proofs.Going.{walks_back, walk_on_cycle, by_walk, by_more, by_same}
-use Rattle.wf_recur.proofs.Stepping.{continues_below}
+use Rattle.wf_recur.proofs.Telling.{continues_below}
 use Rattle.wf_recur.proofs.Ways.{less_or_same, less_or_not, none_some, closed_walk}
 
 -- what stands in a list with one more at its end
@@ -84,10 +84,13 @@ module _ (g : Grammar) (n : ℕ) (rounds : List (List ℕ)) (on : List (Option O
 
   module _ (linear : IsLinear g) (round : List ℕ) (after : List (Option OnSeen)) (cycle : IsOnCycle g n) (none : get_or on n None ≡ None) (found : IsRoundFrom g n round) (placed : ArePlaced g (length rounds) round on after) where
     is_least : IsLeast g n
-    is_least = (cycle, λ k w. ⊎_elim
-        (λ l. absurd (let p = closed_walk g on below.closed (walks_back g w) (below.placed k l (walk_on_cycle g (walks_back g w) cycle)) in none_some (get_or on n None) p.0 none p.1))
-        (λ l. l)
-        (less_or_not k n))
+    is_least = (
+      cycle,
+      λ k w. ⊎_elim
+          (λ l. absurd (let p = closed_walk g on below.closed (walks_back g w) (below.placed k l (walk_on_cycle g (walks_back g w) cycle)) in none_some (get_or on n None) p.0 none p.1))
+          (λ l. l)
+          (less_or_not k n),
+    )
 
     size : length (rounds ++ round ∷ []) ≡ length rounds + 1
     size = length_push rounds round
@@ -131,13 +134,13 @@ module _ (g : Grammar) (n : ℕ) (rounds : List (List ℕ)) (on : List (Option O
     next_on : (j b : ℕ) → j < length round → GoesOn g (get_or round j 0) b → IsPlaced after b
     next_on j b h s = ⊎_elim
         (λ l.
-            let met : get_or round (suc j) 0 ≡ b = by_same g linear (suc j) first (get_or round (suc j) 0) b (found.whole.places (suc j) l).0 way in
-            subst (IsPlaced after) met (placed.each (suc j) l))
+        let met : get_or round (suc j) 0 ≡ b = by_same g linear (suc j) first (get_or round (suc j) 0) b (found.whole.places (suc j) l).0 way in
+        subst (IsPlaced after) met (placed.each (suc j) l))
         (λ l.
-            let e : suc j ≡ length round = omega arith in
-            let some : 0 < length round = omega arith in
-            let met : first ≡ b = by_same g linear (suc j) first first b (subst (λ k. GoesOnBy g k first first) (sym e) found.whole.whole.1) way in
-            subst (IsPlaced after) met (placed.each 0 some))
+        let e : suc j ≡ length round = omega arith in
+        let some : 0 < length round = omega arith in
+        let met : first ≡ b = by_same g linear (suc j) first first b (subst (λ k. GoesOnBy g k first first) (sym e) found.whole.whole.1) way in
+        subst (IsPlaced after) met (placed.each 0 some))
         (less_or_not (suc j) (length round))
       where
         first : ℕ

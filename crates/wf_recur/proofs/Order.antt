@@ -1,5 +1,5 @@
 -- Lists in order: each element stands before all later ones.
-use Rattle.std.proofs.Common.{◌≡◌, ℕ, zero, suc, ◌+◌, ◌<◌, ◌≤◌, ◌⊎◌, Bool, true, false, cond, List, [], ◌∷◌, ◌++◌, map, flat_map, filter, refl, sym, ap, subst, inl, inr, ⊎_elim, arith}
+use Rattle.std.proofs.Common.{ℕ, zero, suc, ◌<◌, ◌≤◌, Bool, true, false, cond, List, [], ◌∷◌, ◌++◌, map, flat_map, filter, refl, sym, subst, inl, inr, ⊎_elim, arith}
 use Rattle.wf_model.specs.Lists.{IsIn, numbers_from}
 use Rattle.wf_model.proofs.Lists.{in_append_cases, in_map_from, in_filter_from, in_flat_map_from}
 
@@ -31,7 +31,7 @@ map_in_order R S f keeps (x ∷ xs) h = (
   map_in_order R S f keeps xs h.1,
 )
 
-pub append_in_order : {A : Type 0} (R : A → A → Type 0) (xs ys : List A) → InOrder R xs → InOrder R ys → ((x y : A) → IsIn x xs → IsIn y ys → R x y) → InOrder R (xs ++ ys)
+append_in_order : {A : Type 0} (R : A → A → Type 0) (xs ys : List A) → InOrder R xs → InOrder R ys → ((x y : A) → IsIn x xs → IsIn y ys → R x y) → InOrder R (xs ++ ys)
 append_in_order R [] ys h i across = i
 append_in_order R (x ∷ xs) ys h i across = (
   λ y j. ⊎_elim (λ a. h.0 y a) (λ b. across x y (inl refl) b) (in_append_cases y xs ys j),

@@ -1,5 +1,5 @@
 -- The steps of a module that lead back to it.
-use Rattle.std.proofs.Common.{◌≡◌, ◌↔◌, ℕ, suc, ◌+◌, ◌<◌, ◌≤◌, ◌∙◌, Bool, true, false, List, [], ◌∷◌, ◌++◌, map, flat_map, filter, length, get_or, Option, Some, None, ◌⊎◌, refl, sym, ap, subst, inl, inr, ⊎_elim, arith, add-one, zero-add, append_assoc}
+use Rattle.std.proofs.Common.{◌≡◌, ◌↔◌, ℕ, ◌+◌, ◌<◌, ◌≤◌, ◌∙◌, Bool, List, [], ◌∷◌, ◌++◌, map, filter, length, get_or, Some, refl, sym, ap, subst, inl, inr, ⊎_elim, arith, add-one, zero-add, append_assoc}
 use Rattle.std.specs.Prelude.{◌==◌}
 use Rattle.std.proofs.lemmas.List.{get_or-map, length-map, map-append}
 use Rattle.std.proofs.lemmas.List.Elements.{filter-append}
@@ -10,18 +10,16 @@ use Rattle.wf_model.specs.Lists.{IsIn, numbers_from}
 use Rattle.wf_model.specs.Grammar.{Grammar, Position, head_of, body_of}
 use Rattle.wf_model.specs.WellFormed.{IsWellFormed}
 use Rattle.wf_model.specs.Reach.{Step, target_of}
-use Rattle.wf_model.specs.Linear.{Continues, IsOnCycle, IsLinear}
+use Rattle.wf_model.specs.Linear.{Continues, IsOnCycle}
 use Rattle.wf_model.proofs.Lists.{in_filter, in_filter_from, in_flat_map, in_flat_map_from, in_map, in_map_from, at_in, is_at}
 use Rattle.wf_model.proofs.Level.{in_numbers, numbers_in}
 use Rattle.wf_spec.specs.Bodies.{modules_at}
 use Rattle.wf_spec.specs.Tables.{productions_of}
 use Rattle.wf_spec.proofs.Tables.{numbers_from-last}
-use Rattle.wf_recur.specs.declared.fault.RecurFault.{RecurFault}
-use Rattle.wf_recur.specs.declared.fault.RecurFault.TheVariants.{TwoLoops, NoMemory}
 use Rattle.wf_recur.specs.Cycles.{step_of}
-use Rattle.wf_recur.specs.Loops.{IsBefore, HasOneLoop, IsTwoLoops, IsFaultOf}
+use Rattle.wf_recur.specs.Loops.{IsBefore}
 use Rattle.wf_recur.specs.Reaching.{AreDerived}
-use Rattle.wf_recur.specs.Steps.{steps_to, leads_back, back_steps, all_back_steps, TellsStep, AreTwoLeast, IsFaultAt, AreOnlySteps}
+use Rattle.wf_recur.specs.Steps.{steps_to, leads_back, back_steps, all_back_steps, TellsStep, AreTwoLeast}
 use Rattle.wf_recur.proofs.Heads.{headed_gives, headed_from}
 use Rattle.wf_recur.proofs.Order.{InOrder, numbers_in_order, filter_in_order, map_in_order, flat_in_order}
 
@@ -37,7 +35,7 @@ module_read xs k d ps is h =
     ∙ ap (λ (z : List Position). (get_or z k (position_of d)).module_no) (sym is)
     ∙ ap (λ (q : Position). q.module_no) (get_or-map position_of xs k d (position_of d) m))
 
-pub steps_more : (p n : ℕ) → steps_to p (n + 1) ≡ steps_to p n ++ record { production = p; position = n } ∷ []
+steps_more : (p n : ℕ) → steps_to p (n + 1) ≡ steps_to p n ++ record { production = p; position = n } ∷ []
 steps_more p n =
     ap (steps_to p) (add-one n)
     ∙ ap (map step) (numbers_from-last 0 n)
@@ -63,7 +61,7 @@ step_in p n s i =
     (ap (λ (z : Step). z.production) r.2, omega arith)
 
 -- they are the continuing steps
-pub back_continue : (g : Grammar) (rows : List (List Bool)) (m : ℕ) → IsWellFormed g → AreDerived g rows → (s : Step) → IsIn s (all_back_steps g rows m) ↔ Continues g m s
+back_continue : (g : Grammar) (rows : List (List Bool)) (m : ℕ) → IsWellFormed g → AreDerived g rows → (s : Step) → IsIn s (all_back_steps g rows m) ↔ Continues g m s
 back_continue g rows m w derived s = (
   λ i.
       let r = in_flat_map_from (back_steps g rows m) s (productions_of g m) i in
@@ -83,7 +81,7 @@ back_continue g rows m w derived s = (
       (((derived.each (target_of g s) (target_below g w s c.0.in_range c.0.position)).told m).1 c.1)),
 )
 
-pub back_in_order : (g : Grammar) (rows : List (List Bool)) (m : ℕ) → InOrder IsBefore (all_back_steps g rows m)
+back_in_order : (g : Grammar) (rows : List (List Bool)) (m : ℕ) → InOrder IsBefore (all_back_steps g rows m)
 back_in_order g rows m =
     flat_in_order (λ (a b : ℕ). a < b) IsBefore (back_steps g rows m) each across (productions_of g m)
     (filter_in_order (λ (a b : ℕ). a < b) (λ k. head_of g k == m) (numbers_from 0 (length g.productions)) (numbers_in_order 0 (length g.productions)))
@@ -102,6 +100,13 @@ back_in_order g rows m =
 -- a list that has exactly the continuing steps of a module
 abbrev pub Lists : Grammar → ℕ → List StepHeld → Type 0
 Lists g m xs = (s : Step) → IsIn s (map step_of xs) ↔ Continues g m s
+
+-- the list of the steps that lead back, as it is held
+pub back_listed : (g : Grammar) (rows : List (List Bool)) (m : ℕ) → IsWellFormed g → AreDerived g rows → (xs : List StepHeld) → map step_of xs ≡ all_back_steps g rows m → Lists g m xs × InOrder IsBefore (map step_of xs)
+back_listed g rows m w derived xs e = (
+  λ s. subst (λ (l : List Step). IsIn s l ↔ Continues g m s) (sym e) (back_continue g rows m w derived s),
+  subst (InOrder IsBefore) (sym e) (back_in_order g rows m),
+)
 
 pub none_listed : (g : Grammar) (m : ℕ) (xs : List StepHeld) → Lists g m xs → length xs ≡ 0 → ¬ IsOnCycle g m
 none_listed g m [] listed h c = (listed c.0).1 c.1
@@ -122,35 +127,3 @@ two_listed g m (x ∷ (y ∷ xs)) d e listed order h = record {
   first_least = λ s c no. ⊎_elim (λ z. absurd (no z)) (λ i. order.0 s i) ((listed s).1 c);
   second_least = λ s c no nor. ⊎_elim (λ z. absurd (no z)) (λ i. ⊎_elim (λ z. absurd (nor z)) (λ j. order.1.0 s j) i) ((listed s).1 c);
 }
-
--- a module of which a step, or none, is told has one loop at most
-pub one_loop : (g : Grammar) (m : ℕ) (o : Option StepHeld) → TellsStep g m o → HasOneLoop g m
-one_loop g m None h s t c d = absurd (h (s, c))
-one_loop g m (Some x) h s t c d = h.1 s c ∙ sym (h.1 t d)
-
-pub continues_below : (g : Grammar) → IsWellFormed g → (m : ℕ) (s : Step) → Continues g m s → m < length g.modules
-continues_below g w m s c = subst (λ k. k < length g.modules) c.0.head (w.heads s.production c.0.in_range)
-
-pub steps_linear : (g : Grammar) → IsWellFormed g → (steps : List (Option StepHeld)) → AreOnlySteps g steps → IsLinear g
-steps_linear g w steps only m s t c d = one_loop g m (get_or steps m None) (only.told m (continues_below g w m s c)) s t c d
-
-pub step_told : (g : Grammar) (steps : List (Option StepHeld)) (m : ℕ) (s : StepHeld) → AreOnlySteps g steps → m < length g.modules → get_or steps m None ≡ Some s → Continues g m (step_of s)
-step_told g steps m s only h e = (subst (TellsStep g m) e (only.told m h)).0
-
-pub none_told : (g : Grammar) (steps : List (Option StepHeld)) (m : ℕ) → AreOnlySteps g steps → m < length g.modules → get_or steps m None ≡ None → ¬ IsOnCycle g m
-none_told g steps m only h e = subst (TellsStep g m) e (only.told m h)
-
--- the fault of the first module with two continuing steps is that of the grammar
-pub fault_first : (g : Grammar) (m : ℕ) (steps : List (Option StepHeld)) → ((k : ℕ) → k < m → TellsStep g k (get_or steps k None)) → (f : RecurFault) → (f ≡ NoMemory) ⊎ IsFaultAt g m f → (f ≡ NoMemory) ⊎ IsFaultOf g f
-fault_first g m steps told NoMemory h = inl refl
-fault_first g m steps told (TwoLoops k s t) (inl e) = inl e
-fault_first g m steps told (TwoLoops k s t) (inr h) =
-    let two = h.1 in
-    inr (subst (λ n. IsTwoLoops g n (step_of s) (step_of t)) (sym h.0) (record {
-      first_continues = two.first_continues;
-      second_continues = two.second_continues;
-      in_order = two.in_order;
-      first_least = two.first_least;
-      second_least = two.second_least;
-      least = λ j l. one_loop g j (get_or steps j None) (told j l);
-    }))

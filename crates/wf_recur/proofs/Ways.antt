@@ -21,20 +21,13 @@ less_or_not k n = grind arith
 same_or_other : (k n : ℕ) → (k ≡ n) ⊎ (k ≢ n)
 same_or_other k n = ⊎_elim (λ l. inr (λ e. absurd (omega arith))) (λ l. ⊎_elim (λ m. inr (λ e. absurd (omega arith))) (λ m. inl (omega arith)) (less_or_not n k)) (less_or_not k n)
 
-pub some_same : {A : Type 0} (x y : A) → Some x ≡ Some y → x ≡ y
+some_same : {A : Type 0} (x y : A) → Some x ≡ Some y → x ≡ y
 some_same x y e = ap (λ o. unwrap_or o x) e
 
 pub none_some : {A : Type 0} (o : Option A) (x : A) → o ≡ None → o ≡ Some x → ⊥
 none_some o x e f = cc
 
-pub way_first : (g : Grammar) (m : ℕ) → IsWay g m [] m
-way_first g m = record {
-  goes = λ j h. absurd (omega arith);
-  to = refl;
-  differ = λ i j h k. absurd (omega arith);
-}
-
-pub way_more : (g : Grammar) (from : ℕ) (round : List ℕ) (m : ℕ) (s : Step) → IsWay g from round m → Continues g m s → ((j : ℕ) → j < length round → get_or round j 0 ≢ m) → IsWay g from (round ++ m ∷ []) (target_of g s)
+way_more : (g : Grammar) (from : ℕ) (round : List ℕ) (m : ℕ) (s : Step) → IsWay g from round m → Continues g m s → ((j : ℕ) → j < length round → get_or round j 0 ≢ m) → IsWay g from (round ++ m ∷ []) (target_of g s)
 way_more g from round m s way c new = record {
   goes = λ j h. each_more (λ j x. GoesOnBy g j from x) round (length round) m 0 refl way.goes way.to j (omega (arith, size));
   to = subst (λ n. GoesOnBy g n from (target_of g s)) more (by_more g (length round) from m (target_of g s) way.to (s, c, refl));
@@ -57,20 +50,12 @@ set_keeps on m k n o none e = ⊎_elim
     (λ d. get_or-set_other on m k (Some n) None d ∙ e)
     (same_or_other k m)
 
-pub unplaced_less : (on : List (Option OnSeen)) (m : ℕ) (n : OnSeen) → m < length on → get_or on m None ≡ None → unplaced (set on m (Some n)) + 1 ≡ unplaced on
+unplaced_less : (on : List (Option OnSeen)) (m : ℕ) (n : OnSeen) → m < length on → get_or on m None ≡ None → unplaced (set on m (Some n)) + 1 ≡ unplaced on
 unplaced_less on m n h none =
     let f = λ (o : Option OnSeen). cond {A = ℕ} (is_none o) 1 0 in
     let e : unplaced (set on m (Some n)) + f (get_or on m None) ≡ unplaced on + 0 = sum_by-set f on m (Some n) None h in
     let d : f (get_or on m None) ≡ 1 = ap f none in
     omega arith
-
-pub placed_first : (g : Grammar) (cycle : ℕ) (on : List (Option OnSeen)) → ArePlaced g cycle [] on on
-placed_first g cycle on = record {
-  count = refl;
-  old = λ m o e. e;
-  new = λ m o e. inl e;
-  each = λ j h. absurd (omega arith);
-}
 
 module _ (g : Grammar) (cycle : ℕ) (round : List ℕ) (before on : List (Option OnSeen)) (m : ℕ) (s : Step) (placed : ArePlaced g cycle round before on) (within : m < length on) (none : get_or on m None ≡ None) (step : Continues g m s) where
   abbrev own : OnSeen
@@ -105,12 +90,12 @@ module _ (g : Grammar) (cycle : ℕ) (round : List ℕ) (before on : List (Optio
   told : (k : ℕ) (o : OnSeen) → get_or (set on m (Some own)) k None ≡ Some o → (get_or before k None ≡ Some o) ⊎ IsPlaceOn g cycle (round ++ m ∷ []) k o
   told k o e = ⊎_elim
       (λ (d : k ≡ m).
-          let same : own ≡ o = some_same own o (sym here_it_is ∙ (ap (λ z. get_or (set on m (Some own)) z None) (sym d) ∙ e)) in
-          inr (subst (λ z. IsPlaceOn g cycle (round ++ m ∷ []) z o) (sym d) (subst (IsPlaceOn g cycle (round ++ m ∷ []) m) same its_own)))
+      let same : own ≡ o = some_same own o (sym here_it_is ∙ (ap (λ z. get_or (set on m (Some own)) z None) (sym d) ∙ e)) in
+      inr (subst (λ z. IsPlaceOn g cycle (round ++ m ∷ []) z o) (sym d) (subst (IsPlaceOn g cycle (round ++ m ∷ []) m) same its_own)))
       (λ d. ⊎_elim (λ a. inl a) (λ p. inr (moved k o p)) (placed.new k o (sym (get_or-set_other on m k (Some own) None d) ∙ e)))
       (same_or_other k m)
 
-  pub placed_more : ArePlaced g cycle (round ++ m ∷ []) before (set on m (Some (record { cycle = cycle; place = length round; step = s })))
+  placed_more : ArePlaced g cycle (round ++ m ∷ []) before (set on m (Some (record { cycle = cycle; place = length round; step = s })))
   placed_more = record {
     count = length-set on m (Some own) ∙ placed.count;
     old = λ k o e. kept k o (placed.old k o e);
@@ -122,7 +107,7 @@ module _ (g : Grammar) (cycle : ℕ) (round : List ℕ) (before on : List (Optio
   }
 
   -- a module without a place is not among those of the round
-  pub not_yet : (j : ℕ) → j < length round → get_or round j 0 ≢ m
+  not_yet : (j : ℕ) → j < length round → get_or round j 0 ≢ m
   not_yet j h e = let p = placed.each j h in none_some (get_or on m None) p.0 none (subst (λ z. get_or on z None ≡ Some p.0) e p.1)
 
 pub closed_walk : (g : Grammar) (on : List (Option OnSeen)) → IsClosed g on → {a b : ℕ} → Walk (GoesOn g) a b → IsPlaced on a → IsPlaced on b
@@ -134,7 +119,7 @@ module _ (g : Grammar) (linear : IsLinear g) (from m : ℕ) (round : List ℕ) (
   back = walks_back g (by_walk g (length round) from m way.to)
 
   -- the first is met again before another is
-  pub returned : (j : ℕ) → j < length round → get_or round j 0 ≡ m → m ≡ from
+  returned : (j : ℕ) → j < length round → get_or round j 0 ≡ m → m ≡ from
   returned zero h e = sym e ∙ sym (way.goes 0 h)
   returned (suc i) h e =
       let split : length round ≡ suc i + (length round - suc i) = omega arith in
@@ -151,7 +136,7 @@ module _ (g : Grammar) (linear : IsLinear g) (from m : ℕ) (round : List ℕ) (
       absurd (way.differ 0 (suc i + soon.0) later early (sym (way.goes 0 first) ∙ met))
 
   -- a way that came back is a round
-  pub way_round : 0 < length round → m ≡ from → IsRound g round × (least_of round ≡ from)
+  way_round : 0 < length round → m ≡ from → IsRound g round × (least_of round ≡ from)
   way_round some e = (record { whole = parts.0; places = parts.1 }, is)
     where
       is : least_of round ≡ from
@@ -197,3 +182,16 @@ round_end g linear cycle from m round before after way placed closed on none met
 
     whole : IsRound g round × (least_of round ≡ from)
     whole = way_round g linear from m round way some (returned g linear from m round way place.0.place its.place its.is)
+
+-- the next module takes the next place
+pub round_more : (g : Grammar) (cycle from m : ℕ) (round round' : List ℕ) (before on on' : List (Option OnSeen)) (s : Step) (place target : ℕ) → IsWay g from round m → ArePlaced g cycle round before on → Continues g m s → get_or on m None ≡ None → m < length on
+    → round' ≡ round ++ m ∷ [] → place ≡ length round → on' ≡ set on m (Some (record { cycle = cycle; place = place; step = s })) → target ≡ target_of g s
+    → IsWay g from round' target × ArePlaced g cycle round' before on' × (length round' + unplaced on' ≡ length round + unplaced on)
+round_more g cycle from m round round' before on on' s place target way placed step none within longer number written goes = (
+  subst (λ r. IsWay g from r target) (sym longer) (subst (IsWay g from (round ++ m ∷ [])) (sym goes) (way_more g from round m s way step (not_yet g cycle round before on m s placed within none step))),
+  subst (λ r. ArePlaced g cycle r before on') (sym longer) (subst (ArePlaced g cycle (round ++ m ∷ []) before) (sym is) (placed_more g cycle round before on m s placed within none step)),
+  (let a = ap length longer in let b = length_push round m in let d = ap unplaced is in let e = unplaced_less on m (record { cycle = cycle; place = length round; step = s }) within none in omega arith),
+)
+  where
+    is : on' ≡ set on m (Some (record { cycle = cycle; place = length round; step = s }))
+    is = written ∙ ap (λ n. set on m (Some (record { cycle = cycle; place = n; step = s }))) number

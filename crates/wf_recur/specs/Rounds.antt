@@ -1,5 +1,5 @@
 -- Rounds of cycles, module by module, and where their modules stand.
-use Rattle.std.specs.Prelude.{◌≡◌, ◌≢◌, ◌⊎◌, ℕ, ◌+◌, ◌<◌, ◌≤◌, List, [], map, length, get_or, Option, None, Some, Vec, option_map, is_none, count_by}
+use Rattle.std.specs.Prelude.{◌≡◌, ◌≢◌, ◌⊎◌, ℕ, ◌<◌, ◌≤◌, List, [], map, length, get_or, Option, None, Some, Vec, option_map, is_none, count_by}
 use Rattle.std.specs.declared.alloc.Global.{Global}
 use Rattle.wf_model.specs.declared.numbers.ModNo.{ModNo}
 use Rattle.wf_model.specs.Lists.{IsIn, IsAt}

@@ -1,5 +1,5 @@
 -- The continuing steps of modules, in order, and the one of each.
-use Rattle.std.specs.Prelude.{◌≡◌, ◌≢◌, ℕ, ◌<◌, ◌⊎◌, Bool, false, List, [], map, flat_map, length, get_or, Option, None, Some}
+use Rattle.std.specs.Prelude.{◌≡◌, ◌≢◌, ℕ, ◌<◌, Bool, false, List, [], map, flat_map, length, get_or, Option, None, Some}
 use Rattle.std.specs.List.{filter}
 use Rattle.wf_model.specs.declared.body.Step.{Step as StepHeld}
 use Rattle.wf_model.specs.Lists.{numbers_from}

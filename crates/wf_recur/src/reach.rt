@@ -47,7 +47,7 @@ fn making(alloc: Global, g: &Grammar) -> Result<Vec<Vec<u32>>, AllocError>
 
 /// A row of marks for each module: those that it derives, itself among them. Fails only for want of memory.
 ///
-/// Cost: a search from each module, each with at most one look at each position of each body: with 1,024 modules and bodies whose lengths have squares of sum 65,536, about 8 million looks, and a mark for each pair of modules.
+/// Cost: a search from each module, each with at most one look at each position of each body: with 1,024 modules and bodies whose lengths have squares of sum 65,536, about 8 million looks; and a mark for each pair of modules, at most 1 MiB.
 pub fn derived(alloc: Global, g: &Grammar) -> Result<Vec<Vec<bool>>, AllocError>
     ensures { IfOk result (λ rows. AreDerived g.now.core (rows_in rows.items)) }
 {

@@ -1,9 +1,8 @@
-use Rattle.std.proofs.Common.{◌≡◌, ◌<◌, ◌+◌, ◌++◌, ◌∷◌, ◌∙◌, [], ℕ, List, Vec, length, get_or, ap, sym, subst}
+use Rattle.std.proofs.Common.{◌<◌, ◌+◌, ◌∙◌, [], ℕ, List, Vec, length, get_or, ap, sym, subst}
 use Rattle.std.specs.Prelude.{Bool}
 use Rattle.std.specs.declared.alloc.Global.{Global}
 use Rattle.std.proofs.lemmas.List.{length_push, map_push}
 use Rattle.wf_graph.specs.Graph.{HasEdge}
-use Rattle.wf_model.specs.Proper.{Makes}
 use Rattle.wf_recur.specs.Reaching.{IsRow, rows_in}
 use Rattle.wf_recur.proofs.Reaching.{made_below, row_more}
 use Rattle.wf_recur.proofs.reach.derived.Goals as goal

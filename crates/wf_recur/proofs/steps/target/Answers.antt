@@ -1,6 +1,5 @@
-use Rattle.std.proofs.Common.{◌≡◌, ◌<◌, ◌∙◌, length, ap, sym, subst}
+use Rattle.std.proofs.Common.{◌<◌, ◌∙◌, length, ap, sym, subst}
 use Rattle.wf_model.specs.Grammar.{Production}
-use Rattle.wf_model.specs.Reach.{target_of}
 use Rattle.wf_recur.specs.Cycles.{step_of}
 use Rattle.wf_recur.proofs.Stepping.{module_read, target_below}
 use Rattle.wf_recur.proofs.steps.target.Goals as goal
