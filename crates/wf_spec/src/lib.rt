@@ -13,6 +13,8 @@ mod links;
 mod module;
 mod production;
 mod rule;
+#[cfg(test)]
+mod tests;
 mod wiring;
 
 pub use checks::{check_bodies, check_modules};
