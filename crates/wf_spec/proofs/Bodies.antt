@@ -43,7 +43,7 @@ short_places modules qs h =
 few_in : (ms : List Module) → ((m : Module) → IsIn m ms → IsWellFormedModule m) → (m : ℕ) → m < length ms → IsWellFormedModule (module_in ms m)
 few_in ms h m l = let d : Module = record { name = []; inputs = []; outputs = [] } in h (module_in ms m) (at_in (get_or ms m d) m ms (is_at m ms d l))
 
-few_of : (f : ℕ → ℕ) (ms : List ℕ) → ((m : ℕ) → IsIn m ms → f m ≤ 64) → HaveFew (map f ms)
+pub few_of : (f : ℕ → ℕ) (ms : List ℕ) → ((m : ℕ) → IsIn m ms → f m ≤ 64) → HaveFew (map f ms)
 few_of f [] h k = omega arith
 few_of f (m ∷ ms) h zero = h m (inl refl)
 few_of f (m ∷ ms) h (suc k) = few_of f ms (λ x i. h x (inr i)) k

@@ -125,7 +125,7 @@ table_twice p marks ends all i k t on e h =
     let l : ends_at (place_of i) (take k all) ≤ ends_at (place_of i) all = sum_by-take-le _ all k in
     (i, h, omega arith)
 
-few_port : (counts : List ℕ) → HaveFew counts → (i : Inner) → IsPortOf counts i → i.port < 64
+pub few_port : (counts : List ℕ) → HaveFew counts → (i : Inner) → IsPortOf counts i → i.port < 64
 few_port counts few i h = let f = few i.position in omega arith
 
 -- an end that stands twice at a port breaks the rule

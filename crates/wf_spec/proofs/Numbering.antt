@@ -1,5 +1,5 @@
 -- Links turned into numbers: names that are found, and lists that are made.
-use Rattle.std.proofs.Common.{◌≡◌, ℕ, ◌+◌, ◌<◌, ◌≤◌, List, [], ◌∷◌, ◌++◌, map, length, get_or, take, Option, Some, None, bytes_eq, refl, sym, ap, ◌∙◌, subst, inl, inr, ⊎_elim, arith}
+use Rattle.std.proofs.Common.{◌≡◌, ◌⊎◌, ℕ, zero, suc, ◌<◌, ◌≤◌, List, [], ◌∷◌, ◌++◌, map, length, get_or, take, Option, Some, None, bytes_eq, refl, sym, ap, ◌∙◌, subst, inl, inr, ⊎_elim, arith}
 use Rattle.std.specs.Prelude.{position, IsSome}
 use Rattle.std.proofs.lemmas.List.{take_all, length-map}
 use Rattle.wf_model.specs.declared.body.Position.{Position as PositionHeld}
@@ -8,7 +8,7 @@ use Rattle.wf_model.specs.declared.parts.ProdPart.{ProdPart}
 use Rattle.wf_model.specs.declared.parts.EdgePart.{EdgePart}
 use Rattle.wf_model.specs.declared.parts.EntryPart.{EntryPart}
 use Rattle.wf_model.specs.declared.parts.ExitPart.{ExitPart}
-use Rattle.wf_model.specs.Lists.{IsIn}
+use Rattle.wf_model.specs.Lists.{IsIn, IsAt}
 use Rattle.wf_model.specs.Grammar.{Module, Position}
 use Rattle.wf_model.specs.Meaning.{position_of, edge_of}
 use Rattle.wf_spec.specs.declared.wiring.Wiring.{Wiring}
@@ -16,7 +16,9 @@ use Rattle.wf_spec.specs.Forming.{place_of, names_of, body_in, head_in, edge_in}
 use Rattle.wf_spec.specs.Resolving.{AreOfModules, IsEdgeIn}
 use Rattle.wf_spec.specs.Rules.{HasKnownPorts}
 use Rattle.wf_spec.specs.Wiring.{entry_of, exit_of, entry_link, exit_link, IsEntryIn, IsExitIn, IsWiringOf}
+use Rattle.wf_model.proofs.Lists.{at_is}
 use Rattle.wf_spec.proofs.Finding.{absent, present, place_within, is_in_place}
+use Rattle.wf_spec.proofs.Listing.{read_in}
 use Rattle.wf_spec.proofs.Placing.{known_modules}
 
 -- a name that a search does not find is not there
@@ -116,3 +118,29 @@ wiring_made modules p w body made head edges entries exits kept held at top edge
   exits = made_exits ∙ ap (λ b. map (exit_link modules b head) exits) at ∙ ap (λ m. map (exit_link modules (body_in modules p) m) exits) top
       ∙ ap (map (exit_link modules (body_in modules p) (head_in modules p))) exits_are;
 }
+
+-- an element of a list and one more is at its place, or is the last
+pub at_push_cases : {A : Type 0} (x : A) (j : ℕ) (old : List A) (a : A) → IsAt x j (old ++ a ∷ []) → IsAt x j old ⊎ ((j ≡ length old) × (x ≡ a))
+at_push_cases x zero [] a at = inr (refl, at)
+at_push_cases x (suc j) [] a at = absurd at
+at_push_cases x zero (y ∷ old) a at = inl at
+at_push_cases x (suc j) (y ∷ old) a at = ⊎_elim inl (λ d. inr (ap suc d.0, d.1)) (at_push_cases x j old a at)
+
+-- a relation between what is read and what is made, place by place, with one more on each side
+pub matched_more : {A B : Type 0} (R : A → B → Type 0) (read : List A) (old new : List B) (i : ℕ) (a : A) (b : B)
+    → length old ≡ i → ((j : ℕ) (x : A) (y : B) → IsAt x j read → IsAt y j old → R x y) → R a b → a ≡ get_or read i a → new ≡ old ++ b ∷ []
+    → (j : ℕ) (x : A) (y : B) → IsAt x j read → IsAt y j new → R x y
+matched_more R read old new i a b as_many all last was is j x y at_read at_new =
+    ⊎_elim (λ at. all j x y at_read at)
+    (λ d. subst (λ z. R x z) (sym d.1) (subst (λ z. R z b) (was ∙ at_is x i read a (subst (λ n. IsAt x n read) (d.0 ∙ as_many) at_read)) last))
+    (at_push_cases y j old b (subst (IsAt y j) is at_new))
+
+-- an element that is read and of which a name was said
+pub name_read : {A : Type 0} (f : A → List ℕ) (names : List (List ℕ)) (xs : List A) (i : ℕ) (x : A) (name : List ℕ) → ((y : A) → IsIn y xs → IsIn (f y) names)
+    → x ≡ get_or xs i x → i < length xs → name ≡ f x → IsIn name names
+name_read f names xs i x name all was inside is = subst (λ n. IsIn n names) (sym is) (all x (read_in xs i x was inside))
+
+-- what holds at the places before one that is past the end holds at all places
+pub holds_to_end : {A : Type 0} (Good : A → Type 0) (xs : List A) (i : ℕ) → ((j : ℕ) → j < i → (x : A) → IsAt x j xs → Good x) → length xs ≤ i
+    → (k : ℕ) → k < length xs → (x : A) → IsAt x k xs → Good x
+holds_to_end Good xs i all past k below = all k (omega arith)

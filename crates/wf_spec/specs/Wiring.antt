@@ -4,17 +4,19 @@ use Rattle.wf_model.specs.declared.body.Edge.{Edge as EdgeHeld}
 use Rattle.wf_model.specs.declared.parts.ProdPart.{ProdPart}
 use Rattle.wf_model.specs.declared.parts.EntryPart.{EntryPart}
 use Rattle.wf_model.specs.declared.parts.ExitPart.{ExitPart}
+use Rattle.wf_model.specs.declared.parts.DepsPart.{DepsPart}
 use Rattle.wf_model.specs.Lists.{IsIn, IsAt, AllDiffer}
 use Rattle.wf_model.specs.Grammar.{Module, Position, Inner}
 use Rattle.wf_model.specs.Meaning.{position_of, inner_of, edge_of}
 use Rattle.wf_spec.specs.declared.wiring.Entry.{Entry}
 use Rattle.wf_spec.specs.declared.wiring.Exit.{Exit}
 use Rattle.wf_spec.specs.declared.wiring.Wiring.{Wiring}
-use Rattle.wf_spec.specs.declared.fault.FormFault.TheVariants.{PortLinkedTwice, PortUnlinked, BodyCycle}
+use Rattle.wf_spec.specs.declared.fault.FormFault.TheVariants.{UnknownPort, PortLinkedTwice, PortUnlinked, BodyCycle, DepsOnComposite}
+use Rattle.wf_spec.specs.declared.fault.Spot.TheVariants.{Production as AtProduction, DepsAt}
 use Rattle.wf_spec.specs.Forming.{place_of, names_of, module_in, body_in, head_in, inner_input, inner_output, edge_in}
 use Rattle.wf_spec.specs.Graphs.{IsAcyclic}
-use Rattle.wf_spec.specs.Resolving.{AreOfModules, IsInputIn, IsOutputIn}
-use Rattle.wf_spec.specs.Rules.{Rule, each}
+use Rattle.wf_spec.specs.Resolving.{AreOfModules, HaveFewPorts, IsInputIn, IsOutputIn}
+use Rattle.wf_spec.specs.Rules.{Rule, each, HasKnownModules, HasKnownPorts, HasKnownPairs, IsLinkedAtMostOnce, IsLinkedAtLeastOnce, HasNoCycle, IsOfAtomic}
 
 -- an entry as it is held: an input of the head, and the input of a position to which it leads
 abbrev pub entry_of : Entry → ℕ × Inner
@@ -78,6 +80,22 @@ entered_by w = map (λ (e : Entry). e.port.0) w.entries.items
 abbrev pub left_by : Wiring → List ℕ
 left_by w = map (λ (e : Exit). e.port.0) w.exits.items
 
+-- a port of a head, as one of a single position
+abbrev pub in_head : ℕ → Inner
+in_head k = record { position = 0; port = k }
+
+-- ends stand at one of so many positions, with ports of small numbers
+abbrev pub AreSmall : ℕ → List Inner → Type 0
+AreSmall positions ends = (i : Inner) → IsIn i ends → (i.position < positions) × (i.port < 64)
+
+-- so do those of a wiring
+pub record IsSmall (w : Wiring) : Type 0 where
+  pub few_positions : length w.positions.items ≤ 64
+  pub fed : AreSmall (length w.positions.items) (fed_by w)
+  pub used : AreSmall (length w.positions.items) (used_by w)
+  pub entered : AreSmall 1 (map in_head (entered_by w))
+  pub left : AreSmall 1 (map in_head (left_by w))
+
 -- the modules of a wiring are there, and the ports that its links join, on the side that each needs
 pub record IsWithin (modules : List Module) (w : Wiring) : Type 0 where
   pub head : w.head.0 < length modules
@@ -112,3 +130,23 @@ wiring_rules modules wirings =
     each wirings IsWiredAtMostOnce PortLinkedTwice ∷
     each wirings (IsWiredAtLeastOnce modules) PortUnlinked ∷
     each wirings IsWiredForward BodyCycle ∷ []
+
+-- the rules on links and pairs, for given modules, productions and deps parts
+abbrev pub rules_on : List Module → List ProdPart → List DepsPart → List Rule
+rules_on modules productions deps =
+    each productions (HasKnownPorts modules) (λ k. UnknownPort (AtProduction k)) ∷
+    each deps (HasKnownPairs modules) (λ k. UnknownPort (DepsAt k)) ∷
+    each productions (IsLinkedAtMostOnce modules) PortLinkedTwice ∷
+    each productions (IsLinkedAtLeastOnce modules) PortUnlinked ∷
+    each productions (HasNoCycle modules) BodyCycle ∷
+    each deps (IsOfAtomic productions) DepsOnComposite ∷ []
+
+-- what the rules before these give
+pub record AreReady (names : List (List ℕ)) (modules : List Module) (productions : List ProdPart) (deps : List DepsPart) : Type 0 where
+  pub numbered : names ≡ names_of modules
+  pub few_modules : length modules ≤ 1024
+  pub few_ports : HaveFewPorts modules
+  pub ports_differ : (m : Module) → IsIn m modules → AllDiffer (m.inputs ++ m.outputs)
+  pub few_positions : (p : ProdPart) → IsIn p productions → length p.body ≤ 64
+  pub known : (p : ProdPart) → IsIn p productions → HasKnownModules names p
+  pub given : (d : DepsPart) → IsIn d deps → IsIn d.module names

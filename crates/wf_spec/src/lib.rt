@@ -17,7 +17,6 @@ mod rule;
 mod tests;
 mod wiring;
 
-pub use checks::{check_bodies, check_modules};
 pub use deps::Deps;
 pub use fault::{FormFault, Spot};
 pub use grammar::Grammar;

@@ -1,10 +1,10 @@
 // The links of productions, by numbers.
-ghost use Rattle.std.specs.Prelude.{◌≡◌, ◌<◌, ◌≤◌, ◌⊎◌, List, ℕ, [], ◌∷◌, map, length, IfOk, IfErr, MatchOption};
+ghost use Rattle.std.specs.Prelude.{◌≡◌, ◌<◌, ◌≤◌, ◌⊎◌, [], ◌∷◌, map, length, IfOk, IfErr, OnOk, MatchOption};
 ghost use Rattle.wf_model.specs.Lists.{IsIn};
 ghost use Rattle.wf_model.specs.Meaning.{position_of};
 ghost use Rattle.wf_spec.specs.Forming.{names_of, place_of, placed};
 ghost use Rattle.wf_spec.specs.Resolving.{HaveFewPorts};
-ghost use Rattle.wf_spec.specs.Rules.{HasKnownModules, HasKnownPorts, IsFirstFault, each};
+ghost use Rattle.wf_spec.specs.Rules.{HasKnownModules, HasKnownPorts, HoldsThroughout, IsFirstFault, each};
 ghost use Rattle.wf_spec.specs.Wiring.{IsWiringOf, AreWiringsOf};
 ghost use Rattle.wf_spec.specs.declared.fault.FormFault.TheVariants.{NoMemory, UnknownPort};
 ghost use Rattle.wf_spec.specs.declared.fault.Spot.TheVariants.{Production as AtProduction};
@@ -131,7 +131,7 @@ pub fn wirings_from(
     requires few_ports { HaveFewPorts modules.now }
     requires few_positions { (p : ProdPart) → IsIn p parts.now → length p.body ≤ 64 }
     requires known { (p : ProdPart) → IsIn p parts.now → HasKnownModules names.now p }
-    ensures kept { IfOk result (λ _. (p : ProdPart) → IsIn p parts.now → HasKnownPorts modules.now p) }
+    ensures kept { OnOk result (HoldsThroughout (each parts.now (HasKnownPorts modules.now) (λ k. UnknownPort (AtProduction k)))) }
     ensures wirings { IfOk result (λ ws. AreWiringsOf modules.now parts.now ws.items) }
     ensures refused { IfErr result (λ f. (f ≡ NoMemory) ⊎ IsFirstFault (each parts.now (HasKnownPorts modules.now) (λ k. UnknownPort (AtProduction k)) ∷ []) f) }
 {

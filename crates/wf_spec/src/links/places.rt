@@ -1,5 +1,6 @@
 // Places of names among a few.
 ghost use Rattle.std.specs.Prelude.{◌≡◌, ◌≤◌, length, position, bytes_eq, MatchOption};
+ghost use Rattle.std.specs.List.{list_any};
 ghost use Rattle.wf_model.specs.Lists.{IsIn};
 ghost use Rattle.wf_spec.specs.Forming.{place_of};
 
@@ -10,6 +11,13 @@ pub fn port_place(ports: &[Name], name: &[u8]) -> Option<usize>
     ensures { result ≡ position (bytes_eq name.now) ports.now }
 {
     ports.iter().position(|port| name == port.bytes())
+}
+
+/// Whether a name is one of those of ports.
+pub fn has_port(ports: &[Name], name: &[u8]) -> bool
+    ensures { result ≡ list_any (bytes_eq name.now) ports.now }
+{
+    ports.iter().any(|port| name == port.bytes())
 }
 
 /// The number of a port among ports, or nothing where it is none of them.
