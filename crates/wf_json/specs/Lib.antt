@@ -1,3 +1,4 @@
+pub mod Canonical
 pub mod Reading
 pub mod Forms
 pub mod SpecForm

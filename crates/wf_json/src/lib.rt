@@ -1,4 +1,4 @@
-//! Reading specifications from JSON.
+//! Specifications in JSON: reading them, and the canonical text of a grammar with its digest.
 #![tactic(auto)]
 
 mod fault;
@@ -6,11 +6,13 @@ mod form;
 mod parts;
 mod reading;
 mod spec;
+mod writing;
 
 pub use fault::{JsonFault, Member};
 pub use form::{FromJson, member, member_list, pair};
 pub use reading::{TextFault, read_value};
 pub use spec::read_spec;
+pub use writing::{canonical, digest};
 
 #[cfg(test)]
 mod tests;
