@@ -3,6 +3,9 @@ ghost use Rattle.sha2.specs.Sha256.{sha256};
 ghost use Rattle.std.specs.Prelude.{◌≡◌, IfOk};
 ghost use Rattle.wf_json.specs.Canonical.{canonical_of};
 
+mod list;
+mod text;
+
 use std::alloc::{AllocError, Global};
 use wf_spec::Grammar;
 

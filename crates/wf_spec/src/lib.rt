@@ -1,11 +1,13 @@
 //! Workflow grammars: the parts that a specification names, put together and tested.
 #![tactic(auto)]
 
+mod assemble;
 mod build;
 mod deps;
 mod fault;
 mod given;
 mod grammar;
+mod law;
 mod module;
 mod production;
 mod rule;
@@ -13,6 +15,7 @@ mod rule;
 pub use deps::Deps;
 pub use fault::{FormFault, Spot};
 pub use grammar::Grammar;
+pub use law::forming_law;
 pub use module::Module;
 pub use production::Production;
 pub use wf_model::{
@@ -20,4 +23,3 @@ pub use wf_model::{
     PairPart, Parts, PortNo, PortPart, PosNo, PosPart, Position, ProdNo, ProdPart, RunFault, Seq,
     Side, Step, ViewParts,
 };
-

@@ -1,0 +1,2 @@
+// Grammars put together from parts that keep all rules.
+mod heads;
