@@ -14,7 +14,8 @@ use Rattle.wf_json.specs.Reading.{IsReading, HasNoReading}
 use Rattle.wf_json.specs.SpecForm.{spec_of}
 use Rattle.wf_spec.specs.declared.fault.FormFault.{FormFault}
 use Rattle.wf_spec.specs.Forming.{grammar_of, IsFormed}
-use Rattle.wf_spec.specs.Rules.{Rule, FailsFirstAt, AllHold, IsFirstFault, AreKept, first_rules, body_rules, link_rules, FormingLaw, IsFaultOf as IsFaultOfParts}
+use Rattle.wf_spec.specs.Rules.{Rule, FailsFirstAt, AllHold, IsFirstFault, AreKept, first_rules, body_rules, link_rules, IsFaultOf as IsFaultOfParts}
+use Rattle.wf_spec.proofs.Lawful.{law}
 use Rattle.wf_check.specs.declared.fault.CheckFault.{CheckFault}
 use Rattle.wf_check.specs.declared.fault.CheckFault.TheVariants.{Unreachable, Unproductive, UnitCycle, NoMemory}
 use Rattle.wf_check.specs.Improper.{IsLeastWithout, UnitPath, IsUnitCycle, IsFirstOf, IsToldCycle, IsFaultOf as IsFaultOfGrammar}
@@ -133,45 +134,44 @@ module _ (g : Grammar) where
   one_refusal_of_grammar x y (inr p) (inl q) = absurd (none_of_proper q.0 p.0 q.1)
   one_refusal_of_grammar x y (inr p) (inr q) = p.2 ∙ sym q.2
 
-module _ (forming : FormingLaw) where
-  none_of_formed : (parts : Parts) (f : FormFault) → IsFormed parts → IsFaultOfParts parts f → ⊥
-  none_of_formed parts f formed = none_of_kept parts f ((forming parts).1 formed)
+none_of_formed : (parts : Parts) (f : FormFault) → IsFormed parts → IsFaultOfParts parts f → ⊥
+none_of_formed parts f formed = none_of_kept parts f ((law parts).1 formed)
 
-  one_refusal_of_parts : (parts : Parts) (x y : List ℕ) → RefusesParts parts x → RefusesParts parts y → x ≡ y
-  one_refusal_of_parts parts x y (inl p) (inl q) = p.2 ∙ (ap form_text (one_of_parts parts p.0 q.0 p.1 q.1) ∙ sym q.2)
-  one_refusal_of_parts parts x y (inl p) (inr q) = absurd (none_of_formed parts p.0 q.0 p.1)
-  one_refusal_of_parts parts x y (inr p) (inl q) = absurd (none_of_formed parts q.0 p.0 q.1)
-  one_refusal_of_parts parts x y (inr p) (inr q) = one_refusal_of_grammar (grammar_of parts) x y p.1 q.1
+one_refusal_of_parts : (parts : Parts) (x y : List ℕ) → RefusesParts parts x → RefusesParts parts y → x ≡ y
+one_refusal_of_parts parts x y (inl p) (inl q) = p.2 ∙ (ap form_text (one_of_parts parts p.0 q.0 p.1 q.1) ∙ sym q.2)
+one_refusal_of_parts parts x y (inl p) (inr q) = absurd (none_of_formed parts p.0 q.0 p.1)
+one_refusal_of_parts parts x y (inr p) (inl q) = absurd (none_of_formed parts q.0 p.0 q.1)
+one_refusal_of_parts parts x y (inr p) (inr q) = one_refusal_of_grammar (grammar_of parts) x y p.1 q.1
 
-  one_refusal_of_data : (d : Data) (x y : List ℕ) → RefusesData d x → RefusesData d y → x ≡ y
-  one_refusal_of_data d x y (inl p) (inl q) = p.2 ∙ (ap shape_text (one_err p.0 q.0 (sym p.1 ∙ q.1)) ∙ sym q.2)
-  one_refusal_of_data d x y (inl p) (inr q) = absurd (ok_not_err q.0 p.0 (sym q.1 ∙ p.1))
-  one_refusal_of_data d x y (inr p) (inl q) = absurd (ok_not_err p.0 q.0 (sym p.1 ∙ q.1))
-  one_refusal_of_data d x y (inr p) (inr q) = one_refusal_of_parts q.0 x y (subst (λ z. RefusesParts z x) (one_ok p.0 q.0 (sym p.1 ∙ q.1)) p.2) q.2
+one_refusal_of_data : (d : Data) (x y : List ℕ) → RefusesData d x → RefusesData d y → x ≡ y
+one_refusal_of_data d x y (inl p) (inl q) = p.2 ∙ (ap shape_text (one_err p.0 q.0 (sym p.1 ∙ q.1)) ∙ sym q.2)
+one_refusal_of_data d x y (inl p) (inr q) = absurd (ok_not_err q.0 p.0 (sym q.1 ∙ p.1))
+one_refusal_of_data d x y (inr p) (inl q) = absurd (ok_not_err p.0 q.0 (sym p.1 ∙ q.1))
+one_refusal_of_data d x y (inr p) (inr q) = one_refusal_of_parts q.0 x y (subst (λ z. RefusesParts z x) (one_ok p.0 q.0 (sym p.1 ∙ q.1)) p.2) q.2
 
-  unread : (bytes : List ℕ) (d : Data) → HasNoReading bytes → IsReading bytes d → ⊥
-  unread bytes d none h = let e : Some d ≡ None = sym h.1 ∙ none h.0 in absurd (cc)
+unread : (bytes : List ℕ) (d : Data) → HasNoReading bytes → IsReading bytes d → ⊥
+unread bytes d none h = let e : Some d ≡ None = sym h.1 ∙ none h.0 in absurd (cc)
 
-  -- the bytes of a specification have one refusal
-  pub one_refusal : (bytes x y : List ℕ) → RefusesSpec bytes x → RefusesSpec bytes y → x ≡ y
-  one_refusal bytes x y (inl p) (inl q) = p.1 ∙ sym q.1
-  one_refusal bytes x y (inl p) (inr q) = absurd (unread bytes q.0 p.0 q.1)
-  one_refusal bytes x y (inr p) (inl q) = absurd (unread bytes p.0 q.0 p.1)
-  one_refusal bytes x y (inr p) (inr q) = one_refusal_of_data q.0 x y (subst (λ d. RefusesData d x) (one_reading bytes p.0 q.0 p.1 q.1) p.2) q.2
+-- the bytes of a specification have one refusal
+pub one_refusal : (bytes x y : List ℕ) → RefusesSpec bytes x → RefusesSpec bytes y → x ≡ y
+one_refusal bytes x y (inl p) (inl q) = p.1 ∙ sym q.1
+one_refusal bytes x y (inl p) (inr q) = absurd (unread bytes q.0 p.0 q.1)
+one_refusal bytes x y (inr p) (inl q) = absurd (unread bytes p.0 q.0 p.1)
+one_refusal bytes x y (inr p) (inr q) = one_refusal_of_data q.0 x y (subst (λ d. RefusesData d x) (one_reading bytes p.0 q.0 p.1 q.1) p.2) q.2
 
-  no_refusal_of_parts : (parts : Parts) (bytes x : List ℕ) (g : Grammar) (t : TellsGrammar bytes g) → t.parts ≡ parts → RefusesParts parts x → ⊥
-  no_refusal_of_parts parts bytes x g t e (inl p) = none_of_formed t.parts p.0 t.formed (subst (λ z. IsFaultOfParts z p.0) (sym e) p.1)
-  no_refusal_of_parts parts bytes x g t e (inr p) = go (subst (λ z. RefusesGrammar (grammar_of z) x) (sym e) p.1)
-    where
-      go : RefusesGrammar (grammar_of t.parts) x → ⊥
-      go (inl q) = none_of_proper (grammar_of t.parts) q.0 t.proper q.1
-      go (inr q) = q.1 t.downward
+no_refusal_of_parts : (parts : Parts) (bytes x : List ℕ) (g : Grammar) (t : TellsGrammar bytes g) → t.parts ≡ parts → RefusesParts parts x → ⊥
+no_refusal_of_parts parts bytes x g t e (inl p) = none_of_formed t.parts p.0 t.formed (subst (λ z. IsFaultOfParts z p.0) (sym e) p.1)
+no_refusal_of_parts parts bytes x g t e (inr p) = go (subst (λ z. RefusesGrammar (grammar_of z) x) (sym e) p.1)
+  where
+    go : RefusesGrammar (grammar_of t.parts) x → ⊥
+    go (inl q) = none_of_proper (grammar_of t.parts) q.0 t.proper q.1
+    go (inr q) = q.1 t.downward
 
-  no_refusal_of_data : (d : Data) (bytes x : List ℕ) (g : Grammar) (t : TellsGrammar bytes g) → t.read.0 ≡ d → RefusesData d x → ⊥
-  no_refusal_of_data d bytes x g t e (inl p) = ok_not_err t.parts p.0 (sym t.read.2 ∙ (ap spec_of e ∙ p.1))
-  no_refusal_of_data d bytes x g t e (inr p) = no_refusal_of_parts p.0 bytes x g t (one_ok t.parts p.0 (sym t.read.2 ∙ (ap spec_of e ∙ p.1))) p.2
+no_refusal_of_data : (d : Data) (bytes x : List ℕ) (g : Grammar) (t : TellsGrammar bytes g) → t.read.0 ≡ d → RefusesData d x → ⊥
+no_refusal_of_data d bytes x g t e (inl p) = ok_not_err t.parts p.0 (sym t.read.2 ∙ (ap spec_of e ∙ p.1))
+no_refusal_of_data d bytes x g t e (inr p) = no_refusal_of_parts p.0 bytes x g t (one_ok t.parts p.0 (sym t.read.2 ∙ (ap spec_of e ∙ p.1))) p.2
 
-  -- bytes that tell a grammar have none
-  pub no_refusal : (bytes x : List ℕ) (g : Grammar) → TellsGrammar bytes g → RefusesSpec bytes x → ⊥
-  no_refusal bytes x g t (inl p) = unread bytes t.read.0 p.0 t.read.1
-  no_refusal bytes x g t (inr p) = no_refusal_of_data p.0 bytes x g t (one_reading bytes t.read.0 p.0 t.read.1 p.1) p.2
+-- bytes that tell a grammar have none
+pub no_refusal : (bytes x : List ℕ) (g : Grammar) → TellsGrammar bytes g → RefusesSpec bytes x → ⊥
+no_refusal bytes x g t (inl p) = unread bytes t.read.0 p.0 t.read.1
+no_refusal bytes x g t (inr p) = no_refusal_of_data p.0 bytes x g t (one_reading bytes t.read.0 p.0 t.read.1 p.1) p.2

@@ -1,4 +1,5 @@
 pub mod Words
+pub mod Called
 pub mod Answers
 pub mod Refusals
 pub mod Endings

@@ -110,18 +110,29 @@ instance_most = 16777216
 abbrev pub SpecStage : File → (Grammar → End → List ℕ → Type 0) → End → List ℕ → Type 0
 SpecStage spec = Stage short_most Spec spec TellsGrammar RefusesSpec
 
+-- the text of a grammar, with its ranks and choices, is written
+abbrev pub IsChecked : Grammar → End → List ℕ → Type 0
+IsChecked g ending text = (ending ≡ Done) × ((r : Ranking) × IsRankingOf g r × (text ≡ check_text_of g r))
+
 -- `check` over SPEC: the text of its grammar
 abbrev pub Checks : File → End → List ℕ → Type 0
-Checks spec = SpecStage spec (λ g ending text. (ending ≡ Done) × ((r : Ranking) × IsRankingOf g r × (text ≡ check_text_of g r)))
+Checks spec = SpecStage spec IsChecked
+
+-- QUERIES, answered on a run under a view
+abbrev pub Answers : Grammar → ViewOf → List Event → File → End → List ℕ → Type 0
+Answers g u e queries = Stage long_most Queries queries TellsLines (IsNotBuilt TellsLines) (AreAnswered g u e)
+
+-- EVENTS and QUERIES under a view
+abbrev pub AnswersRun : Grammar → ViewOf → File → File → End → List ℕ → Type 0
+AnswersRun g u events queries = Stage long_most Events events (TellsRun g u instance_most) (IsNotBuilt (TellsRun g u instance_most)) (λ e. Answers g u e queries)
+
+-- VIEW, EVENTS and QUERIES of a grammar
+abbrev pub AnswersView : Grammar → File → File → File → End → List ℕ → Type 0
+AnswersView g view events queries = Stage short_most View view (TellsView g) (IsNotBuilt (TellsView g)) (λ u. AnswersRun g u events queries)
 
 -- `trace` over the four files
 abbrev pub Traces : File → File → File → File → End → List ℕ → Type 0
-Traces spec view events queries =
-    SpecStage spec (λ g.
-    Stage short_most View view (TellsView g) (IsNotBuilt (TellsView g)) (λ u.
-    Stage long_most Events events (TellsRun g u instance_most) (IsNotBuilt (TellsRun g u instance_most)) (λ e.
-    Stage long_most Queries queries TellsLines (IsNotBuilt TellsLines) (λ ls.
-    AreAnswered g u e ls))))
+Traces spec view events queries = SpecStage spec (λ g. AnswersView g view events queries)
 
 -- what a command does over files
 abbrev pub Does : (List ℕ → File) → Option Command → End → List ℕ → Type 0

@@ -1,14 +1,16 @@
 -- What the bytes of a specification tell: a grammar, or why they are refused.
-use Rattle.std.specs.Prelude.{◌≡◌, ◌⊎◌, ℕ, ◌<◌, List, length, Ok, Err, codes}
+use Rattle.std.specs.Prelude.{◌≡◌, ◌⊎◌, ℕ, ◌<◌, nat_lt, Bool, List, length, Ok, Err, codes}
+use Rattle.std.specs.List.{list_all}
 use Rattle.serde_json.specs.Data.{Data}
 use Rattle.wf_model.specs.declared.parts.Parts.{Parts}
 use Rattle.wf_model.specs.Lists.{IsIn}
-use Rattle.wf_model.specs.Grammar.{Grammar, head_of, body_of}
+use Rattle.wf_model.specs.Grammar.{Grammar, Production, head_of, body_of}
 use Rattle.wf_model.specs.Proper.{IsProper}
 use Rattle.wf_json.specs.declared.fault.Member.{Member}
 use Rattle.wf_json.specs.Reading.{IsReading, HasNoReading}
 use Rattle.wf_json.specs.SpecForm.{spec_of}
 use Rattle.wf_spec.specs.declared.fault.FormFault.{FormFault}
+use Rattle.wf_spec.specs.Bodies.{modules_at}
 use Rattle.wf_spec.specs.Forming.{grammar_of, IsFormed}
 use Rattle.wf_spec.specs.Rules.{IsFaultOf as IsFaultOfParts}
 use Rattle.wf_check.specs.declared.fault.CheckFault.{CheckFault}
@@ -18,6 +20,10 @@ use Rattle.wf_top.specs.Refusals.{shape_text, form_text, check_text}
 -- the bytes are a specification in JSON
 abbrev pub IsSpecText : List ℕ → Parts → Type 0
 IsSpecText bytes parts = (d : Data) × IsReading bytes d × (spec_of d ≡ Ok parts)
+
+-- the modules of a body have greater numbers than the head
+abbrev pub leads_down : Production → Bool
+leads_down r = list_all (λ m. nat_lt r.head m) (modules_at r.positions)
 
 -- a body has modules of greater number than its head's alone, so the grammar is not recursive
 abbrev pub IsDownward : Grammar → Type 0

@@ -1,5 +1,5 @@
 // The line that err gets.
-ghost use Rattle.std.specs.Prelude.{◌≡◌};
+ghost use Rattle.std.specs.Prelude.{◌≡◌, ◌++◌, codes};
 ghost use Rattle.wf_top.specs.Endings.{end_of, status_of, word_of, line_of, Refused, ReadFault};
 ghost use Rattle.wf_top.specs.Refusals.{refusal_text};
 ghost use Rattle.wf_top.specs.Meets.{IsPut, Puts};
@@ -43,14 +43,21 @@ fn put_read_fault<E: Sink>(err: &mut E, place: Place) -> Result<(), Failed>
     put_two(err, word_of(place), b"\n")
 }
 
+/// Puts a refusal and the end of its line.
+fn put_cause<E: Sink>(err: &mut E, refusal: &Refusal) -> Result<(), Failed>
+    ensures { Puts E.put_bytes E.faults E.at_last (codes ": " ++ (refusal_text refusal.now ++ codes "\n")) err.old err.new result }
+{
+    put(err, b": ")?;
+    put_refusal(err, refusal)?;
+    put(err, b"\n")
+}
+
 fn put_refused<E: Sink>(err: &mut E, place: Place, refusal: &Refusal) -> Result<(), Failed>
     ensures { Puts E.put_bytes E.faults E.at_last (line_of (Refused place (refusal_text refusal.now))) err.old err.new result }
 {
     put(err, b"refused: ")?;
     put(err, word_of(place))?;
-    put(err, b": ")?;
-    put_refusal(err, refusal)?;
-    put(err, b"\n")
+    put_cause(err, refusal)
 }
 
 /// Puts the line of an ending, and nothing at Done.
