@@ -114,12 +114,12 @@ module _ (g : Grammar) where
   -- unit productions lead along
   unit_walk : (ps : List ℕ) (a b : ℕ) → UnitPath g a ps b → Walk (Becomes g) a b
   unit_walk [] a b h = subst (λ z. Walk (Becomes g) a z) h here
-  unit_walk (p ∷ ps) a b h = onward (p, (h.0, (h.1, only_in (body_of g p) h.1))) (unit_walk ps (get_or (body_of g p) 0 0) b h.2)
+  unit_walk (p ∷ ps) a b h = onward (p, h.0, h.1, only_in (body_of g p) h.1) (unit_walk ps (get_or (body_of g p) 0 0) b h.2)
 
   no_cycle : (m : ℕ) (ps : List ℕ) → IsProper g → IsUnitCycle g m ps → ⊥
   no_cycle m [] proper h = let none = h.0 in absurd (omega arith)
   no_cycle m (p ∷ ps) proper h =
-      proper.no_unit_loop m (get_or (body_of g p) 0 0) (p, (h.1.0, (h.1.1, only_in (body_of g p) h.1.1))) (unit_walk ps (get_or (body_of g p) 0 0) m h.1.2)
+      proper.no_unit_loop m (get_or (body_of g p) 0 0) (p, h.1.0, h.1.1, only_in (body_of g p) h.1.1) (unit_walk ps (get_or (body_of g p) 0 0) m h.1.2)
 
   -- a proper grammar has none
   none_of_proper : (f : CheckFault) → IsProper g → IsFaultOfGrammar g f → ⊥
@@ -144,10 +144,10 @@ one_refusal_of_parts parts x y (inr p) (inl q) = absurd (none_of_formed parts q.
 one_refusal_of_parts parts x y (inr p) (inr q) = one_refusal_of_grammar (grammar_of parts) x y p.1 q.1
 
 one_refusal_of_data : (d : Data) (x y : List ℕ) → RefusesData d x → RefusesData d y → x ≡ y
-one_refusal_of_data d x y (inl p) (inl q) = p.2 ∙ (ap shape_text (one_err p.0 q.0 (sym p.1 ∙ q.1)) ∙ sym q.2)
-one_refusal_of_data d x y (inl p) (inr q) = absurd (ok_not_err q.0 p.0 (sym q.1 ∙ p.1))
-one_refusal_of_data d x y (inr p) (inl q) = absurd (ok_not_err p.0 q.0 (sym p.1 ∙ q.1))
-one_refusal_of_data d x y (inr p) (inr q) = one_refusal_of_parts q.0 x y (subst (λ z. RefusesParts z x) (one_ok p.0 q.0 (sym p.1 ∙ q.1)) p.2) q.2
+one_refusal_of_data d x y (inl p) (inl q) = p.2 ∙ (ap shape_text (one_err (spec_of d) p.0 q.0 p.1 q.1) ∙ sym q.2)
+one_refusal_of_data d x y (inl p) (inr q) = absurd (ok_not_err (spec_of d) q.0 p.0 q.1 p.1)
+one_refusal_of_data d x y (inr p) (inl q) = absurd (ok_not_err (spec_of d) p.0 q.0 p.1 q.1)
+one_refusal_of_data d x y (inr p) (inr q) = one_refusal_of_parts q.0 x y (subst (λ z. RefusesParts z x) (one_ok (spec_of d) p.0 q.0 p.1 q.1) p.2) q.2
 
 unread : (bytes : List ℕ) (d : Data) → HasNoReading bytes → IsReading bytes d → ⊥
 unread bytes d none h = let e : Some d ≡ None = sym h.1 ∙ none h.0 in absurd (cc)
@@ -168,8 +168,8 @@ no_refusal_of_parts parts bytes x g t e (inr p) = go (subst (λ z. RefusesGramma
     go (inr q) = q.1 t.downward
 
 no_refusal_of_data : (d : Data) (bytes x : List ℕ) (g : Grammar) (t : TellsGrammar bytes g) → t.read.0 ≡ d → RefusesData d x → ⊥
-no_refusal_of_data d bytes x g t e (inl p) = ok_not_err t.parts p.0 (sym t.read.2 ∙ (ap spec_of e ∙ p.1))
-no_refusal_of_data d bytes x g t e (inr p) = no_refusal_of_parts p.0 bytes x g t (one_ok t.parts p.0 (sym t.read.2 ∙ (ap spec_of e ∙ p.1))) p.2
+no_refusal_of_data d bytes x g t e (inl p) = ok_not_err (spec_of d) t.parts p.0 (sym (ap spec_of e) ∙ t.read.2) p.1
+no_refusal_of_data d bytes x g t e (inr p) = no_refusal_of_parts p.0 bytes x g t (one_ok (spec_of d) t.parts p.0 (sym (ap spec_of e) ∙ t.read.2) p.1) p.2
 
 -- bytes that tell a grammar have none
 pub no_refusal : (bytes x : List ℕ) (g : Grammar) → TellsGrammar bytes g → RefusesSpec bytes x → ⊥

@@ -28,14 +28,15 @@ ok_or d r = elim r [ Ok x ↦ x | Err e ↦ d ]
 abbrev err_or : {A E : Type 0} → E → Result A E → E
 err_or d r = elim r [ Ok x ↦ d | Err e ↦ e ]
 
-pub one_ok : {A E : Type 0} (x y : A) → Ok {E = E} x ≡ Ok y → x ≡ y
-one_ok x y e = ap (ok_or x) e
+-- a result is of one value
+pub one_ok : {A E : Type 0} (r : Result A E) (x y : A) → r ≡ Ok x → r ≡ Ok y → x ≡ y
+one_ok r x y p q = ap (ok_or x) (sym p ∙ q)
 
-pub one_err : {A E : Type 0} (x y : E) → Err {T = A} x ≡ Err y → x ≡ y
-one_err x y e = ap (err_or x) e
+pub one_err : {A E : Type 0} (r : Result A E) (x y : E) → r ≡ Err x → r ≡ Err y → x ≡ y
+one_err r x y p q = ap (err_or x) (sym p ∙ q)
 
-pub ok_not_err : {A E : Type 0} (x : A) (y : E) → Ok x ≡ Err y → ⊥
-ok_not_err x y e = absurd (cc)
+pub ok_not_err : {A E : Type 0} (r : Result A E) (x : A) (y : E) → r ≡ Ok x → r ≡ Err y → ⊥
+ok_not_err r x y p q = let e = sym p ∙ q in absurd (cc)
 
 pub one_reading : (bytes : List ℕ) (d c : Data) → IsReading bytes d → IsReading bytes c → d ≡ c
 one_reading bytes d c p q = some_same d c (sym p.1 ∙ q.1)

@@ -1,9 +1,11 @@
 -- What was appended to a sink that may tell its bytes.
-use Rattle.std.proofs.Common.{◌≡◌, ℕ, ◌+◌, Bool, List, [], ◌++◌, length, take, Option, Some, None, option_map, min, refl, sym, ap, ◌∙◌, subst, inl, inr, arith, append_assoc, append-nil}
-use Rattle.std.specs.Prelude.{Result, Ok, Err, IsErrAnd}
+use Rattle.std.proofs.Common.{◌≡◌, ℕ, ◌+◌, ◌<◌, Bool, List, [], ◌++◌, length, get_or, map, take, drop, Option, Some, None, option_map, min, refl, sym, ap, ◌∙◌, subst, inl, inr, arith, append_assoc, append-nil}
+use Rattle.std.specs.Prelude.{Result, Ok, Err, IsErrAnd, codes, decimal}
 use Rattle.std.proofs.Math.Seq.{take-append-add}
-use Rattle.std.proofs.lemmas.List.{take-append-le, take_min}
+use Rattle.std.proofs.lemmas.List.{take-append-le, take_min, drop_more}
+use Rattle.wf_model.specs.declared.numbers.ProdNo.{ProdNo}
 use Rattle.wf_io.specs.Told.{Rose}
+use Rattle.wf_top.specs.Refusals.{numbers_text}
 use Rattle.wf_top.specs.Meets.{Appended, IsPut, Puts}
 
 -- nothing was appended
@@ -31,6 +33,15 @@ begun_longer k xs ys a b p = let s = shorter k xs ys in (s.0, subst (λ l. Appen
 pub begun_after : (xs ys : List ℕ) (k : ℕ) (a b c : Option (List ℕ)) → Appended xs a b → Appended (take k ys) b c → (j : ℕ) × Appended (take j (xs ++ ys)) a c
 begun_after xs ys k a b c p q = (length xs + k, subst (λ l. Appended l a c) (sym (take-append-add xs ys k)) (appended_twice xs (take k ys) a b c p q))
 
+-- the number of a production
+abbrev pub number_of : ProdNo → ℕ
+number_of p = p.0
+
+-- the text of numbers begins with that of the first
+pub numbers_next : (ps : List ProdNo) (k n : ℕ) (d : ProdNo) → k < length ps → n ≡ number_of (get_or ps k d) → numbers_text (map number_of (drop k ps)) ≡ (codes " " ++ decimal n) ++ numbers_text (map number_of (drop (k + 1) ps))
+numbers_next ps k n d h e =
+    ap (λ l. numbers_text (map number_of l)) (drop_more ps k d h) ∙ ap (λ m. (codes " " ++ decimal m) ++ numbers_text (map number_of (drop (k + 1) ps))) (sym e)
+
 -- seen from a sink
 module _ {S : Type 0} (bytes : S → Option (List ℕ)) (faults : S → ℕ) (last : S → Bool) where
   -- a piece was put, and then the rest
@@ -39,9 +50,9 @@ module _ {S : Type 0} (bytes : S → Option (List ℕ)) (faults : S → ℕ) (la
   puts_more xs ys a b c (Err e) p q = (subst (λ n. Rose n (faults c) (last c)) p.1 q.0, begun_after xs ys q.1.0 (bytes a) (bytes b) (bytes c) p.0 q.1.1)
 
   -- a piece that failed, and then nothing
-  pub puts_part : {T E : Type 0} {Q : E → Type 0} (xs ys : List ℕ) (a b : S) (r : Result T E) → IsErrAnd r Q → Rose (faults a) (faults b) (last b) × ((k : ℕ) × Appended (take k xs) (bytes a) (bytes b)) → Puts bytes faults last (xs ++ ys) a b r
-  puts_part xs ys a b (Ok v) e h = absurd e
-  puts_part xs ys a b (Err y) e h = (h.0, begun_longer h.1.0 xs ys (bytes a) (bytes b) h.1.1)
+  pub puts_part : {T E : Type 0} (Q : E → Type 0) (xs ys : List ℕ) (a b : S) (r : Result T E) → IsErrAnd r Q → Rose (faults a) (faults b) (last b) × ((k : ℕ) × Appended (take k xs) (bytes a) (bytes b)) → Puts bytes faults last (xs ++ ys) a b r
+  puts_part Q xs ys a b (Ok v) e h = absurd e
+  puts_part Q xs ys a b (Err y) e h = (h.0, begun_longer h.1.0 xs ys (bytes a) (bytes b) h.1.1)
 
   -- a piece alone
   pub puts_all : {T E : Type 0} (xs ys : List ℕ) (a b : S) (r : Result T E) → xs ≡ ys → Puts bytes faults last xs a b r → Puts bytes faults last ys a b r
@@ -77,11 +88,11 @@ module _ {S : Type 0} (bytes : S → Option (List ℕ)) (faults : S → ℕ) (la
     }
 
     -- the next piece failed
-    pub put_part : {T E : Type 0} {Q : E → Type 0} (r : Result T E) → IsErrAnd r Q → Rose (faults now) (faults new) (last new) × ((k : ℕ) × Appended (take k x) (bytes now) (bytes new)) → Puts bytes faults last all old new r
-    put_part r e h =
+    pub put_part : {T E : Type 0} (Q : E → Type 0) (r : Result T E) → IsErrAnd r Q → Rose (faults now) (faults new) (last new) × ((k : ℕ) × Appended (take k x) (bytes now) (bytes new)) → Puts bytes faults last all old new r
+    put_part Q r e h =
         let begun = begun_after so_far.done x h.1.0 (bytes old) (bytes now) (bytes new) so_far.put h.1.1 in
         puts_all ((so_far.done ++ x) ++ rest) all old new r (sym whole)
-        (puts_part (so_far.done ++ x) rest old new r e (subst (λ n. Rose n (faults new) (last new)) so_far.count h.0, begun))
+        (puts_part Q (so_far.done ++ x) rest old new r e (subst (λ n. Rose n (faults new) (last new)) so_far.count h.0, begun))
 
   -- all was put
   pub put_whole : (all left : List ℕ) (old now : S) → IsPutUpTo all left old now → left ≡ [] → Appended all (bytes old) (bytes now) × (faults now ≡ faults old)

@@ -20,7 +20,7 @@ pub enum Command<'w> {
 }
 
 /// The command that the words are, if they are one.
-pub fn command<'w>(words: &'w [&'w str]) -> Option<Command<'w>>
+pub fn command_of<'w>(words: &'w [&'w str]) -> Option<Command<'w>>
     ensures { MatchOption result (command_of (map (λ w. w.now) words.now) ≡ None) (λ c. command_of (map (λ w. w.now) words.now) ≡ Some (meant c)) }
 {
     match words {

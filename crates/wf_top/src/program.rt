@@ -9,7 +9,7 @@ ghost use Rattle.wf_top.specs.Meets.{HasEnded, EndsAsTold, EndsBy};
 ghost use Rattle.wf_top.specs.Stages.{IsCause, IsStop};
 
 use crate::check::check;
-use crate::command::{Command, command};
+use crate::command::{Command, command_of};
 use crate::ending::Ending;
 use crate::status::Status;
 use crate::tell::{status_of, tell};
@@ -49,10 +49,10 @@ fn perform<H: Shelf, O: Sink>(alloc: Global, words: &[&str], shelf: &mut H, out:
     ensures cause { IsCause (H.faults shelf.old) (H.faults shelf.new) (H.at_last shelf.new) (O.faults out.old) (O.faults out.new) (O.at_last out.new) (end_of result) }
     ensures same { H.files shelf.new ≡ H.files shelf.old }
 {
-    let Some(command) = command(words) else {
+    let Some(command) = command_of(words) else {
         return Ending::Usage;
     };
-    match obey(alloc, command, shelf, out) {
+    match obey(alloc, &command, shelf, out) {
         Ok(()) => Ending::Done,
         Err(ending) => ending,
     }
@@ -61,11 +61,11 @@ fn perform<H: Shelf, O: Sink>(alloc: Global, words: &[&str], shelf: &mut H, out:
 /// Does a command.
 fn obey<H: Shelf, O: Sink>(
     alloc: Global,
-    command: Command<'_>,
+    command: &Command<'_>,
     shelf: &mut H,
     out: &mut O,
 ) -> Result<(), Ending>
-    ensures ends { (f : List ℕ → File) → H.files shelf.old ≡ Some f → EndsBy (Does f (Some (meant command))) (end_after result) (O.put_bytes out.old) (O.put_bytes out.new) }
+    ensures ends { (f : List ℕ → File) → H.files shelf.old ≡ Some f → EndsBy (Does f (Some (meant command.now))) (end_after result) (O.put_bytes out.old) (O.put_bytes out.new) }
     ensures stop { IfErr result (λ e. IsStop (end_of e)) }
     ensures cause { IfErr result (λ e. IsCause (H.faults shelf.old) (H.faults shelf.new) (H.at_last shelf.new) (O.faults out.old) (O.faults out.new) (O.at_last out.new) (end_of e)) }
     ensures same { H.files shelf.new ≡ H.files shelf.old }
@@ -73,6 +73,6 @@ fn obey<H: Shelf, O: Sink>(
 {
     match command {
         Command::Check { spec } => check(alloc, spec, shelf, out),
-        Command::Trace { words } => trace(alloc, &words, shelf, out),
+        Command::Trace { words } => trace(alloc, words, shelf, out),
     }
 }

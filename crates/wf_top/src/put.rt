@@ -34,10 +34,8 @@ pub fn put_numbered<E: Sink>(err: &mut E, piece: &[u8], number: u64) -> Result<(
 pub fn put_numbers<E: Sink>(err: &mut E, productions: &[ProdNo]) -> Result<(), Failed>
     ensures { Puts E.put_bytes E.faults E.at_last (numbers_text (map (λ p. p.0) productions.now)) err.old err.new result }
 {
-    let mut left = productions;
-    while let [first, rest @ ..] = left {
-        put_numbered(err, b" ", u64::from(first.0))?;
-        left = rest;
+    for p in productions {
+        put_numbered(err, b" ", u64::from(p.0))?;
     }
     Ok(())
 }

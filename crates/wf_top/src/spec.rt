@@ -1,11 +1,12 @@
 // SPEC: from bytes to a grammar, with the ranks of its modules.
-ghost use Rattle.std.specs.Prelude.{◌≡◌, ◌≤◌, ℕ, List, Some, IfOk, IfErr, OnOk};
+ghost use Rattle.std.specs.Prelude.{◌≡◌, ◌⊎◌, ◌≤◌, ℕ, List, Some, IfOk, IfErr, OnOk};
 ghost use Rattle.wf_io.specs.Told.{File};
 ghost use Rattle.wf_model.specs.Proper.{IsProper};
 ghost use Rattle.wf_spec.specs.Forming.{grammar_of, IsFormed};
 ghost use Rattle.wf_check.specs.Proper.{IsRankingOf};
 ghost use Rattle.wf_top.specs.declared.ending.Place.TheVariants.{Spec as AtSpec};
-ghost use Rattle.wf_top.specs.Endings.{end_of};
+ghost use Rattle.wf_top.specs.Endings.{end_of, Refused, NoMemory};
+ghost use Rattle.wf_top.specs.Refusals.{form_text};
 ghost use Rattle.wf_top.specs.Specification.{IsSpecText, IsDownward, TellsGrammar, RefusesSpec, RefusesParts, RefusesGrammar};
 ghost use Rattle.wf_top.specs.Outcome.{short_most};
 ghost use Rattle.wf_top.specs.Stages.{Declines, IsTold, StopsAt, IsReadingCause};
@@ -49,6 +50,16 @@ fn parts_of_bytes(alloc: Global, bytes: &[u8]) -> Result<Parts, Ending>
     }
 }
 
+fn form_ending(fault: FormFault) -> Ending
+    ensures memory { fault ≡ FormFault.NoMemory → end_of result ≡ NoMemory }
+    ensures refused { (end_of result ≡ NoMemory) ⊎ (end_of result ≡ Refused AtSpec (form_text fault)) }
+{
+    match fault {
+        FormFault::NoMemory => Ending::NoMemory,
+        _ => refused(Refusal::Form { fault }),
+    }
+}
+
 /// The grammar that parts form.
 fn grammar_of_parts(alloc: Global, parts: Parts) -> Result<Grammar, Ending>
     ensures ok { IfOk result (λ g. (g.core ≡ grammar_of parts) × IsFormed parts) }
@@ -56,16 +67,14 @@ fn grammar_of_parts(alloc: Global, parts: Parts) -> Result<Grammar, Ending>
 {
     match Grammar::build(alloc, parts) {
         Ok(g) => Ok(g),
-        Err(FormFault::NoMemory) => Err(Ending::NoMemory),
-        Err(fault) => Err(refused(Refusal::Form { fault })),
+        Err(fault) => Err(form_ending(fault)),
     }
 }
 
 /// A grammar that is proper and not recursive.
 fn taken(alloc: Global, g: Grammar) -> Result<Spec, Ending>
-    ensures grammar { IfOk result (λ s. s.grammar ≡ g) }
-    ensures ok { IfOk result (λ s. IsProper g.core × IsDownward g.core) }
-    ensures ranking { IfOk result (λ s. IsRankingOf g.core s.ranking) }
+    ensures ok { IfOk result (λ s. (s.grammar ≡ g) × IsProper g.core × IsDownward g.core) }
+    ensures ranking { IfOk result (λ s. IsRankingOf s.grammar.core s.ranking) }
     ensures declines { IfErr result (λ e. Declines AtSpec (RefusesGrammar g.core) (end_of e)) }
 {
     match proper(alloc, &g) {

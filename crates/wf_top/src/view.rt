@@ -2,6 +2,7 @@
 ghost use Rattle.std.specs.Prelude.{◌≡◌, ◌⊎◌, ◌↔◌, ◌<◌, ◌+◌, ℕ, [], IsTrue, IfOk, OnOk, length, map, codes};
 ghost use Rattle.wf_model.specs.Lists.{IsIn};
 ghost use Rattle.wf_spec.specs.Held.{HeldProduction};
+ghost use Rattle.wf_model.specs.WellFormed.{IsWellFormed};
 ghost use Rattle.wf_model.specs.DefaultView.{default_view};
 ghost use Rattle.wf_flat.specs.Graph.{Agree, Marks, flag_of, IsMadeFor};
 ghost use Rattle.wf_top.specs.Outcome.{IsDefaultText};
@@ -67,6 +68,7 @@ fn set_given(rows: &mut Deps, g: &Grammar, marks: &[bool], m: ModNo) -> Result<(
 /// Cost: linear in the modules and their inputs. Fails only for want of memory.
 pub fn given_rows(alloc: Global, g: &Grammar, marks: &[bool]) -> Result<Deps, AllocError>
     requires { Marks marks.now (default_view g.now.core) }
+    ensures formed { IsWellFormed g.now.core }
     ensures made_for { IfOk result (λ d. IsMadeFor g.now.core d) }
     ensures shows { IfOk result (λ d. ShowsGiven g.now.core d) }
 {

@@ -1,4 +1,4 @@
-use Rattle.wf_top.proofs.Downward.{downward_decided}
+use Rattle.wf_top.proofs.LeadsDown.{downward_decided}
 use Rattle.wf_top.proofs.downward.is_downward.Goals as goal
 
 pub returns : goal.returns

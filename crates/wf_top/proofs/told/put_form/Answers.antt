@@ -6,7 +6,7 @@ use Rattle.wf_top.proofs.told.put_form.Goals as goal
 pub returns-in_err-put : goal.returns-in_err-put
 returns-in_err-put g c =
     let f = c.args.fault in
-    puts_part g.E.Sink.put_bytes g.E.Sink.faults g.E.Sink.at_last (form_name f) (behind_space (form_spot f)) _ _ c.from_residual.result c.from_residual.ensures.1 (rw c.form_name.ensures at c.in_err-put.ensures)
+    puts_part g.E.Sink.put_bytes g.E.Sink.faults g.E.Sink.at_last _ (form_name f) (behind_space (form_spot f)) _ _ c.from_residual.result c.from_residual.ensures.1 (rw c.form_name.ensures at c.in_err-put.ensures)
 
 pub returns : goal.returns
 returns g c =
