@@ -2,8 +2,13 @@
 #![tactic(auto)]
 
 mod check;
+mod choices;
+mod composite;
 mod fault;
 mod ranking;
+mod ranks;
+mod reach;
+mod unit;
 
 pub use check::proper;
 pub use fault::CheckFault;

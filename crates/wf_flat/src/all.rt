@@ -1,5 +1,5 @@
 // A whole list of events, as a caller takes it.
-ghost use Rattle.std.specs.Prelude.{◌≡◌, ◌<◌, ℕ, List, length, take, IfOk, IfErr, ◌⊎◌, Some};
+ghost use Rattle.std.specs.Prelude.{◌≡◌, ◌<◌, ℕ, take, IfOk, IfErr, ◌⊎◌, Some};
 ghost use Rattle.wf_model.specs.declared.event.Event.{Event};
 ghost use Rattle.wf_model.specs.declared.event.RunFault.TheVariants.{NoMemory};
 ghost use Rattle.wf_model.specs.Lists.{IsAt};

@@ -1,11 +1,9 @@
 // A run as a table of numbered instances.
-ghost use Rattle.std.specs.Prelude.{◌≡◌, ◌<◌, ◌≤◌, ◌+◌, ◌^◌, ◌++◌, ◌∷◌, [], List, ℕ, Option, Some, None, false, length, take, drop, map, position, set, get_or, IfOk, IfErr, OnOk, OnErr, IfSome, bytes_eq, ◌⊎◌};
+ghost use Rattle.std.specs.Prelude.{◌≡◌, ◌<◌, ◌≤◌, ◌+◌, ◌^◌, ◌++◌, ◌∷◌, [], List, Option, Some, None, false, length, take, position, IfOk, IfErr, OnOk, OnErr, IfSome, bytes_eq, ◌⊎◌};
 ghost use Rattle.std.specs.List.{list_all};
-ghost use Rattle.std.specs.Result.{MatchResult};
 ghost use Rattle.wf_model.specs.declared.event.Event.TheVariants.{Start, Expand};
 ghost use Rattle.wf_model.specs.declared.event.RunFault.TheVariants.{NoMemory};
 ghost use Rattle.wf_model.specs.Faults.{is_name_byte, is_short_name, some_twice, fault_of, is_one_of};
-ghost use Rattle.wf_model.specs.Grammar.{body_of};
 ghost use Rattle.wf_flat.specs.Table.{Table, IsRunOf, events_of, names_in, children, with_children, root_instance, started_table, opened_table};
 
 use std::alloc::{AllocError, Global};

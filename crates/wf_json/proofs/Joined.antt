@@ -1,11 +1,13 @@
 -- Texts that are joined by number.
-use Rattle.std.proofs.Common.{◌≡◌, ◌≢◌, ℕ, zero, suc, ◌+◌, cond, List, [], ◌∷◌, ◌++◌, length, get_or, refl, sym, ap, ◌∙◌, arith, add-one, append_assoc}
+use Rattle.std.proofs.Common.{◌≡◌, ◌≢◌, ℕ, zero, suc, ◌+◌, cond, List, [], ◌∷◌, ◌++◌, length, get_or, refl, sym, ap, ◌∙◌, arith, add-one, append_assoc, subst, OnOk, codes}
 use Rattle.std.specs.Prelude.{◌==◌}
 use Rattle.std.proofs.lemmas.Bool.{ne_eqb}
 use Rattle.std.specs.List.{join_by, flat_map}
+use Rattle.std.specs.declared.result.Result.{Result}
 use Rattle.std.proofs.lemmas.Grind.{flat_map-append}
 use Rattle.std.proofs.lemmas.List.{append-nil}
 use Rattle.wf_model.specs.Lists.{numbers_from}
+use Rattle.wf_json.specs.Canonical.{list_of}
 use Rattle.wf_spec.proofs.Tables.{numbers_from-last}
 
 -- one text more, with the separator before it where it is not the first
@@ -45,3 +47,10 @@ join_by-by_number text sep [] d = refl
 join_by-by_number text sep (x ∷ xs) d =
     let f = λ (y : _). sep ++ text y in
     ap (λ t. text x ++ t) (shifted f x xs d 0 (length xs) ∙ flat_map-by_number f xs d)
+
+-- a list that was appended by number was appended
+pub appended : {A E : Type 0} (text : A → List ℕ) (xs : List A) (d : A) (count : ℕ) (r : Result (Unit {0}) E) (old new : List ℕ) → count ≡ length xs
+    → OnOk r (new ≡ old ++ list_of (λ k. text (get_or xs k d)) (numbers_from 0 count)) → OnOk r (new ≡ old ++ list_of text xs)
+appended text xs d count r old new all done =
+    subst (λ (t : List ℕ). OnOk r (new ≡ old ++ t))
+    (ap (λ n. list_of (λ k. text (get_or xs k d)) (numbers_from 0 n)) all ∙ ap (λ t. codes "[" ++ t ++ codes "]") (join_by-by_number text (codes ",") xs d)) done

@@ -56,14 +56,22 @@ module_text m =
     ++ codes ",\"out\":" ++ list_of text_in_quotes m.outputs
     ++ codes "}"
 
+-- the inputs of the head, each with the input of a position to which it leads
+abbrev pub entries_of : Grammar → Production → List (List ℕ × Inner)
+entries_of g r = zip (module_at g r.head).inputs r.entries
+
+-- the outputs of the head, each with the output of a position from which it comes
+abbrev pub exits_of : Grammar → Production → List (List ℕ × Inner)
+exits_of g r = zip (module_at g r.head).outputs r.exits
+
 -- a production, with its members `head`, `body`, `edges`, `in` (in the order of the head's inputs) and `out` (in the order of its outputs)
 abbrev pub production_text : Grammar → Production → List ℕ
 production_text g r =
     codes "{\"head\":" ++ text_in_quotes (module_at g r.head).name
     ++ codes ",\"body\":" ++ list_of (position_text g) r.positions
     ++ codes ",\"edges\":" ++ list_of (edge_text g r) r.edges
-    ++ codes ",\"in\":" ++ list_of (entry_text g r) (zip (module_at g r.head).inputs r.entries)
-    ++ codes ",\"out\":" ++ list_of (exit_text g r) (zip (module_at g r.head).outputs r.exits)
+    ++ codes ",\"in\":" ++ list_of (entry_text g r) (entries_of g r)
+    ++ codes ",\"out\":" ++ list_of (exit_text g r) (exits_of g r)
     ++ codes "}"
 
 -- a grammar, with its members `start`, `modules` and `productions`

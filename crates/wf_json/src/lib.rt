@@ -3,6 +3,7 @@
 
 mod fault;
 mod form;
+mod hashing;
 mod parts;
 mod reading;
 mod spec;
@@ -10,9 +11,10 @@ mod writing;
 
 pub use fault::{JsonFault, Member};
 pub use form::{FromJson, member, member_list, pair};
+pub use hashing::digest;
 pub use reading::{TextFault, read_value};
 pub use spec::read_spec;
-pub use writing::{canonical, digest};
+pub use writing::canonical;
 
 #[cfg(test)]
 mod tests;

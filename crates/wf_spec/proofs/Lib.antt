@@ -1,3 +1,4 @@
+pub mod Assembling
 pub mod Bodies
 pub mod Counting
 pub mod Differing
@@ -7,13 +8,19 @@ pub mod Fitting
 pub mod Formed
 pub mod Graphs
 pub mod Kept
+pub mod KnownModules
 pub mod Lawful
 pub mod Linking
 pub mod Listing
-pub mod Names
+pub mod NewNames
+pub mod Numbering
 pub mod Once
+pub mod PairsOf
 pub mod Picking
 pub mod Placing
+pub mod Rows
+pub mod Rules
+pub mod ShortNames
 pub mod Sides
 pub mod Sizes
 pub mod Tables

@@ -1,8 +1,11 @@
+pub mod Assembling
 pub mod Bodies
 pub mod Ends
 pub mod Forming
 pub mod Graphs
 pub mod Held
 pub mod Resolving
+pub mod Rows
 pub mod Rules
 pub mod Tables
+pub mod Wiring

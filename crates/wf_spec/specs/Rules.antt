@@ -1,5 +1,5 @@
 -- The rules that the parts of a specification keep, in the order in which they are tried, and the fault that is told where one is broken.
-use Rattle.std.specs.Prelude.{◌≡◌, ◌≢◌, ◌⊎◌, ◌↔◌, ℕ, ◌<◌, ◌≤◌, ◌*◌, List, [], ◌∷◌, ◌++◌, map, length, take, get_or, sum_by}
+use Rattle.std.specs.Prelude.{◌≡◌, ◌≢◌, ◌⊎◌, ◌↔◌, ℕ, ◌<◌, ◌≤◌, ◌*◌, List, [], ◌∷◌, ◌++◌, map, length, take, get_or, sum_by, Option, MatchOption}
 use Rattle.wf_model.specs.declared.parts.Parts.{Parts}
 use Rattle.wf_model.specs.declared.parts.ModulePart.{ModulePart}
 use Rattle.wf_model.specs.declared.parts.ProdPart.{ProdPart}
@@ -10,7 +10,7 @@ use Rattle.wf_model.specs.declared.parts.ExitPart.{ExitPart}
 use Rattle.wf_model.specs.declared.parts.DepsPart.{DepsPart}
 use Rattle.wf_model.specs.declared.parts.PairPart.{PairPart}
 use Rattle.wf_model.specs.Lists.{IsIn, IsAt, AllDiffer}
-use Rattle.wf_model.specs.Grammar.{Module, Position, Inner, Edge}
+use Rattle.wf_model.specs.Grammar.{Module, Inner}
 use Rattle.wf_model.specs.WellFormed.{IsShortName}
 use Rattle.wf_spec.specs.declared.fault.Spot.TheVariants.{Start, Module as AtModule, Production as AtProduction, DepsAt}
 use Rattle.wf_spec.specs.declared.fault.FormFault.{FormFault}
@@ -127,12 +127,16 @@ each list Holds told = record { places = length list; holds = λ k. (x : _) → 
 abbrev pub once : Type 0 → FormFault → Rule
 once Holds told = record { places = 1; holds = λ k. Holds; fault = λ k. told }
 
+-- the rule that no module has the name of an earlier one
+abbrev pub new_names : List ModulePart → Rule
+new_names modules = record { places = length modules; holds = IsNewAt (module_names modules); fault = NameTwice }
+
 -- the rules on modules by themselves, and on the numbers of modules and productions
 abbrev pub first_rules : Parts → List Rule
 first_rules parts =
     each parts.modules HasShortNames (λ k. NameBad (AtModule k)) ∷
     each parts.productions HasShortPositions (λ k. NameBad (AtProduction k)) ∷
-    record { places = length parts.modules; holds = IsNewAt (module_names parts.modules); fault = NameTwice } ∷
+    new_names parts.modules ∷
     each parts.modules HasDifferentPorts PortTwice ∷
     each parts.modules HasFewPorts TooManyPorts ∷
     once (length parts.modules ≤ 1024) TooManyModules ∷
@@ -170,6 +174,10 @@ pub record FailsFirstAt (places : ℕ) (Holds : ℕ → Type 0) (k : ℕ) : Type
   pub is_place : k < places
   pub before : (j : ℕ) → j < k → Holds j
   pub fails : ¬ Holds k
+
+-- the answer of a search for the first place at which a rule does not hold
+abbrev pub IsFirstFailing : Rule → Option ℕ → Type 0
+IsFirstFailing r answer = MatchOption answer (HoldsThroughout r) (FailsFirstAt r.places r.holds)
 
 -- all rules hold
 abbrev pub AllHold : List Rule → Type 0

@@ -1,4 +1,6 @@
 // Pairs that are given to modules.
+ghost use Rattle.std.specs.Prelude.{◌≡◌, map};
+
 use std::marker::Model;
 use wf_model::{ModNo, PortNo};
 
@@ -23,4 +25,28 @@ impl Model for Given {
     ghost Value = { GivenSeen };
 
     ghost view = { λ d. record { module_no = d.module.0; pairs = map (λ e. (e.input.0, e.output.0)) d.pairs.items } };
+}
+
+impl Given {
+    pub fn new(number: ModNo, pairs: Vec<Pair>) -> Given
+        ensures module_no { result.module_no ≡ number.0 }
+        ensures pairs { result.pairs ≡ map (λ e. (e.input.0, e.output.0)) pairs.items }
+    {
+        Given {
+            module: number,
+            pairs,
+        }
+    }
+
+    pub fn module(&self) -> ModNo
+        ensures { result.0 ≡ self.now.module_no }
+    {
+        self.module
+    }
+
+    pub fn pairs(&self) -> &[Pair]
+        ensures { map (λ e. (e.input.0, e.output.0)) result.now ≡ self.now.pairs }
+    {
+        &self.pairs
+    }
 }

@@ -3,15 +3,19 @@
 
 mod assemble;
 mod build;
+mod checks;
 mod deps;
 mod fault;
 mod given;
 mod grammar;
 mod law;
+mod links;
 mod module;
 mod production;
 mod rule;
+mod wiring;
 
+pub use checks::{check_bodies, check_modules};
 pub use deps::Deps;
 pub use fault::{FormFault, Spot};
 pub use grammar::Grammar;

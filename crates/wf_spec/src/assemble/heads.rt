@@ -1,9 +1,10 @@
 // The productions of each module.
-ghost use Rattle.std.specs.Prelude.{◌≡◌, ◌<◌, ◌≤◌, [], IfOk, length, replicate};
+ghost use Rattle.std.specs.Prelude.{◌≡◌, ◌<◌, ◌≤◌, [], IfOk, map, length, replicate};
 ghost use Rattle.wf_model.specs.Grammar.{Production as ProductionSeen};
 ghost use Rattle.wf_model.specs.Lists.{IsIn};
 ghost use Rattle.wf_spec.specs.Tables.{numbers_in, places, AreByHead};
 
+use crate::production::Production;
 use crate::rule::Rule;
 use std::alloc::{AllocError, Global};
 use wf_model::ProdNo;
@@ -42,4 +43,22 @@ pub fn by_head(alloc: Global, modules: usize, rules: &[Rule]) -> Result<ByHead, 
         list.push(ProdNo(k as u16))?;
     }
     Ok(ByHead { lists, places })
+}
+
+/// The productions with their places as alternative numbers.
+pub fn numbered(
+    alloc: Global,
+    rules: Vec<Rule>,
+    places: &[u16],
+) -> Result<Vec<Production>, AllocError>
+    requires { length rules.items ≡ length places.now }
+    ensures cores { IfOk result (λ ps. map (λ p. p.core) ps.items ≡ rules.items) }
+    ensures alternatives { IfOk result (λ ps. map (λ p. p.alternative) ps.items ≡ places.now) }
+{
+    let mut list = Vec::new(alloc);
+    for rule in rules {
+        let place = places[list.len()];
+        list.push(Production::of_rule(rule, place))?;
+    }
+    Ok(list)
 }

@@ -1,0 +1,34 @@
+-- Names that are none of those before them.
+use Rattle.std.proofs.Common.{◌≡◌, ℕ, ◌+◌, ◌<◌, false, true, List, [], ◌∷◌, ◌++◌, map, take, length, get_or, sym, ap, subst, ◌∙◌, below_more}
+use Rattle.std.proofs.lemmas.List.{take-map, get_or-map, map_more}
+use Rattle.wf_model.specs.Lists.{IsIn}
+use Rattle.wf_model.specs.Faults.{is_one_of}
+use Rattle.wf_model.proofs.Lists.{among_gives, among_not}
+use Rattle.wf_spec.specs.Rules.{IsNewAt, FailsFirstAt}
+
+module _ {A : Type 0} (f : A → List ℕ) (xs : List A) (k : ℕ) (x : A) (was : x ≡ get_or xs k x) (inside : k < length xs) where
+  name_at : get_or (map f xs) k [] ≡ f x
+  name_at = get_or-map f xs k x [] inside ∙ ap f (sym was)
+
+  -- a name that a table of those before it holds is not new
+  pub not_new : (taken : List (List ℕ)) (name : List ℕ) → taken ≡ map f (take k xs) → name ≡ f x → is_one_of taken name ≡ true → ¬ IsNewAt (map f xs) k
+  not_new taken name is same held new =
+      new (subst (λ n. IsIn n (take k (map f xs))) (same ∙ sym name_at) (subst (IsIn name) (is ∙ sym (take-map f k xs)) (among_gives name taken held)))
+
+  -- and one that it does not hold is
+  pub is_new : (taken : List (List ℕ)) (name : List ℕ) → taken ≡ map f (take k xs) → name ≡ f x → is_one_of taken name ≡ false → IsNewAt (map f xs) k
+  is_new taken name is same absent here =
+      among_not name taken absent (subst (IsIn name) (take-map f k xs ∙ sym is) (subst (λ n. IsIn n (take k (map f xs))) (name_at ∙ sym same) here))
+
+  -- the first name that is not new
+  pub first_not_new : (taken : List (List ℕ)) (name : List ℕ) → taken ≡ map f (take k xs) → name ≡ f x → is_one_of taken name ≡ true → ((j : ℕ) → j < k → IsNewAt (map f xs) j)
+      → FailsFirstAt (length xs) (IsNewAt (map f xs)) k
+  first_not_new taken name is same held before = record { is_place = inside; before = before; fails = not_new taken name is same held }
+
+  -- one name more
+  pub new_more : (taken : List (List ℕ)) (name : List ℕ) → taken ≡ map f (take k xs) → name ≡ f x → is_one_of taken name ≡ false → ((j : ℕ) → j < k → IsNewAt (map f xs) j)
+      → (j : ℕ) → j < k + 1 → IsNewAt (map f xs) j
+  new_more taken name is same absent before = below_more (IsNewAt (map f xs)) k before (is_new taken name is same absent)
+
+  pub names_more : (taken longer : List (List ℕ)) (name : List ℕ) → taken ≡ map f (take k xs) → name ≡ f x → longer ≡ taken ++ name ∷ [] → longer ≡ map f (take (k + 1) xs)
+  names_more taken longer name is same more = more ∙ ap (λ l. l ++ name ∷ []) is ∙ ap (λ n. map f (take k xs) ++ n ∷ []) (same ∙ ap f was) ∙ sym (map_more f xs k x inside)

@@ -1,0 +1,118 @@
+-- Links turned into numbers: names that are found, and lists that are made.
+use Rattle.std.proofs.Common.{◌≡◌, ℕ, ◌+◌, ◌<◌, ◌≤◌, List, [], ◌∷◌, ◌++◌, map, length, get_or, take, Option, Some, None, bytes_eq, refl, sym, ap, ◌∙◌, subst, inl, inr, ⊎_elim, arith}
+use Rattle.std.specs.Prelude.{position, IsSome}
+use Rattle.std.proofs.lemmas.List.{take_all, length-map}
+use Rattle.wf_model.specs.declared.body.Position.{Position as PositionHeld}
+use Rattle.wf_model.specs.declared.body.Edge.{Edge as EdgeHeld}
+use Rattle.wf_model.specs.declared.parts.ProdPart.{ProdPart}
+use Rattle.wf_model.specs.declared.parts.EdgePart.{EdgePart}
+use Rattle.wf_model.specs.declared.parts.EntryPart.{EntryPart}
+use Rattle.wf_model.specs.declared.parts.ExitPart.{ExitPart}
+use Rattle.wf_model.specs.Lists.{IsIn}
+use Rattle.wf_model.specs.Grammar.{Module, Position}
+use Rattle.wf_model.specs.Meaning.{position_of, edge_of}
+use Rattle.wf_spec.specs.declared.wiring.Wiring.{Wiring}
+use Rattle.wf_spec.specs.Forming.{place_of, names_of, body_in, head_in, edge_in}
+use Rattle.wf_spec.specs.Resolving.{AreOfModules, IsEdgeIn}
+use Rattle.wf_spec.specs.Rules.{HasKnownPorts}
+use Rattle.wf_spec.specs.Wiring.{entry_of, exit_of, entry_link, exit_link, IsEntryIn, IsExitIn, IsWiringOf}
+use Rattle.wf_spec.proofs.Finding.{absent, present, place_within, is_in_place}
+use Rattle.wf_spec.proofs.Placing.{known_modules}
+
+-- a name that a search does not find is not there
+pub not_found : (names : List (List ℕ)) (name : List ℕ) (answer : Option ℕ) → answer ≡ position (bytes_eq name) names → answer ≡ None → IsIn name names → ⊥
+not_found names name answer is none here =
+    let a = place_within names name here in
+    let b = absent names name answer is none in
+    absurd (omega arith)
+
+-- a name that it finds is there
+pub found_there : (names : List (List ℕ)) (name : List ℕ) (answer : Option ℕ) (k : ℕ) → answer ≡ position (bytes_eq name) names → answer ≡ Some k
+    → (k ≡ place_of names name) × IsIn name names
+found_there names name answer k is some =
+    let r = present names name answer k is some in
+    (r.0, is_in_place names name (subst (λ j. j < length names) r.0 r.1))
+
+-- a loop over all of a list has made all
+pub all_made : {A B C : Type 0} (f : A → C) (g : B → C) (P : B → Type 0) (made : List A) (bs : List B) (i : ℕ) → map f made ≡ map g (take i bs) → ((b : B) → IsIn b (take i bs) → P b) → length bs ≤ i
+    → (map f made ≡ map g bs) × ((b : B) → IsIn b bs → P b)
+all_made {A} {B} {C} f g P made bs i same all past =
+    subst (λ (l : List B). (map f made ≡ map g l) × ((b : B) → IsIn b l → P b)) (take_all i bs past) (same, all)
+
+pub is_found : (names : List (List ℕ)) (name : List ℕ) (answer : Option ℕ) → answer ≡ position (bytes_eq name) names → IsIn name names → IsSome answer
+is_found names name answer is here = by answer is
+  where
+    by : (o : Option ℕ) → o ≡ position (bytes_eq name) names → IsSome o
+    by None e = absurd (not_found names name None e refl here)
+    by (Some k) e = refl
+
+-- a number below that of the names is one of a module
+pub within_modules : (modules : List Module) (names : List (List ℕ)) (k : ℕ) → names ≡ names_of modules → k < length names → k < length modules
+within_modules modules names k is inside = subst (λ n. k < n) (ap length is ∙ length-map modules (λ (m : Module). m.name)) inside
+
+-- the modules of positions, as they are seen in a slice
+pub modules_known : (modules : List Module) (names : List (List ℕ)) (body made : List PositionHeld) → names ≡ names_of modules → body ≡ made
+    → ((q : PositionHeld) → IsIn q made → q.module.0 < length names) → AreOfModules modules (map position_of body)
+modules_known modules names body made is kept all = known_modules modules names body is (subst (λ (l : List PositionHeld). (q : PositionHeld) → IsIn q l → q.module.0 < length names) (sym kept) all)
+
+-- a production whose ports are known has known edges, entries and exits, as they are read
+pub edges_known : (modules : List Module) (p : ProdPart) (body : List Position) (edges : List EdgePart) → body ≡ body_in modules p → edges ≡ p.edges
+    → HasKnownPorts modules p → (e : EdgePart) → IsIn e edges → IsEdgeIn modules body e
+edges_known modules p body edges at is h =
+    subst (λ (b : List Position). (e : EdgePart) → IsIn e edges → IsEdgeIn modules b e) (sym at)
+    (subst (λ (es : List EdgePart). (e : EdgePart) → IsIn e es → IsEdgeIn modules (body_in modules p) e) (sym is) h.edges)
+
+pub entries_known : (modules : List Module) (p : ProdPart) (body : List Position) (head : Module) (entries : List EntryPart) → body ≡ body_in modules p → head ≡ head_in modules p → entries ≡ p.entries
+    → HasKnownPorts modules p → (e : EntryPart) → IsIn e entries → IsEntryIn modules body head e
+entries_known modules p body head entries at top is h =
+    subst (λ (b : List Position). (e : EntryPart) → IsIn e entries → IsEntryIn modules b head e) (sym at)
+    (subst (λ (m : Module). (e : EntryPart) → IsIn e entries → IsEntryIn modules (body_in modules p) m e) (sym top)
+    (subst (λ (es : List EntryPart). (e : EntryPart) → IsIn e es → IsEntryIn modules (body_in modules p) (head_in modules p) e) (sym is)
+    (λ e i. record { from = h.entries_from e i; to = h.entries_to e i })))
+
+pub exits_known : (modules : List Module) (p : ProdPart) (body : List Position) (head : Module) (exits : List ExitPart) → body ≡ body_in modules p → head ≡ head_in modules p → exits ≡ p.exits
+    → HasKnownPorts modules p → (e : ExitPart) → IsIn e exits → IsExitIn modules body head e
+exits_known modules p body head exits at top is h =
+    subst (λ (b : List Position). (e : ExitPart) → IsIn e exits → IsExitIn modules b head e) (sym at)
+    (subst (λ (m : Module). (e : ExitPart) → IsIn e exits → IsExitIn modules (body_in modules p) m e) (sym top)
+    (subst (λ (es : List ExitPart). (e : ExitPart) → IsIn e es → IsExitIn modules (body_in modules p) (head_in modules p) e) (sym is)
+    (λ e i. record { from = h.exits_from e i; to = h.exits_to e i })))
+
+-- and the other way
+pub ports_known : (modules : List Module) (p : ProdPart) (body : List Position) (head : Module) (edges : List EdgePart) (entries : List EntryPart) (exits : List ExitPart)
+    → body ≡ body_in modules p → head ≡ head_in modules p → edges ≡ p.edges → entries ≡ p.entries → exits ≡ p.exits
+    → ((e : EdgePart) → IsIn e edges → IsEdgeIn modules body e) → ((e : EntryPart) → IsIn e entries → IsEntryIn modules body head e) → ((e : ExitPart) → IsIn e exits → IsExitIn modules body head e)
+    → HasKnownPorts modules p
+ports_known modules p body head edges entries exits at top edges_are entries_are exits_are all_edges all_entries all_exits = record {
+  edges = λ e i. subst (λ (b : List Position). IsEdgeIn modules b e) at (all_edges e (subst (IsIn e) (sym edges_are) i));
+  entries_from = λ e i. (entry e i).from;
+  entries_to = λ e i. (entry e i).to;
+  exits_from = λ e i. (exit e i).from;
+  exits_to = λ e i. (exit e i).to;
+}
+  where
+    entry : (e : EntryPart) → IsIn e p.entries → IsEntryIn modules (body_in modules p) (head_in modules p) e
+    entry e i =
+        subst (λ (b : List Position). IsEntryIn modules b (head_in modules p) e) at
+        (subst (λ (m : Module). IsEntryIn modules body m e) top (all_entries e (subst (IsIn e) (sym entries_are) i)))
+
+    exit : (e : ExitPart) → IsIn e p.exits → IsExitIn modules (body_in modules p) (head_in modules p) e
+    exit e i =
+        subst (λ (b : List Position). IsExitIn modules b (head_in modules p) e) at
+        (subst (λ (m : Module). IsExitIn modules body m e) top (all_exits e (subst (IsIn e) (sym exits_are) i)))
+
+-- a wiring that is made list by list
+pub wiring_made : (modules : List Module) (p : ProdPart) (w : Wiring) (body made : List PositionHeld) (head : Module) (edges : List EdgePart) (entries : List EntryPart) (exits : List ExitPart)
+    → body ≡ made → w.positions.items ≡ made → map position_of body ≡ body_in modules p → head ≡ head_in modules p → edges ≡ p.edges → entries ≡ p.entries → exits ≡ p.exits
+    → w.head.0 ≡ place_of (names_of modules) p.head → map edge_of w.edges.items ≡ map (edge_in modules (map position_of body)) edges
+    → map entry_of w.entries.items ≡ map (entry_link modules (map position_of body) head) entries → map exit_of w.exits.items ≡ map (exit_link modules (map position_of body) head) exits
+    → IsWiringOf modules p w
+wiring_made modules p w body made head edges entries exits kept held at top edges_are entries_are exits_are number made_edges made_entries made_exits = record {
+  head = number;
+  positions = ap (map position_of) (held ∙ sym kept) ∙ at;
+  edges = made_edges ∙ ap (λ b. map (edge_in modules b) edges) at ∙ ap (map (edge_in modules (body_in modules p))) edges_are;
+  entries = made_entries ∙ ap (λ b. map (entry_link modules b head) entries) at ∙ ap (λ m. map (entry_link modules (body_in modules p) m) entries) top
+      ∙ ap (map (entry_link modules (body_in modules p) (head_in modules p))) entries_are;
+  exits = made_exits ∙ ap (λ b. map (exit_link modules b head) exits) at ∙ ap (λ m. map (exit_link modules (body_in modules p) m) exits) top
+      ∙ ap (map (exit_link modules (body_in modules p) (head_in modules p))) exits_are;
+}
