@@ -1,15 +1,13 @@
 -- A specification has one fault at most, and none where it tells a grammar.
-use Rattle.std.proofs.Common.{◌≡◌, ℕ, ◌<◌, ◌≤◌, ◌⊎◌, List, [], ◌∷◌, ◌++◌, length, get_or, Some, None, refl, sym, ap, ◌∙◌, subst, inl, inr, ⊎_elim, arith}
-use Rattle.std.specs.Prelude.{Ok, Err, codes, map}
+use Rattle.std.proofs.Common.{◌≡◌, ℕ, ◌⊎◌, List, [], ◌∷◌, ◌++◌, length, get_or, Some, None, refl, sym, ap, ◌∙◌, subst, inl, inr, ⊎_elim, arith}
+use Rattle.std.specs.Prelude.{codes, map}
 use Rattle.std.proofs.lemmas.Bool.{cases_lt}
 use Rattle.serde_json.specs.Data.{Data}
-use Rattle.serde_json.specs.Read.{read}
 use Rattle.wf_model.specs.declared.parts.Parts.{Parts}
 use Rattle.wf_model.specs.declared.numbers.ProdNo.{ProdNo}
 use Rattle.wf_model.specs.Lists.{IsIn, Walk, here, onward}
-use Rattle.wf_model.specs.Grammar.{Grammar, body_of, module_at, IsComposite}
+use Rattle.wf_model.specs.Grammar.{Grammar, body_of, module_at}
 use Rattle.wf_model.specs.Proper.{Becomes, IsProper}
-use Rattle.wf_json.specs.declared.fault.Member.{Member}
 use Rattle.wf_json.specs.Reading.{IsReading, HasNoReading}
 use Rattle.wf_json.specs.SpecForm.{spec_of}
 use Rattle.wf_spec.specs.declared.fault.FormFault.{FormFault}

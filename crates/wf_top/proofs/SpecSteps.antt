@@ -11,7 +11,7 @@ use Rattle.wf_top.specs.declared.ending.Place.{Place}
 use Rattle.wf_top.specs.declared.ending.Place.TheVariants.{Spec}
 use Rattle.wf_top.specs.Endings.{End, Done, Usage, Refused, ReadFault, WriteFault, NoMemory}
 use Rattle.wf_top.specs.Refusals.{form_text}
-use Rattle.wf_top.specs.Specification.{IsSpecText, IsDownward, TellsGrammar, RefusesGrammar, RefusesParts, RefusesData, RefusesSpec}
+use Rattle.wf_top.specs.Specification.{IsSpecText, IsDownward, TellsGrammar, RefusesGrammar, RefusesParts, RefusesSpec}
 use Rattle.wf_top.specs.Stages.{Declines}
 
 -- what declines by one refusal declines by another that comes of it

@@ -1,11 +1,11 @@
 -- How the stages of the commands make their outcomes.
-use Rattle.std.proofs.Common.{◌≡◌, ℕ, List, Option, Some, refl, sym, subst}
+use Rattle.std.proofs.Common.{◌≡◌, ℕ, List, Option, Some, sym, subst}
 use Rattle.wf_model.specs.declared.event.Event.{Event}
 use Rattle.wf_model.specs.Grammar.{Grammar}
 use Rattle.wf_model.specs.DefaultView.{default_view}
 use Rattle.wf_io.specs.Told.{File}
 use Rattle.wf_flat.specs.Table.{Table, events_of}
-use Rattle.wf_top.specs.declared.ending.Place.TheVariants.{Spec, View, Events, Queries}
+use Rattle.wf_top.specs.declared.ending.Place.TheVariants.{Spec, View, Events}
 use Rattle.wf_top.specs.Endings.{End}
 use Rattle.wf_top.specs.Words.{Command}
 use Rattle.wf_top.specs.Specification.{TellsGrammar, RefusesSpec}

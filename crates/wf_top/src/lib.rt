@@ -27,4 +27,6 @@ pub use program::run;
 pub use status::Status;
 
 #[cfg(test)]
+mod spec_tests;
+#[cfg(test)]
 mod tests;

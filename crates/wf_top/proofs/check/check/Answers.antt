@@ -1,4 +1,4 @@
-use Rattle.std.proofs.Common.{◌∙◌, refl}
+use Rattle.std.proofs.Common.{refl}
 use Rattle.std.proofs.lemmas.Result.{err_from_is_err_and}
 use Rattle.wf_top.proofs.Stages.{passed_on}
 use Rattle.wf_top.proofs.Tracing.{spec_ends, spec_goes}

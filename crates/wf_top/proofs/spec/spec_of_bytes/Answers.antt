@@ -1,4 +1,4 @@
-use Rattle.std.proofs.Common.{ap, sym, subst}
+use Rattle.std.proofs.Common.{sym, subst}
 use Rattle.std.proofs.lemmas.Result.{IfOk-weaker, IfErr-weaker}
 use Rattle.wf_spec.specs.Held.{HeldGrammar}
 use Rattle.wf_top.specs.declared.ending.Place.TheVariants.{Spec}

@@ -1,4 +1,4 @@
-use Rattle.std.proofs.Common.{length, ap, subst, arith, ◌∙◌}
+use Rattle.std.proofs.Common.{length, ap, subst, arith}
 use Rattle.wf_model.specs.Lists.{IsIn}
 use Rattle.wf_model.proofs.Lists.{in_map}
 use Rattle.wf_spec.specs.Held.{HeldProduction}
