@@ -3,6 +3,7 @@ use Rattle.std.proofs.Common.{◌≡◌, ◌↔◌, ℕ, ◌<◌, Bool, true, Li
 use Rattle.std.specs.Prelude.{nat_lt, ◌&&◌, IsTrue}
 use Rattle.std.specs.List.{list_all}
 use Rattle.std.proofs.lemmas.Bool.Decides.{nat_tests}
+use Rattle.std.proofs.lemmas.List.Folds.{list_all-map}
 use Rattle.wf_model.specs.Lists.{IsIn}
 use Rattle.wf_model.specs.Grammar.{Grammar, Production, production_at, body_of, head_of}
 use Rattle.wf_spec.specs.Bodies.{modules_at}
@@ -17,11 +18,7 @@ greater h m e = grind (arith, nat_tests)
 is_greater : (h m : ℕ) → h < m → nat_lt h m ≡ true
 is_greater h m e = grind (arith, nat_tests)
 
--- the productions as the definitions see them
-all_cores : (xs : List HeldProduction) → list_all (λ (r : HeldProduction). leads_down r.core) xs ≡ list_all leads_down (map (λ (r : HeldProduction). r.core) xs)
-all_cores [] = refl
-all_cores (x ∷ xs) = ap (λ b. leads_down x.core && b) (all_cores xs)
-
+-- the test of all productions, as they are held, tells whether the grammar is not recursive
 pub downward_decided : (g : Grammar) (xs : List HeldProduction) (b : Bool) → map (λ (r : HeldProduction). r.core) xs ≡ g.productions → b ≡ list_all (λ (r : HeldProduction). leads_down r.core) xs → IsTrue b ↔ IsDownward g
 downward_decided g xs b are is = (
   λ t p m h i.
@@ -34,4 +31,4 @@ downward_decided g xs b are is = (
 )
   where
     e : b ≡ list_all leads_down g.productions
-    e = is ∙ (all_cores xs ∙ ap (list_all leads_down) are)
+    e = is ∙ (sym (list_all-map leads_down (λ (r : HeldProduction). r.core) xs) ∙ ap (list_all leads_down) are)

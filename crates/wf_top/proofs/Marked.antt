@@ -1,6 +1,7 @@
 -- Marks of composite modules, and rows of the other modules.
 use Rattle.std.proofs.Common.{◌≡◌, ℕ, ◌+◌, ◌<◌, ◌≤◌, ◌⊎◌, Bool, true, false, List, [], length, get_or, map, set, replicate, Option, Some, None, unwrap_or, sym, ap, ◌∙◌, subst, inl, inr, ⊎_elim, arith, true≢false}
 use Rattle.std.proofs.lemmas.Bool.{cases_eq, cases_lt}
+use Rattle.std.proofs.lemmas.Simd.{map-map}
 use Rattle.std.proofs.lemmas.List.{get_or-set_same, get_or-set_other, get_or-replicate, get_or_past, length-set, length-replicate}
 use Rattle.wf_model.specs.Lists.{IsIn}
 use Rattle.wf_model.specs.Grammar.{Grammar, Production, inputs_of, outputs_of, is_given, IsAtomic}
@@ -13,7 +14,6 @@ use Rattle.wf_model.proofs.DefaultView.{default_expands_all}
 use Rattle.wf_spec.specs.Held.{HeldProduction}
 use Rattle.wf_spec.specs.Tables.{AreRowsOf}
 use Rattle.wf_flat.specs.Graph.{Marks, Agree, IsMadeFor}
-use Rattle.wf_flat.proofs.Tests.{map-map}
 use Rattle.wf_top.specs.Leaf.{ShowsGiven, ShowsBelow}
 use Rattle.wf_top.proofs.FlatLinks.{is_module}
 

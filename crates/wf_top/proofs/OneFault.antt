@@ -80,8 +80,8 @@ module _ (g : Grammar) where
   one_cycle : (ps qs : List ℕ) → IsToldCycle g ps → IsToldCycle g qs → ps ≡ qs
   one_cycle ps qs p q =
       let same : p.module_no ≡ q.module_no =
-          ⊎_elim (λ h. absurd (q.least p.module_no ps h p.cycle))
-          (λ h. ⊎_elim (λ l. absurd (p.least q.module_no qs l q.cycle)) (λ l. omega arith) (cases_lt q.module_no p.module_no)) (cases_lt p.module_no q.module_no) in
+      ⊎_elim (λ h. absurd (q.least p.module_no ps h p.cycle))
+      (λ h. ⊎_elim (λ l. absurd (p.least q.module_no qs l q.cycle)) (λ l. omega arith) (cases_lt q.module_no p.module_no)) (cases_lt p.module_no q.module_no) in
       let there : IsUnitCycle g p.module_no qs = subst (λ m. IsUnitCycle g m qs) (sym same) q.cycle in
       let back : IsUnitCycle g q.module_no ps = subst (λ m. IsUnitCycle g m ps) same p.cycle in
       let short = p.shortest qs there in

@@ -18,7 +18,12 @@ use wf_io::{Sink, WholeLines};
 use wf_query::read_query;
 
 /// Answers the query of a line.
-fn answer_line<O: Sink>(alloc: Global, p: &Prepared<'_>, line: &[u8], out: &mut O) -> Result<(), Ending>
+fn answer_line<O: Sink>(
+    alloc: Global,
+    p: &Prepared<'_>,
+    line: &[u8],
+    out: &mut O,
+) -> Result<(), Ending>
     requires { IsPrepared p.now.grammar.now.core p.now.run.now p.now.flat }
     ensures asked { OnOk result ((written : List ℕ) × IsAsked p.now.grammar.now.core (default_view p.now.grammar.now.core) (events_of p.now.run.now) line.now written × Appended written (O.put_bytes out.old) (O.put_bytes out.new)) }
     ensures ends { IfErr result (λ d. EndsAt p.now.grammar.now.core (default_view p.now.grammar.now.core) (events_of p.now.run.now) line.now (end_of d) (O.put_bytes out.old) (O.put_bytes out.new)) }

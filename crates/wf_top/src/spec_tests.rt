@@ -218,12 +218,7 @@ fn parts(alloc: Global, names: &str) -> Result<String, AllocError> {
 }
 
 /// The numbers below a count, each with a text before and behind it, with commas between.
-fn numbered(
-    alloc: Global,
-    before: &str,
-    count: u32,
-    behind: &str,
-) -> Result<String, AllocError> {
+fn numbered(alloc: Global, before: &str, count: u32, behind: &str) -> Result<String, AllocError> {
     let mut text = String::new(alloc);
     for k in 0..count {
         if k > 0 {

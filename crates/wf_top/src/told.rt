@@ -115,8 +115,16 @@ fn put_check<E: Sink>(err: &mut E, g: &Grammar, fault: &CheckFault) -> Result<()
     ensures { Puts E.put_bytes E.faults E.at_last (check_text g.now.core fault.now) err.old err.new result }
 {
     match fault {
-        CheckFault::Unreachable { module } => put_two(err, b"Unreachable ", module_name(g, *module)),
-        CheckFault::Unproductive { module } => put_two(err, b"Unproductive ", module_name(g, *module)),
+        CheckFault::Unreachable { module } => put_two(
+            err,
+            b"Unreachable ",
+            module_name(g, *module),
+        ),
+        CheckFault::Unproductive { module } => put_two(
+            err,
+            b"Unproductive ",
+            module_name(g, *module),
+        ),
         CheckFault::UnitCycle { productions } => put_cycle(err, productions.items()),
         CheckFault::NoMemory => put(err, b"NoMemory"),
     }
