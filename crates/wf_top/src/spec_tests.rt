@@ -180,13 +180,13 @@ const TEXTS: [(&str, &str); 12] = [
 
 /// How `check` ends on a specification, and what it writes.
 #[derive(Drop)]
-struct Told {
+struct Ended {
     status: Status,
     out: MemSink,
     err: MemSink,
 }
 
-fn told(alloc: Global, text: &str) -> Result<Told, AllocError> {
+fn checked(alloc: Global, text: &str) -> Result<Ended, AllocError> {
     let mut files = Vec::new(alloc);
     files.push(MemFile {
         name: name(alloc, "spec")?,
@@ -198,7 +198,7 @@ fn told(alloc: Global, text: &str) -> Result<Told, AllocError> {
     let mut err = MemSink::new(alloc, 64)?;
     let words = words(alloc, "check spec")?;
     let status = run(alloc, &words, &mut shelf, &mut out, &mut err);
-    Ok(Told { status, out, err })
+    Ok(Ended { status, out, err })
 }
 
 /// The parts that words name, with commas between.
@@ -245,7 +245,7 @@ fn specification(
 fn texts_that_say_no_parts_are_refused(rt: HostRuntime) -> Result<(), Fail> {
     let alloc = rt.alloc();
     for (text, fault) in TEXTS {
-        let got = told(alloc, text)?;
+        let got = checked(alloc, text)?;
         let line = format!(in alloc; "refused: spec: {fault}\n")?;
         assert_eq!(rt; got.status, Refused, "at {text:?}");
         assert_eq!(rt; got.out.bytes(), b"".as_slice(), "at {text:?}");
@@ -262,7 +262,7 @@ fn the_first_fault_is_told(rt: HostRuntime) -> Result<(), Fail> {
         let productions = parts(alloc, productions)?;
         let deps = parts(alloc, deps)?;
         let text = specification(alloc, start, &modules, &productions, &deps)?;
-        let got = told(alloc, &text)?;
+        let got = checked(alloc, &text)?;
         let line = format!(in alloc; "refused: spec: {fault}\n")?;
         assert_eq!(rt; got.status, Refused, "at {fault:?}");
         assert_eq!(rt; got.err.bytes(), line.as_bytes(), "at {fault:?}");
@@ -312,7 +312,7 @@ fn sizes_are_tried_in_order(rt: HostRuntime) -> Result<(), Fail> {
         ("S", two.as_str(), full_and_twice.as_str(), "BodiesTooLarge"),
     ] {
         let text = specification(alloc, start, modules, productions, "")?;
-        let got = told(alloc, &text)?;
+        let got = checked(alloc, &text)?;
         let line = format!(in alloc; "refused: spec: {fault}\n")?;
         assert_eq!(rt; got.status, Refused, "at {fault:?}");
         assert_eq!(rt; got.err.bytes(), line.as_bytes(), "at {fault:?}");
