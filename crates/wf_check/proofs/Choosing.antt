@@ -1,5 +1,5 @@
 -- The productions that attain the ranks of their heads.
-use Rattle.std.proofs.Common.{◌≡◌, ℕ, zero, suc, ◌<◌, ◌≤◌, List, Option, None, Some, MatchOption, length, get_or, refl, sym, ap, ◌∙◌, subst, inl, inr, arith}
+use Rattle.std.proofs.Common.{◌≡◌, ℕ, zero, suc, ◌≤◌, List, Option, None, Some, MatchOption, subst, inl, inr, arith}
 use Rattle.std.specs.Prelude.{unwrap_or}
 use Rattle.wf_model.specs.declared.numbers.ProdNo.{ProdNo}
 use Rattle.wf_model.specs.Grammar.{Grammar, IsComposite}
@@ -7,7 +7,7 @@ use Rattle.wf_model.specs.Proper.{RankWithin, IsRank}
 use Rattle.wf_model.specs.WellFormed.{IsWellFormed}
 use Rattle.wf_check.specs.Improper.{IsProductive}
 use Rattle.wf_check.specs.Proper.{Attains, IsChoice}
-use Rattle.wf_check.specs.Ranks.{TellsRank, AreRanks, IsLower}
+use Rattle.wf_check.specs.Ranks.{AreRanks, IsLower}
 use Rattle.wf_check.proofs.Rounds.{ranks_known, lower_gives, lower_from}
 
 abbrev pub IsChosen : Grammar → ℕ → ℕ → Type 0

@@ -12,6 +12,7 @@ use Rattle.wf_model.specs.Proper.{Makes}
 use Rattle.wf_model.specs.WellFormed.{IsWellFormed}
 use Rattle.wf_model.proofs.Lists.{in_filter, in_filter_from, in_flat_map, in_flat_map_from, in_map, at_in, is_at}
 use Rattle.wf_model.proofs.Level.{in_numbers, numbers_in}
+use Rattle.wf_spec.proofs.Sides.{module_there}
 use Rattle.wf_spec.specs.Bodies.{modules_at}
 use Rattle.wf_spec.specs.Tables.{productions_of}
 
@@ -55,6 +56,4 @@ composite_told g m (p ∷ ps) empty e is = (
 
 -- the module at a position stands in the body
 pub stands_at : (xs : List PositionHeld) (k : ℕ) (q : PositionHeld) (body : List ℕ) → k < length xs → q ≡ get_or xs k q → modules_at (map position_of xs) ≡ body → IsIn q.module.0 body
-stands_at xs k q body h e is =
-    let i : IsIn q xs = subst (λ z. IsIn z xs) (sym e) (at_in (get_or xs k q) k xs (is_at k xs q h)) in
-    subst (IsIn q.module.0) is (in_map _ (position_of q) (map position_of xs) (in_map position_of q xs i))
+stands_at xs k q body h e is = subst (IsIn q.module.0) is (module_there xs k q h e)

@@ -1,22 +1,9 @@
--- Tests of all elements of a list, and the order of filtered numbers.
-use Rattle.std.proofs.Common.{◌≡◌, ℕ, zero, suc, ◌+◌, ◌<◌, ◌≤◌, ◌&&◌, Bool, true, false, cond, List, [], ◌∷◌, length, get_or, map, ◌++◌, below_more, refl, sym, ap, ◌∙◌, subst, inl, inr, arith, true≢false}
-use Rattle.std.specs.List.{list_all, filter}
+-- The order of filtered numbers, and elements by their places.
+use Rattle.std.proofs.Common.{◌≡◌, ℕ, zero, suc, ◌+◌, ◌<◌, ◌≤◌, Bool, true, false, cond, List, [], ◌∷◌, length, get_or, map, ◌++◌, below_more, refl, sym, ◌∙◌, subst, inl, inr, arith}
+use Rattle.std.specs.List.{filter}
 use Rattle.std.proofs.lemmas.List.{get_or_append_left, get_or_push}
 use Rattle.wf_model.specs.Lists.{IsIn, IsAt, numbers_from}
 use Rattle.wf_model.proofs.Lists.{at_in, in_filter_from}
-
-pub all_gives : {A : Type 0} (p : A → Bool) (xs : List A) → list_all p xs ≡ true → (x : A) → IsIn x xs → p x ≡ true
-all_gives p [] h x i = absurd i
-all_gives {A} p (y ∷ xs) h x i = go (λ k j. all_gives p xs k x j) (p y) refl h i
-  where
-    go : (list_all p xs ≡ true → IsIn x xs → p x ≡ true) → (b : Bool) → p y ≡ b → (b && list_all p xs) ≡ true → IsIn x (y ∷ xs) → p x ≡ true
-    go later true e k (inl d) = ap p d ∙ e
-    go later true e k (inr j) = later k j
-    go later false e k j = absurd (true≢false (sym k))
-
-pub all_from : {A : Type 0} (p : A → Bool) (xs : List A) → ((x : A) → IsIn x xs → p x ≡ true) → list_all p xs ≡ true
-all_from p [] h = refl
-all_from p (y ∷ xs) h = ap (λ b. b && list_all p xs) (h y (inl refl)) ∙ all_from p xs (λ x i. h x (inr i))
 
 from_first : (i k n : ℕ) → IsIn i (numbers_from k n) → k ≤ i
 from_first i k zero h = absurd h

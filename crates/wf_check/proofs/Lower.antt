@@ -1,16 +1,17 @@
 -- Productions whose bodies have modules of told ranks below a number alone.
-use Rattle.std.proofs.Common.{◌≡◌, ◌↔◌, ℕ, ◌+◌, ◌<◌, ◌≤◌, ◌⊎◌, Bool, true, false, List, Option, None, Some, MatchOption, length, get_or, map, refl, sym, ap, ◌∙◌, subst, ⊎_elim, arith, true≢false}
+use Rattle.std.proofs.Common.{◌≡◌, ◌↔◌, ℕ, ◌<◌, ◌≤◌, ◌⊎◌, Bool, true, List, Option, None, length, get_or, map, sym, ap, ◌∙◌, subst, ⊎_elim, arith}
 use Rattle.std.specs.List.{list_all}
 use Rattle.std.specs.Prelude.{◌==◌}
 use Rattle.wf_model.specs.declared.numbers.ProdNo.{ProdNo}
-use Rattle.wf_model.specs.Lists.{IsIn, IsAt, numbers_from}
+use Rattle.wf_model.specs.Lists.{IsIn, IsAt}
 use Rattle.wf_model.specs.Grammar.{Grammar, Production, head_of, body_of, production_at, IsProductionOf}
 use Rattle.wf_model.proofs.Lists.{in_at}
+use Rattle.wf_spec.proofs.Ends.{all_gives, all_from}
 use Rattle.wf_spec.specs.Bodies.{modules_at}
 use Rattle.wf_spec.specs.Tables.{productions_of}
 use Rattle.wf_check.specs.Ranks.{IsLower, is_below}
-use Rattle.wf_check.proofs.Heads.{headed_at, headed_from}
-use Rattle.wf_check.proofs.Lists.{all_gives, all_from, filtered_order, at_map, map_at}
+use Rattle.wf_check.proofs.Heads.{headed_from}
+use Rattle.wf_check.proofs.Lists.{filtered_order, at_map, map_at}
 
 -- a test of the body tells it
 pub lower_told : (g : Grammar) (ranks : List (Option ℕ)) (n m p : ℕ) (r : Production) (b : Bool) → IsProductionOf g p m → r ≡ production_at g p → b ≡ list_all (λ k. is_below n (get_or ranks k None)) (modules_at r.positions) → (b ≡ true) ↔ IsLower g ranks n m p

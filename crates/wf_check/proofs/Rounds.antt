@@ -1,23 +1,17 @@
 -- Ranks that are found in rounds.
-use Rattle.std.proofs.Common.{◌≡◌, ◌↔◌, ℕ, zero, suc, ◌+◌, ◌-◌, ◌<◌, ◌≤◌, ◌⊎◌, Bool, true, false, cond, List, Option, None, Some, length, map, get_or, set, is_some, nat_lt, refl, sym, ap, ◌∙◌, subst, inl, inr, ⊎_elim, arith, true≢false}
-use Rattle.std.specs.Prelude.{count_by, IsTrue, not}
+use Rattle.std.proofs.Common.{◌≡◌, ◌↔◌, ℕ, zero, suc, ◌+◌, ◌<◌, ◌≤◌, ◌⊎◌, Bool, true, false, List, Option, None, Some, length, map, get_or, set, is_some, refl, sym, ◌∙◌, subst, inl, inr, ⊎_elim, arith, true≢false}
+use Rattle.std.specs.Prelude.{IsTrue, not}
 use Rattle.std.specs.Bool.{then_some}
 use Rattle.std.proofs.lemmas.Bool.Decides.{nat_tests}
 use Rattle.std.proofs.lemmas.List.{get_or-set_same, get_or-set_other, get_or-map, length-set}
-use Rattle.std.proofs.lemmas.List.Sums.{sum_by-set}
 use Rattle.wf_model.specs.Lists.{IsIn}
-use Rattle.wf_model.specs.Grammar.{Grammar, body_of, IsAtomic, IsComposite, IsProductionOf}
+use Rattle.wf_model.specs.Grammar.{Grammar, body_of, IsComposite, IsProductionOf}
 use Rattle.wf_model.specs.Proper.{RankWithin, IsRank}
 use Rattle.wf_model.specs.WellFormed.{IsWellFormed}
+use Rattle.wf_spec.proofs.Ends.{same_or_not}
 use Rattle.wf_check.specs.Improper.{IsProductive}
-use Rattle.wf_check.specs.Ranks.{TellsRank, AreRanks, TellsRankBelow, AreRanksBelow, IsRound, is_below, IsLower, unranked, IsMoreRanked}
+use Rattle.wf_check.specs.Ranks.{TellsRank, AreRanks, TellsRankBelow, AreRanksBelow, IsRound, is_below, IsLower}
 use Rattle.wf_check.proofs.Heads.{composite_below}
-
-same_or_not : (a b : ℕ) → (a ≡ b) ⊎ (a ≡ b → ⊥)
-same_or_not a b = ⊎_elim (λ e. inl e) (λ s. inr (λ e. ⊎_elim (λ h. absurd (omega arith)) (λ h. absurd (omega arith)) s)) cases
-  where
-    cases : (a ≡ b) ⊎ ((a < b) ⊎ (b < a))
-    cases = grind arith
 
 rank_one_more : (g : Grammar) (n m : ℕ) → RankWithin g n m → RankWithin g (suc n) m
 rank_one_more g zero m h = inl h

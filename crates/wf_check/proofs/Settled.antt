@@ -5,7 +5,6 @@ use Rattle.std.proofs.lemmas.List.{get_or-map, length-map}
 use Rattle.wf_model.specs.declared.numbers.ProdNo.{ProdNo}
 use Rattle.wf_model.specs.Grammar.{Grammar}
 use Rattle.wf_model.specs.Proper.{IsRank}
-use Rattle.wf_model.specs.WellFormed.{IsWellFormed}
 use Rattle.wf_check.specs.Improper.{IsProductive, OfAllComposite}
 use Rattle.wf_check.specs.Proper.{Ranking, IsRankingOf}
 use Rattle.wf_check.specs.Ranks.{TellsRank, AreRanks}
@@ -22,9 +21,9 @@ settled g ranks numbers choices r h all num len chosen re ce = record {
   one_rank_each = ap length (re ∙ num) ∙ (length-map ranks (λ o. unwrap_or o 0) ∙ h.one_each);
   one_choice_each = ap length ce ∙ (length-map choices (λ (c : ProdNo). c.0) ∙ len);
   ranks = λ m low. (
-    let one = h.one_each in
-    let within : m < length ranks = omega arith in
-    let e = ap (λ (l : List ℕ). get_or l m 0) (re ∙ num) ∙ get_or-map (λ o. unwrap_or o 0) ranks m None 0 within in
-    subst (IsRank g m) (sym e) (all_ranked g m (get_or ranks m None) all (h.told m low)));
+      let one = h.one_each in
+      let within : m < length ranks = omega arith in
+      let e = ap (λ (l : List ℕ). get_or l m 0) (re ∙ num) ∙ get_or-map (λ o. unwrap_or o 0) ranks m None 0 within in
+      subst (IsRank g m) (sym e) (all_ranked g m (get_or ranks m None) all (h.told m low)));
   choices = λ m d. subst (λ (l : List ℕ). IsChosen g m (get_or l m 0)) (sym ce) (chosen m) d (all m d);
 }

@@ -26,11 +26,7 @@ fn choice(g: &Grammar, ranks: &[Option<u32>], m: ModNo) -> ProdNo
 /// The choice of each module. Fails only for want of memory.
 ///
 /// Cost: at most one look at each position of each body.
-pub fn choices(
-    alloc: Global,
-    g: &Grammar,
-    ranks: &[Option<u32>],
-) -> Result<Vec<ProdNo>, AllocError>
+pub fn choices(alloc: Global, g: &Grammar, ranks: &[Option<u32>]) -> Result<Vec<ProdNo>, AllocError>
     requires { AreRanks g.now.core ranks.now }
     ensures one_each { IfOk result (λ list. length list.items ≡ length g.now.core.modules) }
     ensures choices { IfOk result (λ list. (m : ℕ) → IsComposite g.now.core m → IsProductive g.now.core m → IsChoice g.now.core m (get_or (map (λ p. p.0) list.items) m 0)) }

@@ -13,3 +13,6 @@ mod unit;
 pub use check::proper;
 pub use fault::CheckFault;
 pub use ranking::Proper;
+
+#[cfg(test)]
+mod tests;

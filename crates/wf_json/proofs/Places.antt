@@ -1,53 +1,15 @@
 -- The positions of a body, and the modules that stand there.
-use Rattle.std.proofs.Common.{◌≡◌, ℕ, ◌<◌, List, [], map, length, get_or, sym, ap, subst, ◌∙◌, ◌++◌, OnOk, arith, codes, append_assoc}
-use Rattle.std.proofs.lemmas.List.{get_or-map, get_or_default, length-map}
-use Rattle.std.proofs.Math.ListN.{get_or-map as get_or-map_same}
-use Rattle.std.proofs.lemmas.Slice.Zip.{get_or-zip, seconds-zip}
-use Rattle.std.specs.List.{zip}
-use Rattle.std.specs.declared.result.Result.{Result}
-use Rattle.wf_model.specs.Items.{dotted}
+use Rattle.std.proofs.Common.{◌≡◌, ℕ, ◌<◌, List, [], map, length, get_or, sym, ap, subst, ◌∙◌, arith}
+use Rattle.std.proofs.lemmas.List.{get_or-map, length-map}
 use Rattle.wf_model.specs.Grammar.{Grammar, Module, Position, Inner, module_at, production_at, body_of, inputs_of, outputs_of}
 use Rattle.wf_model.specs.Meaning.{position_of}
-use Rattle.wf_model.specs.Lists.{IsAt, IsIn}
+use Rattle.wf_model.specs.Lists.{IsAt}
 use Rattle.wf_model.specs.WellFormed.{IsWellFormed, IsInnerInput, IsInnerOutput}
 use Rattle.wf_model.specs.declared.body.Position.{Position as PositionHeld}
 use Rattle.wf_model.proofs.Lists.{in_map, at_below, at_is}
 use Rattle.wf_spec.proofs.Tables.{get_in}
-use Rattle.wf_json.specs.Canonical.{position_at, module_there, text_in_quotes, pair_text}
-
--- an element that is read is seen at the same place
-pub seen_at : {A B : Type 0} (f : A → B) (held : List A) (xs : List B) (k : ℕ) (a : A) (d : B) → map f held ≡ xs → a ≡ get_or held k a → k < length xs → get_or xs k d ≡ f a
-seen_at f held xs k a d seen was inside =
-    let below : k < length held = omega (arith, ap length seen, length-map held f) in
-    ap (λ ys. get_or ys k d) (sym seen) ∙ get_or-map f held k a d below ∙ ap f (sym was)
-
--- an element that is read is the one of this number
-pub read_at : {A : Type 0} (xs ys : List A) (k : ℕ) (x d : A) → xs ≡ ys → x ≡ get_or xs k x → k < length ys → x ≡ get_or ys k d
-read_at xs ys k x d same was inside = was ∙ ap (λ l. get_or l k x) same ∙ get_or_default ys k x d inside
-
--- a list has the length that is seen
-pub length-seen : {A B : Type 0} (f : A → B) (held : List A) (xs : List B) → map f held ≡ xs → length held ≡ length xs
-length-seen f held xs seen = sym (length-map held f) ∙ ap length seen
-
--- an element that is read is seen as one of the list
-pub read_in : {A B : Type 0} (f : A → B) (held : List A) (xs : List B) (k : ℕ) (d : A) → map f held ≡ xs → k < length xs → IsIn (f (get_or held k d)) xs
-read_in f held xs k d seen inside =
-    let below : k < length held = omega (arith, ap length seen, length-map held f) in
-    subst (IsIn (f (get_or held k d))) seen (in_map f _ _ (get_in k held d below))
-
--- an element that is read is seen as the one of this number
-pub read_seen : {A B : Type 0} (f : A → B) (held : List A) (xs : List B) (k : ℕ) (d : A) → map f held ≡ xs → f (get_or held k d) ≡ get_or xs k (f d)
-read_seen f held xs k d seen = sym (get_or-map_same f held k d) ∙ ap (λ l. get_or l k (f d)) seen
-
--- the element of this number of two lists that are taken together
-pub together : {A B : Type 0} (xs : List A) (ys : List B) (k : ℕ) (x d : A) (y e : B) → length ys ≡ length xs → k < length ys → x ≡ get_or xs k d → y ≡ get_or ys k e → get_or (zip xs ys) k (d, e) ≡ (x, y)
-together xs ys k x d y e same inside first second =
-    let inside' : k < length xs = omega arith in
-    get_or-zip xs ys k (d, e) inside' inside ∙ ap (λ a. (a, get_or ys k e)) (sym first) ∙ ap (λ b. (x, b)) (sym second)
-
--- two lists of one length that are taken together have it
-pub length-together : {A B : Type 0} (xs : List A) (ys : List B) → length ys ≡ length xs → length ys ≡ length (zip xs ys)
-length-together xs ys same = sym (ap length (seconds-zip xs ys same)) ∙ length-map (zip xs ys) (λ (p : _). p.1)
+use Rattle.wf_json.specs.Canonical.{position_at, module_there}
+use Rattle.wf_json.proofs.Seen.{seen_at, read_at}
 
 -- the module that stands at a position is one of the grammar's
 pub module_below : (g : Grammar) (p k : ℕ) → IsWellFormed g → p < length g.productions → k < length (production_at g p).positions → (position_at (production_at g p) k).module_no < length g.modules
@@ -92,12 +54,3 @@ pub output_there : (g : Grammar) (p : ℕ) (i : Inner) → IsInnerOutput g p i �
 output_there g p i here =
     let at = stands_at g p i.position here.0 here.1 in
     (at.0, subst (λ m. i.port < outputs_of g m) at.1 here.2)
-
--- what was appended under other names of a position and a port was appended
-pub named : {E : Type 0} (r : Result (Unit {0}) E) (old new a b position port : List ℕ) → a ≡ position → b ≡ port → OnOk r (new ≡ old ++ text_in_quotes (dotted a b)) → OnOk r (new ≡ old ++ text_in_quotes (dotted position port))
-named r old new a b position port first second done =
-    subst (λ (t : List ℕ). OnOk r (new ≡ old ++ text_in_quotes t)) (ap (λ t. dotted t b) first ∙ ap (dotted position) second) done
-
--- two texts that were appended in brackets with a comma between
-pub paired : (old a b opened first parted second closed : List ℕ) → opened ≡ old ++ codes "[" → first ≡ opened ++ a → parted ≡ first ++ codes "," → second ≡ parted ++ b → closed ≡ second ++ codes "]" → closed ≡ old ++ pair_text a b
-paired old a b opened first parted second closed p q r s t = grind (arith, append_assoc {A = ℕ})

@@ -217,17 +217,24 @@ fn line_has_its_canonical_text(rt: HostRuntime) -> Result<(), Fail> {
 fn line_has_its_digest(rt: HostRuntime) -> Result<(), Fail> {
     let grammar = Grammar::build(rt.alloc(), read_spec(rt.alloc(), LINE)?)?;
     let word = hex::encode(rt.alloc(), digest(rt.alloc(), &grammar)?)?;
-    assert_eq!(rt; word.as_str(), "8fbb4fcaf0d4776320008979b921950e24ba2b3ffd937a5fbe182481201dce8e");
+    assert_eq!(rt;
+        word.as_str(),
+        "8fbb4fcaf0d4776320008979b921950e24ba2b3ffd937a5fbe182481201dce8e"
+    );
     Ok(())
 }
 
 #[test]
 fn other_texts_of_a_grammar_have_one_canonical_text(rt: HostRuntime) -> Result<(), Fail> {
-    let text = b"{ \"modules\": [ {\"out\":[\"b\"], \"name\":\"S\"}, {\"name\":\"P\",\"out\":[\"y\"],\"color\":1} ],
+    let text =
+        b"{ \"modules\": [ {\"out\":[\"b\"], \"name\":\"S\"}, {\"name\":\"P\",\"out\":[\"y\"],\"color\":1} ],
  \"deps\": [ {\"module\":\"P\",\"pairs\":[]} ],
  \"productions\": [ {\"out\":[[\"u.y\",\"b\"]], \"body\":[[\"u\",\"P\"]], \"head\":\"S\"} ], \"start\": \"S\" }";
     let grammar = Grammar::build(rt.alloc(), read_spec(rt.alloc(), text)?)?;
     let written = canonical(rt.alloc(), &grammar)?;
-    assert_eq!(rt; written.as_slice(), b"{\"start\":\"S\",\"modules\":[{\"name\":\"S\",\"in\":[],\"out\":[\"b\"]},{\"name\":\"P\",\"in\":[],\"out\":[\"y\"]}],\"productions\":[{\"head\":\"S\",\"body\":[[\"u\",\"P\"]],\"edges\":[],\"in\":[],\"out\":[[\"u.y\",\"b\"]]}]}".as_slice());
+    assert_eq!(rt;
+        written.as_slice(),
+        b"{\"start\":\"S\",\"modules\":[{\"name\":\"S\",\"in\":[],\"out\":[\"b\"]},{\"name\":\"P\",\"in\":[],\"out\":[\"y\"]}],\"productions\":[{\"head\":\"S\",\"body\":[[\"u\",\"P\"]],\"edges\":[],\"in\":[],\"out\":[[\"u.y\",\"b\"]]}]}".as_slice()
+    );
     Ok(())
 }

@@ -47,22 +47,22 @@ same_squares modules (p ∷ ps) =
     ∙ (ap (λ n. length p.body * length p.body + n) (same_squares modules ps) ∙ sym (sum_by-cons (λ (q : ProdPart). length q.body * length q.body) p ps)))
 
 -- a module that is named has a number, and its number names it
-number_below : (modules : List Module) (n : List ℕ) → IsIn n (names_of modules) → place_of (names_of modules) n < length modules
+pub number_below : (modules : List Module) (n : List ℕ) → IsIn n (names_of modules) → place_of (names_of modules) n < length modules
 number_below modules n h = subst (λ k. place_of (names_of modules) n < k) (length-map modules (λ (m : Module). m.name)) (place_within (names_of modules) n h)
 
 below_number : (modules : List Module) (n : List ℕ) → place_of (names_of modules) n < length modules → IsIn n (names_of modules)
 below_number modules n h = is_in_place (names_of modules) n (subst (λ k. place_of (names_of modules) n < k) (sym (length-map modules (λ (m : Module). m.name))) h)
 
-differ_left : (xs ys : List (List ℕ)) → AllDiffer (xs ++ ys) → AllDiffer xs
+pub differ_left : (xs ys : List (List ℕ)) → AllDiffer (xs ++ ys) → AllDiffer xs
 differ_left [] ys d = tt
 differ_left (x ∷ xs) ys d = ((λ h. d.0 (in_append_left x xs ys h)), differ_left xs ys d.1)
 
-differ_right : (xs ys : List (List ℕ)) → AllDiffer (xs ++ ys) → AllDiffer ys
+pub differ_right : (xs ys : List (List ℕ)) → AllDiffer (xs ++ ys) → AllDiffer ys
 differ_right [] ys d = d
 differ_right (x ∷ xs) ys d = differ_right xs ys d.1
 
 -- the ports of the head of a part differ
-head_ports : (modules : List Module) (p : ProdPart) → ((m : Module) → IsIn m modules → AllDiffer (m.inputs ++ m.outputs)) → place_of (names_of modules) p.head < length modules
+pub head_ports : (modules : List Module) (p : ProdPart) → ((m : Module) → IsIn m modules → AllDiffer (m.inputs ++ m.outputs)) → place_of (names_of modules) p.head < length modules
     → AllDiffer ((head_in modules p).inputs ++ (head_in modules p).outputs)
 head_ports modules p all below = all (head_in modules p) (get_in (place_of (names_of modules) p.head) modules (record { name = []; inputs = []; outputs = [] }) below)
 

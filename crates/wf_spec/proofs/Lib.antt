@@ -24,3 +24,5 @@ pub mod ShortNames
 pub mod Sides
 pub mod Sizes
 pub mod Tables
+pub mod Whole
+pub mod Wired

@@ -22,7 +22,12 @@ pub(crate) fn place(g: &Grammar, p: ProdNo, k: usize) -> (&[u8], &Module)
 }
 
 /// Appends an input of a position.
-pub(crate) fn put_input(out: &mut Vec<u8>, g: &Grammar, p: ProdNo, i: Inner) -> Result<(), AllocError>
+pub(crate) fn put_input(
+    out: &mut Vec<u8>,
+    g: &Grammar,
+    p: ProdNo,
+    i: Inner,
+) -> Result<(), AllocError>
     requires production { p.0 < length g.now.core.productions }
     requires port { IsInnerInput g.now.core p.0 (inner_of i) }
     ensures { OnOk result (out.new.items ≡ out.old.items ++ input_text g.now.core (production_at g.now.core p.0) (inner_of i)) }
@@ -32,7 +37,12 @@ pub(crate) fn put_input(out: &mut Vec<u8>, g: &Grammar, p: ProdNo, i: Inner) -> 
 }
 
 /// Appends an output of a position.
-pub(crate) fn put_output(out: &mut Vec<u8>, g: &Grammar, p: ProdNo, i: Inner) -> Result<(), AllocError>
+pub(crate) fn put_output(
+    out: &mut Vec<u8>,
+    g: &Grammar,
+    p: ProdNo,
+    i: Inner,
+) -> Result<(), AllocError>
     requires production { p.0 < length g.now.core.productions }
     requires port { IsInnerOutput g.now.core p.0 (inner_of i) }
     ensures { OnOk result (out.new.items ≡ out.old.items ++ output_text g.now.core (production_at g.now.core p.0) (inner_of i)) }

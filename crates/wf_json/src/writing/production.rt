@@ -10,10 +10,13 @@ use std::alloc::AllocError;
 use wf_spec::{Grammar, ProdNo};
 
 /// Appends a production.
-fn put_production(out: &mut Vec<u8>, g: &Grammar, p: ProdNo) -> Result<(), AllocError>
-    requires { p.0 < length g.now.core.productions }
-    ensures { OnOk result (out.new.items ≡ out.old.items ++ production_text g.now.core (production_at g.now.core p.0)) }
+fn put_production(out: &mut Vec<u8>, g: &Grammar, k: usize) -> Result<(), AllocError>
+    requires { k < length g.now.core.productions }
+    ensures { OnOk result (out.new.items ≡ out.old.items ++ production_text g.now.core (production_at g.now.core k)) }
 {
+    let _productions = g.productions();
+    prove!(k < 1024);
+    let p = ProdNo(k as u16);
     out.extend_from_slice(b"{\"head\":")?;
     put_quoted(out, head(g, p).name())?;
     out.extend_from_slice(b",\"body\":")?;
@@ -28,19 +31,13 @@ fn put_production(out: &mut Vec<u8>, g: &Grammar, p: ProdNo) -> Result<(), Alloc
     Ok(())
 }
 
-/// Appends the production of a number.
-fn put_numbered(out: &mut Vec<u8>, g: &Grammar, k: usize) -> Result<(), AllocError>
-    requires { k < length g.now.core.productions }
-    ensures { OnOk result (out.new.items ≡ out.old.items ++ production_text g.now.core (production_at g.now.core k)) }
-{
-    let _productions = g.productions();
-    prove!(k < 1024);
-    put_production(out, g, ProdNo(k as u16))
-}
-
 /// Appends the productions of a grammar.
 pub(crate) fn put_productions(out: &mut Vec<u8>, g: &Grammar) -> Result<(), AllocError>
     ensures { OnOk result (out.new.items ≡ out.old.items ++ list_of (production_text g.now.core) g.now.core.productions) }
 {
-    put_list(out, g.productions().len(), |out, k| put_numbered(out, g, k))
+    put_list(
+        out,
+        g.productions().len(),
+        |out, k| put_production(out, g, k),
+    )
 }

@@ -1,4 +1,4 @@
-use Rattle.std.proofs.Common.{◌≡◌, ◌<◌, ◌∙◌, List, below_more, length, sym, subst, true, false, true≢false}
+use Rattle.std.proofs.Common.{◌<◌, ◌∙◌, below_more, sym, subst, true≢false}
 use Rattle.wf_model.specs.Grammar.{Production}
 use Rattle.wf_model.specs.Lists.{IsIn}
 use Rattle.wf_spec.specs.Bodies.{modules_at}

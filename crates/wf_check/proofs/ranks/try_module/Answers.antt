@@ -1,4 +1,4 @@
-use Rattle.std.proofs.Common.{◌≡◌, ◌∙◌, sym, ap, not}
+use Rattle.std.proofs.Common.{◌∙◌, sym, ap, not}
 use Rattle.wf_check.proofs.Options.{match_some, match_none}
 use Rattle.wf_check.proofs.Rounds.{round_old, round_none, round_some}
 use Rattle.wf_check.proofs.ranks.try_module.Goals as goal
@@ -9,8 +9,8 @@ returns-then-is_some-clause-round c =
     let g = c.args.g.now.core in
     let ranks = c.args.ranks.now in
     elim c.then-is_some.branch [
-      then-is_some-via-then-is_some w ↦ round_old g c.args.n c.args.m.0 ranks c.requires.module_no c.requires.round (sym c.is_some.ensures ∙ w.if-is_some.true)
-    | then-is_some-via-else-is_some+then-is_none w ↦ round_none g c.args.n c.args.m.0 ranks c.requires.formed c.requires.positive c.requires.module_no c.requires.round (sym c.is_some.ensures ∙ w.if-is_some.false)
+      | then-is_some-via-then-is_some w ↦ round_old g c.args.n c.args.m.0 ranks c.requires.module_no c.requires.round (sym c.is_some.ensures ∙ w.if-is_some.true)
+      | then-is_some-via-else-is_some+then-is_none w ↦ round_none g c.args.n c.args.m.0 ranks c.requires.formed c.requires.positive c.requires.module_no c.requires.round (sym c.is_some.ensures ∙ w.if-is_some.false)
           (match_none w.least_lower.result _ _ w.least_lower.ensures (w.is_none.ensures ∙ ap not w.if-is_none.true))
     ]
 

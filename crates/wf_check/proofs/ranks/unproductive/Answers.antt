@@ -1,4 +1,4 @@
-use Rattle.std.proofs.Common.{◌≡◌, ◌↔◌, ◌∙◌, Bool, List, true, false, get_or, map, is_some, sym, subst}
+use Rattle.std.proofs.Common.{◌≡◌, ◌↔◌, ◌∙◌, Bool, List, true, false, get_or, sym, subst}
 use Rattle.wf_check.specs.Improper.{IsProductive}
 use Rattle.wf_check.proofs.Least.{least_same}
 use Rattle.wf_check.proofs.Rounds.{productive_told}

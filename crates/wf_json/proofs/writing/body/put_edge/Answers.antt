@@ -1,7 +1,7 @@
 use Rattle.std.proofs.Common.{◌∙◌, ap}
 use Rattle.wf_model.specs.Grammar.{Production}
 use Rattle.wf_model.specs.Meaning.{edge_of}
-use Rattle.wf_json.proofs.Places.{read_in}
+use Rattle.wf_json.proofs.Seen.{read_in}
 use Rattle.wf_json.proofs.writing.body.put_edge.Goals as goal
 
 pub put_output-requires-clause-port : goal.put_output-requires-clause-port

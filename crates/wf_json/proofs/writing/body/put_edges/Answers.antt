@@ -1,10 +1,10 @@
-use Rattle.std.proofs.Common.{rules, [], ◌∙◌, ap}
+use Rattle.std.proofs.Common.{rules, ◌∙◌, ap}
 use Rattle.wf_model.specs.Grammar.{Production, production_at}
 use Rattle.wf_model.specs.Meaning.{edge_of}
 use Rattle.wf_json.specs.Canonical.{edge_text}
 use Rattle.wf_json.specs.Writing.{edge_at, first_port}
 use Rattle.wf_json.proofs.Joined.{appended}
-use Rattle.wf_json.proofs.Places.{length-seen}
+use Rattle.wf_json.proofs.Seen.{length-seen}
 use Rattle.wf_json.proofs.writing.body.put_edges.Goals as goal
 
 pub returns : goal.returns

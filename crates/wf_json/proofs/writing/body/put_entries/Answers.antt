@@ -4,7 +4,7 @@ use Rattle.wf_model.specs.Meaning.{inner_of}
 use Rattle.wf_json.specs.Canonical.{entry_text, entries_of}
 use Rattle.wf_json.specs.Writing.{entry_at, first_port}
 use Rattle.wf_json.proofs.Joined.{appended}
-use Rattle.wf_json.proofs.Places.{length-seen, length-together}
+use Rattle.wf_json.proofs.Seen.{length-seen, length-together}
 use Rattle.wf_json.proofs.writing.body.put_entries.Goals as goal
 
 pub returns : goal.returns

@@ -1,8 +1,9 @@
-use Rattle.std.proofs.Common.{◌≡◌, ◌++◌, ◌∙◌, [], ℕ, List, ap, sym, subst, length, get_or, arith, ◌<◌}
+use Rattle.std.proofs.Common.{◌≡◌, ◌++◌, ◌∙◌, [], ℕ, List, ap, sym, subst, arith}
 use Rattle.wf_model.specs.Grammar.{Inner, Module, Production, production_at}
 use Rattle.wf_model.specs.Meaning.{inner_of}
 use Rattle.wf_json.specs.Canonical.{exit_text}
-use Rattle.wf_json.proofs.Places.{read_at, read_in, read_seen, together, paired}
+use Rattle.wf_json.proofs.Appended.{paired}
+use Rattle.wf_json.proofs.Seen.{read_at, read_in, read_seen, together}
 use Rattle.wf_json.proofs.writing.body.put_exit.Goals as goal
 
 pub put_output-requires-clause-port : goal.put_output-requires-clause-port

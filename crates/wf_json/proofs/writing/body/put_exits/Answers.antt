@@ -4,7 +4,7 @@ use Rattle.wf_model.specs.Meaning.{inner_of}
 use Rattle.wf_json.specs.Canonical.{exit_text, exits_of}
 use Rattle.wf_json.specs.Writing.{exit_at, first_port}
 use Rattle.wf_json.proofs.Joined.{appended}
-use Rattle.wf_json.proofs.Places.{length-seen, length-together}
+use Rattle.wf_json.proofs.Seen.{length-seen, length-together}
 use Rattle.wf_json.proofs.writing.body.put_exits.Goals as goal
 
 pub returns : goal.returns

@@ -3,7 +3,7 @@ use Rattle.wf_model.specs.Grammar.{Production, production_at}
 use Rattle.wf_model.specs.Meaning.{position_of}
 use Rattle.wf_json.specs.Canonical.{position_at, position_text}
 use Rattle.wf_json.proofs.Joined.{appended}
-use Rattle.wf_json.proofs.Places.{length-seen}
+use Rattle.wf_json.proofs.Seen.{length-seen}
 use Rattle.wf_json.proofs.writing.body.put_positions.Goals as goal
 
 pub returns : goal.returns

@@ -1,4 +1,4 @@
-use Rattle.std.proofs.Common.{◌≡◌, ◌++◌, ℕ, List, OnOk, subst, codes}
+use Rattle.std.proofs.Common.{◌≡◌, ◌++◌, OnOk, subst, codes}
 use Rattle.wf_json.proofs.Joined.{joined_more}
 use Rattle.wf_json.proofs.writing.list.put_items.Goals as goal
 

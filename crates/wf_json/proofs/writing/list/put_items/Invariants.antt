@@ -1,4 +1,4 @@
-use Rattle.std.proofs.Common.{◌≡◌, ◌++◌, ◌<◌, ℕ, List, OnOk, codes}
+use Rattle.std.proofs.Common.{◌≡◌, ◌++◌, ℕ, List, codes}
 use Rattle.std.specs.List.{join_by}
 use Rattle.wf_json.specs.Writing.{AppendsTexts}
 use Rattle.wf_model.specs.Lists.{numbers_from}

@@ -1,4 +1,4 @@
-use Rattle.std.proofs.Common.{rules, get_or, [], ap, length, sym, ◌∙◌}
+use Rattle.std.proofs.Common.{rules, [], ap, length}
 use Rattle.wf_model.specs.Grammar.{module_at}
 use Rattle.wf_json.specs.Canonical.{module_text}
 use Rattle.wf_json.proofs.Joined.{appended}

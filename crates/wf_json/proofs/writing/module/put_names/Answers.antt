@@ -1,4 +1,4 @@
-use Rattle.std.proofs.Common.{rules, [], get_or, refl, of_calls}
+use Rattle.std.proofs.Common.{rules, [], get_or, refl}
 use Rattle.wf_json.specs.Canonical.{text_in_quotes}
 use Rattle.wf_json.proofs.Joined.{appended}
 use Rattle.wf_json.proofs.writing.module.put_names.Goals as goal

@@ -1,7 +1,9 @@
 use Rattle.std.proofs.Common.{[], ◌∙◌, ap, length, sym, subst, ◌<◌, ℕ, List}
 use Rattle.wf_model.specs.Grammar.{Module}
 use Rattle.wf_model.specs.Meaning.{inner_of}
-use Rattle.wf_json.proofs.Places.{input_there, read_at, named}
+use Rattle.wf_json.proofs.Appended.{named}
+use Rattle.wf_json.proofs.Places.{input_there}
+use Rattle.wf_json.proofs.Seen.{read_at}
 use Rattle.wf_json.proofs.writing.port.put_input.Goals as goal
 
 pub place-requires-clause-position : goal.place-requires-clause-position

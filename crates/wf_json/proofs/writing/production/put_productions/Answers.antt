@@ -3,7 +3,7 @@ use Rattle.wf_model.specs.Grammar.{production_at}
 use Rattle.wf_spec.specs.Held.{HeldProduction}
 use Rattle.wf_json.specs.Canonical.{production_text}
 use Rattle.wf_json.proofs.Joined.{appended}
-use Rattle.wf_json.proofs.Places.{length-seen}
+use Rattle.wf_json.proofs.Seen.{length-seen}
 use Rattle.wf_json.proofs.writing.production.put_productions.Goals as goal
 
 pub returns : goal.returns
