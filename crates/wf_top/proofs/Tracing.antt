@@ -9,7 +9,7 @@ use Rattle.wf_top.specs.declared.ending.Place.TheVariants.{Spec, View, Events}
 use Rattle.wf_top.specs.Endings.{End}
 use Rattle.wf_top.specs.Words.{Command}
 use Rattle.wf_top.specs.Specification.{TellsGrammar, RefusesSpec}
-use Rattle.wf_top.specs.Outcome.{IsNotBuilt, SpecStage, TellsView, TellsRun, Answers, AnswersRun, AnswersView, Does, short_most, long_most, instance_most}
+use Rattle.wf_top.specs.Outcome.{IsNotBuilt, SpecStage, TellsView, TellsRun, AnswersQueries, AnswersRun, AnswersView, Does, short_most, long_most, instance_most}
 use Rattle.wf_top.specs.Meets.{EndsBy}
 use Rattle.wf_top.specs.Stages.{IsTold, StopsAt}
 use Rattle.wf_top.proofs.Stages.{stop_ends, on_ends, tells_one}
@@ -41,7 +41,7 @@ module _ (g : Grammar) (view events queries : File) (old new : Option (List ℕ)
     events_end h s = view_goes (stop_ends long_most Events events (TellsRun g (default_view g) instance_most) (IsNotBuilt (TellsRun g (default_view g) instance_most)) _ old new d h s)
 
     -- what is answered on the run ends the program
-    pub answers_end : (e : List Event) → IsTold long_most events (TellsRun g (default_view g) instance_most) e → EndsBy (Answers g (default_view g) e queries) d old new → EndsBy (AnswersView g view events queries) d old new
+    pub answers_end : (e : List Event) → IsTold long_most events (TellsRun g (default_view g) instance_most) e → EndsBy (AnswersQueries g (default_view g) e queries) d old new → EndsBy (AnswersView g view events queries) d old new
     answers_end e run ends =
         view_goes (on_ends long_most Events events (TellsRun g (default_view g) instance_most) (IsNotBuilt (TellsRun g (default_view g) instance_most)) _ old new e run
         (λ es t. one_run g (default_view g) instance_most events.bytes e es run.tells t) (tells_one (TellsRun g (default_view g) instance_most) events.bytes e run.tells) d ends)
@@ -52,7 +52,7 @@ does files c x d old new p = subst (λ y. EndsBy (Does files y) d old new) (sym 
 
 -- the same answers by the same grammar and run
 pub for_run : (queries : File) (g h : Grammar) (r t : Table) (d : End) (old new : Option (List ℕ)) → g ≡ h → r ≡ t →
-    EndsBy (Answers g (default_view g) (events_of r) queries) d old new → EndsBy (Answers h (default_view h) (events_of t) queries) d old new
+    EndsBy (AnswersQueries g (default_view g) (events_of r) queries) d old new → EndsBy (AnswersQueries h (default_view h) (events_of t) queries) d old new
 for_run queries g h r t d old new p q ends =
-    subst (λ x. EndsBy (Answers h (default_view h) (events_of x) queries) d old new) q
-    (subst (λ x. EndsBy (Answers x (default_view x) (events_of r) queries) d old new) p ends)
+    subst (λ x. EndsBy (AnswersQueries h (default_view h) (events_of x) queries) d old new) q
+    (subst (λ x. EndsBy (AnswersQueries x (default_view x) (events_of r) queries) d old new) p ends)

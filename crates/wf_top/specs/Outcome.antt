@@ -119,12 +119,12 @@ abbrev pub Checks : File → End → List ℕ → Type 0
 Checks spec = SpecStage spec IsChecked
 
 -- QUERIES, answered on a run under a view
-abbrev pub Answers : Grammar → ViewOf → List Event → File → End → List ℕ → Type 0
-Answers g u e queries = Stage long_most Queries queries TellsLines (IsNotBuilt TellsLines) (AreAnswered g u e)
+abbrev pub AnswersQueries : Grammar → ViewOf → List Event → File → End → List ℕ → Type 0
+AnswersQueries g u e queries = Stage long_most Queries queries TellsLines (IsNotBuilt TellsLines) (AreAnswered g u e)
 
 -- EVENTS and QUERIES under a view
 abbrev pub AnswersRun : Grammar → ViewOf → File → File → End → List ℕ → Type 0
-AnswersRun g u events queries = Stage long_most Events events (TellsRun g u instance_most) (IsNotBuilt (TellsRun g u instance_most)) (λ e. Answers g u e queries)
+AnswersRun g u events queries = Stage long_most Events events (TellsRun g u instance_most) (IsNotBuilt (TellsRun g u instance_most)) (λ e. AnswersQueries g u e queries)
 
 -- VIEW, EVENTS and QUERIES of a grammar
 abbrev pub AnswersView : Grammar → File → File → File → End → List ℕ → Type 0

@@ -8,7 +8,7 @@ ghost use Rattle.wf_flat.specs.Table.{IsRunOf, events_of};
 ghost use Rattle.wf_flat.specs.Graph.{Marks};
 ghost use Rattle.wf_top.specs.declared.ending.Place.TheVariants.{View, Events, Queries};
 ghost use Rattle.wf_top.specs.Endings.{end_of, end_after};
-ghost use Rattle.wf_top.specs.Outcome.{IsNotBuilt, TellsView, TellsRun, Answers, AnswersView, Traces, short_most, long_most, instance_most};
+ghost use Rattle.wf_top.specs.Outcome.{IsNotBuilt, TellsView, TellsRun, AnswersQueries, AnswersView, Traces, short_most, long_most, instance_most};
 ghost use Rattle.wf_top.specs.Meets.{EndsBy};
 ghost use Rattle.wf_top.specs.Stages.{IsTold, StopsAt, IsReadingCause, IsCause, IsStop};
 ghost use Rattle.wf_top.specs.Prepared.{IsPrepared};
@@ -101,7 +101,7 @@ fn queries_stage<H: Shelf, O: Sink>(
     out: &mut O,
 ) -> Result<(), Ending>
     requires { IsPrepared p.now.grammar.now.core p.now.run.now p.now.flat }
-    ensures ends { (f : List ℕ → File) → H.files shelf.old ≡ Some f → EndsBy (Answers p.now.grammar.now.core (default_view p.now.grammar.now.core) (events_of p.now.run.now) (f name.now)) (end_after result) (O.put_bytes out.old) (O.put_bytes out.new) }
+    ensures ends { (f : List ℕ → File) → H.files shelf.old ≡ Some f → EndsBy (AnswersQueries p.now.grammar.now.core (default_view p.now.grammar.now.core) (events_of p.now.run.now) (f name.now)) (end_after result) (O.put_bytes out.old) (O.put_bytes out.new) }
     ensures stop { IfErr result (λ e. IsStop (end_of e)) }
     ensures cause { IfErr result (λ e. IsCause (H.faults shelf.old) (H.faults shelf.new) (H.at_last shelf.new) (O.faults out.old) (O.faults out.new) (O.at_last out.new) (end_of e)) }
     ensures same { H.files shelf.new ≡ H.files shelf.old }
@@ -124,7 +124,7 @@ fn answer_run<H: Shelf, O: Sink>(
     requires marks { Marks marks.now (default_view g.now.core) }
     requires run { IsRunOf g.now.core run.now }
     requires finished { IsFinished g.now.core (default_view g.now.core) g.now.core.start (events_of run.now) }
-    ensures ends { (f : List ℕ → File) → H.files shelf.old ≡ Some f → EndsBy (Answers g.now.core (default_view g.now.core) (events_of run.now) (f name.now)) (end_after result) (O.put_bytes out.old) (O.put_bytes out.new) }
+    ensures ends { (f : List ℕ → File) → H.files shelf.old ≡ Some f → EndsBy (AnswersQueries g.now.core (default_view g.now.core) (events_of run.now) (f name.now)) (end_after result) (O.put_bytes out.old) (O.put_bytes out.new) }
     ensures stop { IfErr result (λ e. IsStop (end_of e)) }
     ensures cause { IfErr result (λ e. IsCause (H.faults shelf.old) (H.faults shelf.new) (H.at_last shelf.new) (O.faults out.old) (O.faults out.new) (O.at_last out.new) (end_of e)) }
     ensures same { H.files shelf.new ≡ H.files shelf.old }
