@@ -1,6 +1,6 @@
 -- Composite modules, and texts for each of them in order.
 use Rattle.std.proofs.Common.{◌≡◌, ◌↔◌, IsTrue, ℕ, suc, ◌+◌, Bool, true, false, not, cond, List, [], ◌∷◌, ◌++◌, length, map, refl, sym, ap, ◌∙◌, true≢false, arith, append_assoc, append-nil}
-use Rattle.std.specs.Prelude.{◌==◌, filter, flat_map, decimal}
+use Rattle.std.specs.Prelude.{◌==◌, filter, flat_map, codes, decimal}
 use Rattle.std.proofs.lemmas.Bool.{eq-eqb}
 use Rattle.std.proofs.lemmas.Grind.{flat_map-append}
 use Rattle.std.proofs.lemmas.List.Elements.{filter-append}
@@ -50,11 +50,18 @@ appended_more f test k start before after so_far more =
     ∙ ap (λ t. start ++ t) (sym (texts_more f test k))
     ∙ ap (λ j. start ++ flat_map f (filter test (numbers_from 0 j))) (let e : suc k ≡ k + 1 = omega arith in e)
 
--- a name, two pieces with numbers behind them, and an end were appended
-pub line_made : (old a b c d name named one two end : List ℕ) (m n r p : ℕ) → named ≡ name → m ≡ r → n ≡ p → a ≡ old ++ named → b ≡ a ++ (one ++ decimal m) → c ≡ b ++ (two ++ decimal n) → d ≡ c ++ end
-    → d ≡ old ++ (name ++ (one ++ (decimal r ++ (two ++ (decimal p ++ end)))))
-line_made old a b c d name named one two end m n r p name_is rank choice h i j k =
+-- a name, two pieces with numbers behind them, and two more were appended
+pub line_made : (old a b c d e name named one two on end : List ℕ) (m n r p : ℕ) → named ≡ name → m ≡ r → n ≡ p → a ≡ old ++ named → b ≡ a ++ (one ++ decimal m) → c ≡ b ++ (two ++ decimal n) → d ≡ c ++ on → e ≡ d ++ end
+    → e ≡ old ++ (name ++ (one ++ (decimal r ++ (two ++ (decimal p ++ (on ++ end))))))
+line_made old a b c d e name named one two on end m n r p name_is rank choice h i j k l =
     let f = h ∙ ap (λ t. old ++ t) name_is in
     let s = i ∙ ap (λ t. a ++ (one ++ decimal t)) rank in
     let t = j ∙ ap (λ t. b ++ (two ++ decimal t)) choice in
+    grind (arith, append_assoc {A = ℕ})
+
+-- a word with a number behind it, and behind a space a name were appended
+pub step_made : (old a b c word name named : List ℕ) (m n : ℕ) → m ≡ n → named ≡ name → a ≡ old ++ (word ++ decimal m) → b ≡ a ++ codes " " → c ≡ b ++ named → c ≡ old ++ ((word ++ decimal n) ++ (codes " " ++ name))
+step_made old a b c word name named m n number name_is h i j =
+    let f = h ∙ ap (λ t. old ++ (word ++ decimal t)) number in
+    let s = j ∙ ap (λ t. b ++ t) name_is in
     grind (arith, append_assoc {A = ℕ})

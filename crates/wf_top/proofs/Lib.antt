@@ -1,11 +1,12 @@
 pub mod Putting
 pub mod Stages
 pub mod OneOutcome
+pub mod OneLoops
 pub mod OneFault
+pub mod OneCycles
 pub mod OneText
 pub mod CompositeLines
 pub mod SpecSteps
-pub mod LeadsDown
 pub mod Answering
 pub mod EventLines
 pub mod FlatLinks

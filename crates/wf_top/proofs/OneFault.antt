@@ -19,6 +19,7 @@ use Rattle.wf_check.specs.declared.fault.CheckFault.TheVariants.{Unreachable, Un
 use Rattle.wf_check.specs.Improper.{IsLeastWithout, UnitPath, IsUnitCycle, IsFirstOf, IsToldCycle, IsFaultOf as IsFaultOfGrammar}
 use Rattle.wf_top.specs.Refusals.{numbers_text, form_text, shape_text, check_text}
 use Rattle.wf_top.specs.Specification.{TellsGrammar, RefusesGrammar, RefusesParts, RefusesData, RefusesSpec}
+use Rattle.wf_top.proofs.OneLoops.{one_of_loops, none_of_linear}
 use Rattle.wf_top.proofs.OneOutcome.{one_reading, one_ok, one_err, ok_not_err}
 
 -- a rule fails first at one place
@@ -130,7 +131,7 @@ module _ (g : Grammar) where
   one_refusal_of_grammar x y (inl p) (inl q) = p.2 ∙ (one_of_grammar p.0 q.0 p.1 q.1 ∙ sym q.2)
   one_refusal_of_grammar x y (inl p) (inr q) = absurd (none_of_proper p.0 q.0 p.1)
   one_refusal_of_grammar x y (inr p) (inl q) = absurd (none_of_proper q.0 p.0 q.1)
-  one_refusal_of_grammar x y (inr p) (inr q) = p.2 ∙ sym q.2
+  one_refusal_of_grammar x y (inr p) (inr q) = p.1.2 ∙ (one_of_loops g p.1.0 q.1.0 p.1.1 q.1.1 ∙ sym q.1.2)
 
 none_of_formed : (parts : Parts) (f : FormFault) → IsFormed parts → IsFaultOfParts parts f → ⊥
 none_of_formed parts f formed = none_of_kept parts f ((law parts).1 formed)
@@ -163,7 +164,7 @@ no_refusal_of_parts parts bytes x g t e (inr p) = go (subst (λ z. RefusesGramma
   where
     go : RefusesGrammar (grammar_of t.parts) x → ⊥
     go (inl q) = none_of_proper (grammar_of t.parts) q.0 t.proper q.1
-    go (inr q) = q.1 t.downward
+    go (inr q) = none_of_linear (grammar_of t.parts) q.1.0 t.linear q.1.1
 
 no_refusal_of_data : (d : Data) (bytes x : List ℕ) (g : Grammar) (t : TellsGrammar bytes g) → t.read.0 ≡ d → RefusesData d x → ⊥
 no_refusal_of_data d bytes x g t e (inl p) = ok_not_err (spec_of d) t.parts p.0 (sym (ap spec_of e) ∙ t.read.2) p.1

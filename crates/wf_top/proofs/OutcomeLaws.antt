@@ -4,6 +4,7 @@ use Rattle.wf_model.specs.declared.event.Event.{Event}
 use Rattle.wf_model.specs.Grammar.{Grammar}
 use Rattle.wf_model.specs.View.{View as ViewOf}
 use Rattle.wf_model.specs.Run.{IsRun, IsFinished}
+use Rattle.wf_model.specs.Linear.{IsLinear}
 use Rattle.wf_io.specs.Told.{File}
 use Rattle.wf_io.specs.Lines.{Line}
 use Rattle.wf_top.specs.declared.ending.Place.{Place}
@@ -78,7 +79,8 @@ one_trace spec view events queries =
     one_open_stage long_most Queries queries TellsLines _ (λ a b x y. y ∙ sym x) (λ ls h. one_answers g u r told.accepted.0 told.finished ls))))
 
 one_check : (spec : File) (d e : End) (t s : List ℕ) → Checks spec d t → Checks spec e s → AreSame d e t s
-one_check spec = one_spec_stage spec IsChecked (λ g told d e t s p q. (p.0 ∙ sym q.0, p.1.2 ∙ (one_text g p.1.0 q.1.0 p.1.1 q.1.1 ∙ sym q.1.2)))
+one_check spec = one_spec_stage spec IsChecked (λ g told d e t s p q.
+    (p.0 ∙ sym q.0, p.1.4 ∙ (one_text g (subst IsLinear (sym told.is) told.linear) p.1.0 q.1.0 p.1.2 q.1.2 p.1.1 q.1.1 p.1.3 q.1.3 ∙ sym q.1.4)))
 
 one_doing : (files : List ℕ → File) (c : Option Command) (d e : End) (t s : List ℕ) → Does files c d t → Does files c e s → AreSame d e t s
 one_doing files None d e t s p q = (p.0 ∙ sym q.0, p.1 ∙ sym q.1)

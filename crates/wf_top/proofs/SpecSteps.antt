@@ -3,6 +3,7 @@ use Rattle.std.proofs.Common.{◌≡◌, ◌⊎◌, ℕ, List, refl, sym, subst,
 use Rattle.wf_model.specs.declared.parts.Parts.{Parts}
 use Rattle.wf_model.specs.Grammar.{Grammar}
 use Rattle.wf_model.specs.Proper.{IsProper}
+use Rattle.wf_model.specs.Linear.{IsLinear}
 use Rattle.wf_spec.specs.declared.fault.FormFault.{FormFault}
 use Rattle.wf_spec.specs.declared.fault.FormFault.TheVariants.{NoMemory as NoMemoryOfForm}
 use Rattle.wf_spec.specs.Forming.{grammar_of, IsFormed}
@@ -11,7 +12,7 @@ use Rattle.wf_top.specs.declared.ending.Place.{Place}
 use Rattle.wf_top.specs.declared.ending.Place.TheVariants.{Spec}
 use Rattle.wf_top.specs.Endings.{End, Done, Usage, Refused, ReadFault, WriteFault, NoMemory}
 use Rattle.wf_top.specs.Refusals.{form_text}
-use Rattle.wf_top.specs.Specification.{IsSpecText, IsDownward, TellsGrammar, RefusesGrammar, RefusesParts, RefusesSpec}
+use Rattle.wf_top.specs.Specification.{IsSpecText, TellsGrammar, RefusesGrammar, RefusesParts, RefusesSpec}
 use Rattle.wf_top.specs.Stages.{Declines}
 
 -- what declines by one refusal declines by another that comes of it
@@ -42,12 +43,12 @@ module _ (bytes : List ℕ) (parts : Parts) (read : IsSpecText bytes parts) wher
     refuses_by_grammar fault h = refuses_by_parts fault (inr (formed.1, subst (λ x. RefusesGrammar x fault) formed.0 h))
 
     -- a grammar that is taken is told
-    pub told_grammar : IsProper g → IsDownward g → TellsGrammar bytes g
-    told_grammar proper down = record {
+    pub told_grammar : IsProper g → IsLinear g → TellsGrammar bytes g
+    told_grammar proper linear = record {
       parts = parts;
       read = read;
       formed = formed.1;
       proper = subst IsProper formed.0 proper;
-      downward = subst IsDownward formed.0 down;
+      linear = subst IsLinear formed.0 linear;
       is = formed.0;
     }

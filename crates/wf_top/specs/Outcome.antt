@@ -12,6 +12,7 @@ use Rattle.wf_json.specs.Reading.{IsReading}
 use Rattle.wf_events.specs.EventForm.{event_of}
 use Rattle.wf_query.specs.Line.{IsQuery}
 use Rattle.wf_check.specs.Proper.{Ranking, IsRankingOf}
+use Rattle.wf_recur.specs.Cycles.{CyclesSeen, AreCyclesOf}
 use Rattle.wf_top.specs.declared.ending.Place.{Place}
 use Rattle.wf_top.specs.declared.ending.Place.TheVariants.{Spec, View, Events, Queries}
 use Rattle.wf_top.specs.Endings.{End, Done, Usage, Refused, ReadFault}
@@ -110,9 +111,9 @@ instance_most = 16777216
 abbrev pub SpecStage : File → (Grammar → End → List ℕ → Type 0) → End → List ℕ → Type 0
 SpecStage spec = Stage short_most Spec spec TellsGrammar RefusesSpec
 
--- the text of a grammar, with its ranks and choices, is written
+-- the text of a grammar, with its ranks, choices and cycles, is written
 abbrev pub IsChecked : Grammar → End → List ℕ → Type 0
-IsChecked g ending text = (ending ≡ Done) × ((r : Ranking) × IsRankingOf g r × (text ≡ check_text_of g r))
+IsChecked g ending text = (ending ≡ Done) × ((r : Ranking) × (c : CyclesSeen) × IsRankingOf g r × AreCyclesOf g c × (text ≡ check_text_of g r c))
 
 -- `check` over SPEC: the text of its grammar
 abbrev pub Checks : File → End → List ℕ → Type 0

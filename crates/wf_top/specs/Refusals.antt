@@ -1,7 +1,9 @@
 -- The texts of refusals: the name of the fault, and behind it what it is about.
 use Rattle.std.specs.Prelude.{ℕ, List, [], ◌++◌, map, flat_map, Option, Some, None, codes, decimal}
 use Rattle.wf_model.specs.declared.numbers.ProdNo.{ProdNo}
-use Rattle.wf_model.specs.Grammar.{Grammar, module_at}
+use Rattle.wf_model.specs.Grammar.{Grammar, module_at, production_at}
+use Rattle.wf_model.specs.Reach.{Step}
+use Rattle.wf_json.specs.Canonical.{position_at}
 use Rattle.wf_json.specs.declared.fault.Member.{Member}
 use Rattle.wf_json.specs.declared.fault.Member.TheVariants.{Top, Start, Modules, Productions, DepsList, Expand}
 use Rattle.wf_spec.specs.declared.fault.Spot.{Spot}
@@ -10,8 +12,11 @@ use Rattle.wf_spec.specs.declared.fault.FormFault.{FormFault}
 use Rattle.wf_spec.specs.declared.fault.FormFault.TheVariants.{NameBad, NameTwice, PortTwice, TooManyPorts, TooManyModules, TooManyProductions, UnknownModule, EmptyBody, BodyTooLong, BodiesTooLarge, PositionTwice, UnknownPort, PortLinkedTwice, PortUnlinked, BodyCycle, DepsOnComposite, NoMemory}
 use Rattle.wf_check.specs.declared.fault.CheckFault.{CheckFault}
 use Rattle.wf_check.specs.declared.fault.CheckFault.TheVariants.{Unreachable, Unproductive, UnitCycle, NoMemory as NoMemoryOfCheck}
+use Rattle.wf_recur.specs.declared.fault.RecurFault.{RecurFault}
+use Rattle.wf_recur.specs.declared.fault.RecurFault.TheVariants.{TwoLoops, NoMemory as NoMemoryOfRecur}
+use Rattle.wf_recur.specs.Cycles.{step_of}
 use Rattle.wf_top.specs.declared.refusal.Refusal.{Refusal}
-use Rattle.wf_top.specs.declared.refusal.Refusal.TheVariants.{TooLong, NotJson, WrongShape, Form, Check, NotBuilt}
+use Rattle.wf_top.specs.declared.refusal.Refusal.TheVariants.{TooLong, NotJson, WrongShape, Form, Check, Recur, NotBuilt}
 
 -- the word of a member
 abbrev pub member_word : Member → List ℕ
@@ -93,6 +98,19 @@ check_text g (Unproductive m) = codes "Unproductive " ++ (module_at g m.0).name
 check_text g (UnitCycle ps) = codes "UnitCycle productions" ++ numbers_text (map (λ (p : ProdNo). p.0) ps)
 check_text g NoMemoryOfCheck = codes "NoMemory"
 
+-- the name of the position to which a step leads
+abbrev pub position_name : Grammar → Step → List ℕ
+position_name g s = (position_at (production_at g s.production) s.position).name
+
+-- a word, and behind it a step: the number of its production, and the name of its position
+abbrev pub step_text : List ℕ → Grammar → Step → List ℕ
+step_text word g s = (word ++ decimal s.production) ++ (codes " " ++ position_name g s)
+
+-- why a proper grammar is not taken: the name of the fault, the name of the module, and its two least steps that lead back to it
+abbrev pub recur_text : Grammar → RecurFault → List ℕ
+recur_text g (TwoLoops m s t) = (codes "TwoLoops " ++ (module_at g m.0).name) ++ (step_text (codes " first ") g (step_of s) ++ step_text (codes " second ") g (step_of t))
+recur_text g NoMemoryOfRecur = codes "NoMemory"
+
 -- the text of a refusal
 abbrev pub refusal_text : Refusal → List ℕ
 refusal_text TooLong = codes "TooLong"
@@ -100,4 +118,5 @@ refusal_text NotJson = codes "NotJson"
 refusal_text (WrongShape m) = shape_text m
 refusal_text (Form f) = form_text f
 refusal_text (Check g f) = check_text g.core f
+refusal_text (Recur g f) = recur_text g.core f
 refusal_text NotBuilt = codes "NotBuilt"

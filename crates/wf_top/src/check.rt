@@ -1,7 +1,9 @@
 // `check`: SPEC, and then the text of its grammar.
 ghost use Rattle.std.specs.Prelude.{◌≡◌, ◌≤◌, ℕ, List, Some, IfErr};
 ghost use Rattle.wf_io.specs.Told.{File};
+ghost use Rattle.wf_model.specs.Linear.{IsLinear};
 ghost use Rattle.wf_check.specs.Proper.{IsRankingOf};
+ghost use Rattle.wf_recur.specs.Cycles.{AreCyclesOf};
 ghost use Rattle.wf_top.specs.Endings.{end_of, end_after};
 ghost use Rattle.wf_top.specs.Outcome.{IsChecked, Checks};
 ghost use Rattle.wf_top.specs.Meets.{EndsBy};
@@ -15,11 +17,13 @@ use wf_io::{Shelf, Sink};
 
 /// Puts the text of a grammar. It is made whole before it is put, so that want of memory leaves `out` as it was.
 fn put_text<O: Sink>(alloc: Global, spec: &Spec, out: &mut O) -> Result<(), Ending>
-    requires { IsRankingOf spec.now.grammar.core spec.now.ranking }
+    requires linear { IsLinear spec.now.grammar.core }
+    requires ranking { IsRankingOf spec.now.grammar.core spec.now.ranking }
+    requires cycles { AreCyclesOf spec.now.grammar.core spec.now.cycles }
     ensures ends { EndsBy (IsChecked spec.now.grammar.core) (end_after result) (O.put_bytes out.old) (O.put_bytes out.new) }
     ensures cause { IfErr result (λ e. IsWritingCause (O.faults out.old) (O.faults out.new) (O.at_last out.new) (end_of e)) }
 {
-    let Ok(text) = check_text(alloc, &spec.grammar, &spec.ranking) else {
+    let Ok(text) = check_text(alloc, &spec.grammar, &spec.ranking, &spec.cycles) else {
         return Err(Ending::NoMemory);
     };
     match out.put(&text) {

@@ -5,7 +5,6 @@ mod answer;
 mod check;
 mod check_text;
 mod command;
-mod downward;
 mod ending;
 mod events;
 mod file;

@@ -1,6 +1,7 @@
 // Why a file is refused.
 use wf_check::CheckFault;
 use wf_json::Member;
+use wf_recur::RecurFault;
 use wf_spec::{FormFault, Grammar};
 
 /// Why a file is refused. Want of memory is none of these: it is an ending of its own.
@@ -16,6 +17,8 @@ pub enum Refusal {
     Form { fault: FormFault },
     /// The grammar is not proper. It is kept for the names of its modules.
     Check { grammar: Grammar, fault: CheckFault },
+    /// The grammar is proper, and not strictly linear. It is kept for the names of its modules and positions.
+    Recur { grammar: Grammar, fault: RecurFault },
     /// The file has a form that is not built yet.
     NotBuilt,
 }

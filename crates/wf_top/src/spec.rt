@@ -1,31 +1,34 @@
-// SPEC: from bytes to a grammar, with the ranks of its modules.
+// SPEC: from bytes to a grammar, with the ranks of its modules and its cycles.
 ghost use Rattle.std.specs.Prelude.{◌≡◌, ◌⊎◌, ◌≤◌, ℕ, List, Some, IfOk, IfErr, OnOk};
 ghost use Rattle.wf_io.specs.Told.{File};
 ghost use Rattle.wf_model.specs.Proper.{IsProper};
+ghost use Rattle.wf_model.specs.Linear.{IsLinear};
+ghost use Rattle.wf_recur.specs.Cycles.{AreCyclesOf};
 ghost use Rattle.wf_spec.specs.Forming.{grammar_of, IsFormed};
 ghost use Rattle.wf_check.specs.Proper.{IsRankingOf};
 ghost use Rattle.wf_top.specs.declared.ending.Place.TheVariants.{Spec as AtSpec};
 ghost use Rattle.wf_top.specs.Endings.{end_of, Refused, NoMemory};
 ghost use Rattle.wf_top.specs.Refusals.{form_text};
-ghost use Rattle.wf_top.specs.Specification.{IsSpecText, IsDownward, TellsGrammar, RefusesSpec, RefusesParts, RefusesGrammar};
+ghost use Rattle.wf_top.specs.Specification.{IsSpecText, TellsGrammar, RefusesSpec, RefusesParts, RefusesGrammar};
 ghost use Rattle.wf_top.specs.Outcome.{short_most};
 ghost use Rattle.wf_top.specs.Stages.{Declines, IsTold, StopsAt, IsReadingCause};
 
-use crate::downward::is_downward;
-use crate::ending::{Ending, Place, not_built};
+use crate::ending::{Ending, Place};
 use crate::file::{SHORT, read_file};
 use crate::refusal::Refusal;
 use std::alloc::Global;
 use wf_check::{CheckFault, Proper, proper};
 use wf_io::Shelf;
 use wf_json::{JsonFault, read_spec};
+use wf_recur::{Cycles, RecurFault, cycles};
 use wf_spec::{FormFault, Grammar, Parts};
 
-/// A grammar that commands take, with the ranks of its modules.
+/// A grammar that commands take, with the ranks of its modules and its cycles.
 #[derive(Drop)]
 pub struct Spec {
     pub grammar: Grammar,
     pub ranking: Proper,
+    pub cycles: Cycles,
 }
 
 fn refused(refusal: Refusal) -> Ending
@@ -71,35 +74,50 @@ fn grammar_of_parts(alloc: Global, parts: Parts) -> Result<Grammar, Ending>
     }
 }
 
-/// A grammar that is proper and not recursive.
-fn taken(alloc: Global, g: Grammar) -> Result<Spec, Ending>
-    ensures ok { IfOk result (λ s. (s.grammar ≡ g) × IsProper g.core × IsDownward g.core) }
+/// A proper grammar that is strictly linear.
+fn with_cycles(alloc: Global, g: Grammar, ranking: Proper) -> Result<Spec, Ending>
+    requires proper { IsProper g.core }
+    requires ranking { IsRankingOf g.core ranking }
+    ensures ok { IfOk result (λ s. (s.grammar ≡ g) × IsLinear g.core) }
     ensures ranking { IfOk result (λ s. IsRankingOf s.grammar.core s.ranking) }
+    ensures cycles { IfOk result (λ s. AreCyclesOf s.grammar.core s.cycles) }
+    ensures declines { IfErr result (λ e. Declines AtSpec (RefusesGrammar g.core) (end_of e)) }
+{
+    match cycles(alloc, &g) {
+        Ok(cycles) => Ok(Spec {
+            grammar: g,
+            ranking,
+            cycles,
+        }),
+        Err(RecurFault::NoMemory) => Err(Ending::NoMemory),
+        Err(fault) => Err(refused(Refusal::Recur { grammar: g, fault })),
+    }
+}
+
+/// A grammar that is proper and strictly linear.
+fn taken(alloc: Global, g: Grammar) -> Result<Spec, Ending>
+    ensures ok { IfOk result (λ s. (s.grammar ≡ g) × IsProper g.core × IsLinear g.core) }
+    ensures ranking { IfOk result (λ s. IsRankingOf s.grammar.core s.ranking) }
+    ensures cycles { IfOk result (λ s. AreCyclesOf s.grammar.core s.cycles) }
     ensures declines { IfErr result (λ e. Declines AtSpec (RefusesGrammar g.core) (end_of e)) }
 {
     match proper(alloc, &g) {
-        Ok(ranking) => {
-            if !is_downward(&g) {
-                return Err(not_built(Place::Spec));
-            }
-            Ok(Spec {
-                grammar: g,
-                ranking,
-            })
-        }
+        Ok(ranking) => with_cycles(alloc, g, ranking),
         Err(CheckFault::NoMemory) => Err(Ending::NoMemory),
         Err(fault) => Err(refused(Refusal::Check { grammar: g, fault })),
     }
 }
 
-/// The grammar that a specification tells, with the ranks of its modules.
+/// The grammar that a specification tells, with the ranks of its modules and its cycles.
 ///
-/// Refused with the first that there is of: NotJson; WrongShape; the fault of the parts; the fault of the grammar; and NotBuilt where a body has a module whose number is not greater than its head's. `NoMemory` may come at any time.
+/// Refused with the first that there is of: NotJson; WrongShape; the fault of the parts; the fault of the grammar where it is not proper; and TwoLoops where it is not strictly linear. `NoMemory` may come at any time.
 ///
-/// Cost: those of `read_spec`, `Grammar::build` and `proper`.
+/// Cost: those of `read_spec`, `Grammar::build`, `proper` and `cycles`.
 fn spec_of_bytes(alloc: Global, bytes: &[u8]) -> Result<Spec, Ending>
     ensures ok { IfOk result (λ s. TellsGrammar bytes.now s.grammar.core) }
+    ensures linear { IfOk result (λ s. IsLinear s.grammar.core) }
     ensures ranking { IfOk result (λ s. IsRankingOf s.grammar.core s.ranking) }
+    ensures cycles { IfOk result (λ s. AreCyclesOf s.grammar.core s.cycles) }
     ensures declines { IfErr result (λ e. Declines AtSpec (RefusesSpec bytes.now) (end_of e)) }
 {
     let parts = parts_of_bytes(alloc, bytes)?;
@@ -110,7 +128,9 @@ fn spec_of_bytes(alloc: Global, bytes: &[u8]) -> Result<Spec, Ending>
 /// The grammar of SPEC.
 pub fn spec_stage<H: Shelf>(alloc: Global, shelf: &mut H, name: &str) -> Result<Spec, Ending>
     ensures ok { IfOk result (λ s. (f : List ℕ → File) → H.files shelf.old ≡ Some f → IsTold short_most (f name.now) TellsGrammar s.grammar.core) }
+    ensures linear { IfOk result (λ s. IsLinear s.grammar.core) }
     ensures ranking { IfOk result (λ s. IsRankingOf s.grammar.core s.ranking) }
+    ensures cycles { IfOk result (λ s. AreCyclesOf s.grammar.core s.cycles) }
     ensures stops { IfErr result (λ e. (f : List ℕ → File) → H.files shelf.old ≡ Some f → StopsAt short_most AtSpec (f name.now) RefusesSpec (end_of e)) }
     ensures cause { IfErr result (λ e. IsReadingCause (H.faults shelf.old) (H.faults shelf.new) (H.at_last shelf.new) (end_of e)) }
     ensures count { OnOk result (H.faults shelf.new ≡ H.faults shelf.old) }

@@ -1,15 +1,17 @@
 // The texts of refusals, put piece by piece.
 ghost use Rattle.std.specs.Prelude.{◌≡◌, ◌++◌, Some, map, codes};
 ghost use Rattle.wf_model.specs.Grammar.{module_at};
+ghost use Rattle.wf_recur.specs.Cycles.{step_of};
 ghost use Rattle.wf_top.specs.Meets.{Puts};
-ghost use Rattle.wf_top.specs.Refusals.{member_word, spot_text, form_name, form_spot, behind_space, form_text, numbers_text, check_text, refusal_text};
+ghost use Rattle.wf_top.specs.Refusals.{member_word, spot_text, form_name, form_spot, behind_space, form_text, numbers_text, check_text, position_name, step_text, recur_text, refusal_text};
 
 use crate::put::{put, put_numbered, put_numbers, put_two};
 use crate::refusal::Refusal;
 use wf_check::CheckFault;
 use wf_io::{Failed, Sink};
 use wf_json::Member;
-use wf_spec::{FormFault, Grammar, ModNo, ProdNo, Spot};
+use wf_recur::RecurFault;
+use wf_spec::{FormFault, Grammar, ModNo, ProdNo, Spot, Step};
 
 fn member_word(member: Member) -> &'static [u8]
     ensures { result.now ≡ member_word member }
@@ -137,6 +139,60 @@ fn put_cycle<E: Sink>(err: &mut E, productions: &[ProdNo]) -> Result<(), Failed>
     put_numbers(err, productions)
 }
 
+/// The name of the position to which a step leads, and none past the end.
+pub fn position_name(g: &Grammar, step: Step) -> &[u8]
+    ensures { result.now ≡ position_name g.now.core (step_of step) }
+{
+    let Some(rule) = g.productions().get(step.production.0 as usize) else {
+        return b"";
+    };
+    match rule.positions().get(step.position.0 as usize) {
+        Some(position) => position.name.bytes(),
+        None => b"",
+    }
+}
+
+/// Puts a word and a step.
+fn put_step<E: Sink>(err: &mut E, word: &[u8], g: &Grammar, step: Step) -> Result<(), Failed>
+    ensures { Puts E.put_bytes E.faults E.at_last (step_text word.now g.now.core (step_of step)) err.old err.new result }
+{
+    put_numbered(err, word, u64::from(step.production.0))?;
+    put_two(err, b" ", position_name(g, step))
+}
+
+fn put_steps<E: Sink>(err: &mut E, g: &Grammar, first: Step, second: Step) -> Result<(), Failed>
+    ensures { Puts E.put_bytes E.faults E.at_last (step_text (codes " first ") g.now.core (step_of first) ++ step_text (codes " second ") g.now.core (step_of second)) err.old err.new result }
+{
+    put_step(err, b" first ", g, first)?;
+    put_step(err, b" second ", g, second)
+}
+
+fn put_loops<E: Sink>(
+    err: &mut E,
+    g: &Grammar,
+    m: ModNo,
+    first: Step,
+    second: Step,
+) -> Result<(), Failed>
+    ensures { Puts E.put_bytes E.faults E.at_last ((codes "TwoLoops " ++ (module_at g.now.core m.0).name) ++ (step_text (codes " first ") g.now.core (step_of first) ++ step_text (codes " second ") g.now.core (step_of second))) err.old err.new result }
+{
+    put_two(err, b"TwoLoops ", module_name(g, m))?;
+    put_steps(err, g, first, second)
+}
+
+fn put_recur<E: Sink>(err: &mut E, g: &Grammar, fault: RecurFault) -> Result<(), Failed>
+    ensures { Puts E.put_bytes E.faults E.at_last (recur_text g.now.core fault) err.old err.new result }
+{
+    match fault {
+        RecurFault::TwoLoops {
+            module,
+            first,
+            second,
+        } => put_loops(err, g, module, first, second),
+        RecurFault::NoMemory => put(err, b"NoMemory"),
+    }
+}
+
 /// Puts the text of a refusal.
 pub fn put_refusal<E: Sink>(err: &mut E, refusal: &Refusal) -> Result<(), Failed>
     ensures { Puts E.put_bytes E.faults E.at_last (refusal_text refusal.now) err.old err.new result }
@@ -147,6 +203,7 @@ pub fn put_refusal<E: Sink>(err: &mut E, refusal: &Refusal) -> Result<(), Failed
         Refusal::WrongShape { member } => put_two(err, b"WrongShape ", member_word(*member)),
         Refusal::Form { fault } => put_form(err, *fault),
         Refusal::Check { grammar, fault } => put_check(err, grammar, fault),
+        Refusal::Recur { grammar, fault } => put_recur(err, grammar, *fault),
         Refusal::NotBuilt => put(err, b"NotBuilt"),
     }
 }

@@ -4,8 +4,8 @@ use Rattle.wf_top.proofs.check.put_text.Goals as goal
 
 pub returns-in-Ok-put-clause-ends : goal.returns-in-Ok-put-clause-ends
 returns-in-Ok-put-clause-ends g c =
-    text_put c.args.spec.now.grammar.core c.args.spec.now.ranking c.deref.result.now c.requires (c.deref.ensures.value ∙ c.in-Ok.ensures) _ _ c.in-Ok-put.ensures.ok
+    text_put c.args.spec.now.grammar.core c.requires.linear c.args.spec.now.ranking c.args.spec.now.cycles c.deref.result.now c.requires.ranking c.requires.cycles (c.deref.ensures.value ∙ c.in-Ok.ensures) _ _ c.in-Ok-put.ensures.ok
 
 pub returns-clause-ends : goal.returns-clause-ends
 returns-clause-ends g c =
-    text_part c.args.spec.now.grammar.core c.args.spec.now.ranking c.deref.result.now c.requires (c.deref.ensures.value ∙ c.in-Ok.ensures) _ _ (c.in-Err.ensures.err refl)
+    text_part c.args.spec.now.grammar.core c.requires.linear c.args.spec.now.ranking c.args.spec.now.cycles c.deref.result.now c.requires.ranking c.requires.cycles (c.deref.ensures.value ∙ c.in-Ok.ensures) _ _ (c.in-Err.ensures.err refl)
