@@ -1,5 +1,5 @@
 -- Answers line by line: how the ending of the lines that are left makes that of all.
-use Rattle.std.proofs.Common.{◌≡◌, ℕ, true, false, List, [], ◌∷◌, ◌++◌, take, Option, refl, sym, ap, ◌∙◌, subst, inl, inr, true≢false}
+use Rattle.std.proofs.Common.{◌≡◌, ℕ, true, false, List, [], ◌∷◌, ◌++◌, take, Option, None, refl, sym, ap, ◌∙◌, subst, inl, inr, true≢false}
 use Rattle.std.specs.Prelude.{codes}
 use Rattle.wf_model.specs.declared.event.Event.{Event}
 use Rattle.wf_model.specs.Grammar.{Grammar}
@@ -23,8 +23,8 @@ module _ (g : Grammar) (u : View) (e : List Event) (run : IsRun g g.start e) (fi
   answered_none old new s = nothing_put _ Done old new s (λ w. (refl, refl))
 
   -- the first line is no query
-  pub answered_bad : (l : Line) (ls : List Line) (old new : Option (List ℕ)) → new ≡ old → ((first second : List ℕ) → IsQueryLine l first second → ⊥) → EndsBy (AreAnswered g u e (l ∷ ls)) (Refused Queries (codes "NotBuilt")) old new
-  answered_bad l ls old new s bad = nothing_put _ (Refused Queries (codes "NotBuilt")) old new s (λ w. inl (bad, refl, refl))
+  pub answered_bad : (l : Line) (ls : List Line) (old new : Option (List ℕ)) → new ≡ old → ((first second : List ℕ) → IsQueryLine l first second → ⊥) → EndsBy (AreAnswered g u e (l ∷ ls)) (Refused Queries None (codes "NotBuilt")) old new
+  answered_bad l ls old new s bad = nothing_put _ (Refused Queries None (codes "NotBuilt")) old new s (λ w. inl (bad, refl, refl))
 
   -- want of memory, with nothing put
   pub answered_wanting : (ls : List Line) (old new : Option (List ℕ)) → new ≡ old → EndsBy (AreAnswered g u e ls) NoMemory old new
@@ -58,14 +58,14 @@ module _ (g : Grammar) (u : View) (e : List Event) (run : IsRun g g.start e) (fi
   pub line_ends : (l : Line) (ls : List Line) (d : End) (old new : Option (List ℕ)) → is_too_long l.raw ≡ false → EndsAt g u e (text_of l.raw) d old new → EndsBy (AreAnswered g u e (l ∷ ls)) d old new
   line_ends l ls Done old new short h = absurd h
   line_ends l ls Usage old new short h = absurd h
-  line_ends l ls (Refused p fault) old new short h =
-      subst (λ d. EndsBy (AreAnswered g u e (l ∷ ls)) d old new) (sym (ap (λ q. Refused q fault) h.0 ∙ ap (Refused Queries) h.1)) (answered_bad l ls old new h.3 (λ a b q. h.2 a b q.1))
+  line_ends l ls (Refused p line fault) old new short h =
+      subst (λ d. EndsBy (AreAnswered g u e (l ∷ ls)) d old new) (sym (ap (λ q. Refused q line fault) h.0 ∙ (ap (λ n. Refused Queries n fault) h.1 ∙ ap (Refused Queries None) h.2))) (answered_bad l ls old new h.4 (λ a b q. h.3 a b q.1))
   line_ends l ls (ReadFault p) old new short h = absurd h
   line_ends l ls WriteFault old new short h = answered_part l ls h.0 (answered_by l h.0 short h.1) old new h.2
   line_ends l ls NoMemory old new short h = answered_wanting (l ∷ ls) old new h
 
   -- a line that is too long ends the program
-  pub long_ends : (l : Line) (ls : List Line) (old new : Option (List ℕ)) → is_too_long l.raw ≡ true → new ≡ old → EndsBy (AreAnswered g u e (l ∷ ls)) (Refused Queries (codes "NotBuilt")) old new
+  pub long_ends : (l : Line) (ls : List Line) (old new : Option (List ℕ)) → is_too_long l.raw ≡ true → new ≡ old → EndsBy (AreAnswered g u e (l ∷ ls)) (Refused Queries None (codes "NotBuilt")) old new
   long_ends l ls old new long s = answered_bad l ls old new s (λ a b q. true≢false (sym long ∙ q.0))
 
   -- the first line was answered, and what follows ends so
@@ -86,8 +86,8 @@ module _ (g : Grammar) (u : View) (e : List Event) (run : IsRun g g.start e) (fi
   done_leads left now leads none = leads Done now (subst (λ ls. EndsBy (AreAnswered g u e ls) Done now now) (sym none) (answered_none g u e run finished now now refl))
 
   -- the next line is too long
-  pub long_leads : (left rest : List Line) (l : Line) (now : Option (List ℕ)) → Leads g u e all old left now → left ≡ l ∷ rest → is_too_long l.raw ≡ true → EndsBy (AreAnswered g u e all) (Refused Queries (codes "NotBuilt")) old now
-  long_leads left rest l now leads next long = leads (Refused Queries (codes "NotBuilt")) now (subst (λ ls. EndsBy (AreAnswered g u e ls) (Refused Queries (codes "NotBuilt")) now now) (sym next) (long_ends g u e run finished l rest now now long refl))
+  pub long_leads : (left rest : List Line) (l : Line) (now : Option (List ℕ)) → Leads g u e all old left now → left ≡ l ∷ rest → is_too_long l.raw ≡ true → EndsBy (AreAnswered g u e all) (Refused Queries None (codes "NotBuilt")) old now
+  long_leads left rest l now leads next long = leads (Refused Queries None (codes "NotBuilt")) now (subst (λ ls. EndsBy (AreAnswered g u e ls) (Refused Queries None (codes "NotBuilt")) now now) (sym next) (long_ends g u e run finished l rest now now long refl))
 
   module _ (left rest : List Line) (l : Line) (text : List ℕ) (now : Option (List ℕ)) (leads : Leads g u e all old left now) (next : left ≡ l ∷ rest) (short : is_too_long l.raw ≡ false) (same : text ≡ text_of l.raw) where
     -- the next line ends the program

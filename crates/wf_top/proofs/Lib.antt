@@ -4,6 +4,7 @@ pub mod OneOutcome
 pub mod OneLoops
 pub mod OneFault
 pub mod OneCycles
+pub mod OneRunFault
 pub mod OneText
 pub mod CompositeLines
 pub mod SpecSteps

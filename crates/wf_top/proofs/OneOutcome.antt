@@ -17,9 +17,10 @@ use Rattle.wf_spec.specs.Forming.{grammar_of}
 use Rattle.wf_query.proofs.Names.{query_law}
 use Rattle.wf_top.specs.Answers.{are_visible, IsShown, IsAnswerFor, IsAnswer}
 use Rattle.wf_top.specs.Specification.{IsSpecText, TellsGrammar}
-use Rattle.wf_top.specs.Outcome.{TellsView, IsEventText, AreEvents, TellsRun, IsAnswered}
+use Rattle.wf_top.specs.RunTold.{IsEventText, AreEvents, TellsRun}
+use Rattle.wf_top.specs.Outcome.{TellsView, IsAnswered}
 
-some_same : {A : Type 0} (x y : A) → Some x ≡ Some y → x ≡ y
+pub some_same : {A : Type 0} (x y : A) → Some x ≡ Some y → x ≡ y
 some_same x y e = ap (λ o. unwrap_or o x) e
 
 abbrev ok_or : {A E : Type 0} → A → Result A E → A

@@ -12,20 +12,23 @@ use Rattle.wf_top.specs.declared.ending.Place.TheVariants.{Spec, View, Events, Q
 use Rattle.wf_top.specs.Endings.{End, Refused}
 use Rattle.wf_top.specs.Words.{Command, Check, Trace, command_of}
 use Rattle.wf_top.specs.Specification.{TellsGrammar, RefusesSpec}
-use Rattle.wf_top.specs.Outcome.{Stage, too_long, broken, refused, goes_on, IsNotBuilt, TellsView, TellsRun, TellsLines, AreAnswered, SpecStage, IsChecked, Checks, Traces, Does, short_most, long_most}
+use Rattle.wf_top.specs.Telling.{IsNotBuilt, OfWhole}
+use Rattle.wf_top.specs.RunTold.{TellsRun, RefusesRun}
+use Rattle.wf_top.specs.Outcome.{Stage, too_long, broken, refused, goes_on, TellsView, TellsLines, AreAnswered, SpecStage, IsChecked, Checks, Traces, Does, short_most, long_most}
 use Rattle.wf_top.specs.Laws.{OneOutcomeLaw}
 use Rattle.wf_top.proofs.OneOutcome.{one_grammar, one_view, one_run, one_written}
 use Rattle.wf_top.proofs.OneFault.{one_refusal, no_refusal}
+use Rattle.wf_top.proofs.OneRunFault.{one_refusal_of_run, no_refusal_of_run}
 use Rattle.wf_top.proofs.OneText.{one_text}
 
 -- ends and texts that are the same
 abbrev AreSame : End → End → List ℕ → List ℕ → Type 0
 AreSame d e t s = (d ≡ e) × (t ≡ s)
 
-module _ {A : Type 0} (most : ℕ) (place : Place) (file : File) (Tells : List ℕ → A → Type 0) (Refuses : List ℕ → List ℕ → Type 0) (Next : A → End → List ℕ → Type 0)
+module _ {A : Type 0} (most : ℕ) (place : Place) (file : File) (Tells : List ℕ → A → Type 0) (Refuses : List ℕ → Option ℕ → List ℕ → Type 0) (Next : A → End → List ℕ → Type 0)
     (one : (a b : A) → Tells file.bytes a → Tells file.bytes b → b ≡ a)
-    (one_fault : (x y : List ℕ) → Refuses file.bytes x → Refuses file.bytes y → x ≡ y)
-    (apart : (a : A) (x : List ℕ) → Tells file.bytes a → Refuses file.bytes x → ⊥)
+    (one_fault : (l m : Option ℕ) (x y : List ℕ) → Refuses file.bytes l x → Refuses file.bytes m y → (l ≡ m) × (x ≡ y))
+    (apart : (a : A) (l : Option ℕ) (x : List ℕ) → Tells file.bytes a → Refuses file.bytes l x → ⊥)
     (next_one : (a : A) → Tells file.bytes a → (d e : End) (t s : List ℕ) → Next a d t → Next a e s → AreSame d e t s) where
   too_short : most < length file.bytes → length file.bytes ≤ most → ⊥
   too_short l s = absurd (omega arith)
@@ -34,32 +37,33 @@ module _ {A : Type 0} (most : ℕ) (place : Place) (file : File) (Tells : List �
   one_stage : (d e : End) (t s : List ℕ) → Stage most place file Tells Refuses Next d t → Stage most place file Tells Refuses Next e s → AreSame d e t s
   one_stage d e t s (too_long l x y) (too_long m u v) = (x ∙ sym u, y ∙ sym v)
   one_stage d e t s (too_long l x y) (broken m b u v) = absurd (too_short l m)
-  one_stage d e t s (too_long l x y) (refused m b f h u v) = absurd (too_short l m)
+  one_stage d e t s (too_long l x y) (refused m b n f h u v) = absurd (too_short l m)
   one_stage d e t s (too_long l x y) (goes_on m b c h n) = absurd (too_short l m)
   one_stage d e t s (broken l a x y) (too_long m u v) = absurd (too_short m l)
   one_stage d e t s (broken l a x y) (broken m b u v) = (x ∙ sym u, y ∙ sym v)
-  one_stage d e t s (broken l a x y) (refused m b f h u v) = absurd (true≢false (sym a ∙ b))
+  one_stage d e t s (broken l a x y) (refused m b n f h u v) = absurd (true≢false (sym a ∙ b))
   one_stage d e t s (broken l a x y) (goes_on m b c h n) = absurd (true≢false (sym a ∙ b))
-  one_stage d e t s (refused l a f k x y) (too_long m u v) = absurd (too_short m l)
-  one_stage d e t s (refused l a f k x y) (broken m b u v) = absurd (true≢false (sym b ∙ a))
-  one_stage d e t s (refused l a f k x y) (refused m b g h u v) = (x ∙ (ap (Refused place) (one_fault f g k h) ∙ sym u), y ∙ sym v)
-  one_stage d e t s (refused l a f k x y) (goes_on m b c h n) = absurd (apart c f h k)
+  one_stage d e t s (refused l a n f k x y) (too_long m u v) = absurd (too_short m l)
+  one_stage d e t s (refused l a n f k x y) (broken m b u v) = absurd (true≢false (sym b ∙ a))
+  one_stage d e t s (refused l a n f k x y) (refused m b o g h u v) = let r = one_fault n o f g k h in (x ∙ (ap (λ z. Refused place z f) r.0 ∙ (ap (Refused place o) r.1 ∙ sym u)), y ∙ sym v)
+  one_stage d e t s (refused l a n f k x y) (goes_on m b c h o) = absurd (apart c n f h k)
   one_stage d e t s (goes_on l a z k n) (too_long m u v) = absurd (too_short m l)
   one_stage d e t s (goes_on l a z k n) (broken m b u v) = absurd (true≢false (sym b ∙ a))
-  one_stage d e t s (goes_on l a z k n) (refused m b f h u v) = absurd (apart z f k h)
+  one_stage d e t s (goes_on l a z k n) (refused m b o f h u v) = absurd (apart z o f k h)
   one_stage d e t s (goes_on l a z k n) (goes_on m b c h o) = next_one z k d e t s n (subst (λ x. Next x e s) (one z c k h) o)
 
 module _ {A : Type 0} (most : ℕ) (place : Place) (file : File) (Tells : List ℕ → A → Type 0) (Next : A → End → List ℕ → Type 0)
     (one : (a b : A) → Tells file.bytes a → Tells file.bytes b → b ≡ a)
     (next_one : (a : A) → Tells file.bytes a → (d e : End) (t s : List ℕ) → Next a d t → Next a e s → AreSame d e t s) where
   -- so has one that refuses what tells no value
-  one_open_stage : (d e : End) (t s : List ℕ) → Stage most place file Tells (IsNotBuilt Tells) Next d t → Stage most place file Tells (IsNotBuilt Tells) Next e s → AreSame d e t s
-  one_open_stage = one_stage most place file Tells (IsNotBuilt Tells) Next one (λ x y p q. p.1 ∙ sym q.1) (λ a x t r. r.0 a t) next_one
+  one_open_stage : (d e : End) (t s : List ℕ) → Stage most place file Tells (OfWhole (IsNotBuilt Tells)) Next d t → Stage most place file Tells (OfWhole (IsNotBuilt Tells)) Next e s → AreSame d e t s
+  one_open_stage = one_stage most place file Tells (OfWhole (IsNotBuilt Tells)) Next one (λ l m x y p q. (p.0 ∙ sym q.0, p.1.1 ∙ sym q.1.1)) (λ a l x t r. r.1.0 a t) next_one
 
 -- so has that of SPEC
 one_spec_stage : (spec : File) (Next : Grammar → End → List ℕ → Type 0) → ((g : Grammar) → TellsGrammar spec.bytes g → (d e : End) (t s : List ℕ) → Next g d t → Next g e s → AreSame d e t s) →
     (d e : End) (t s : List ℕ) → SpecStage spec Next d t → SpecStage spec Next e s → AreSame d e t s
-one_spec_stage spec Next next = one_stage short_most Spec spec TellsGrammar RefusesSpec Next (one_grammar spec.bytes) (one_refusal spec.bytes) (λ g x t r. no_refusal spec.bytes x g t r) next
+one_spec_stage spec Next next =
+    one_stage short_most Spec spec TellsGrammar (OfWhole RefusesSpec) Next (one_grammar spec.bytes) (λ l m x y p q. (p.0 ∙ sym q.0, one_refusal spec.bytes x y p.1 q.1)) (λ g l x t r. no_refusal spec.bytes x g t r.1) next
 
 one_answers : (g : Grammar) (u : ViewOf) (e : List Event) → IsRun g g.start e → IsFinished g u g.start e → (ls : List Line) (d f : End) (t s : List ℕ) → AreAnswered g u e ls d t → AreAnswered g u e ls f s → AreSame d f t s
 one_answers g u e run fin [] d f t s p q = (p.0 ∙ sym q.0, p.1 ∙ sym q.1)
@@ -75,7 +79,7 @@ one_trace : (spec view events queries : File) (d e : End) (t s : List ℕ) → T
 one_trace spec view events queries =
     one_spec_stage spec _ (λ g p.
     one_open_stage short_most View view (TellsView g) _ (one_view g view.bytes) (λ u q.
-    one_open_stage long_most Events events (TellsRun g u _) _ (one_run g u _ events.bytes) (λ r told.
+    one_stage long_most Events events (TellsRun g u _) (RefusesRun g u _) _ (one_run g u _ events.bytes) (one_refusal_of_run g _ u events.bytes) (no_refusal_of_run g _ u events.bytes) (λ r told.
     one_open_stage long_most Queries queries TellsLines _ (λ a b x y. y ∙ sym x) (λ ls h. one_answers g u r told.accepted.0 told.finished ls))))
 
 one_check : (spec : File) (d e : End) (t s : List ℕ) → Checks spec d t → Checks spec e s → AreSame d e t s

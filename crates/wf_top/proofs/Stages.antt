@@ -1,11 +1,12 @@
 -- How stages make the outcome of what follows them.
-use Rattle.std.proofs.Common.{◌≡◌, ℕ, List, [], take, Option, refl, sym, ap, ◌∙◌, subst, inl, inr, ⊎_elim, arith, true≢false}
+use Rattle.std.proofs.Common.{◌≡◌, ℕ, List, [], take, Option, None, refl, sym, ap, ◌∙◌, subst, inl, inr, ⊎_elim, arith, true≢false}
 use Rattle.std.specs.Prelude.{Result, Err, IfErr, Bool}
 use Rattle.wf_io.specs.Told.{File}
 use Rattle.wf_top.specs.declared.ending.Ending.{Ending}
 use Rattle.wf_top.specs.declared.ending.Place.{Place}
 use Rattle.wf_top.specs.Endings.{End, Done, Usage, Refused, ReadFault, WriteFault, NoMemory, end_of, end_after}
-use Rattle.wf_top.specs.Outcome.{Stage, too_long, broken, refused, goes_on, IsNotBuilt}
+use Rattle.wf_top.specs.Telling.{IsNotBuilt, OfWhole}
+use Rattle.wf_top.specs.Outcome.{Stage, too_long, broken, refused, goes_on}
 use Rattle.wf_top.specs.Meets.{Appended, EndsBy, IsOfOutcome}
 use Rattle.wf_top.specs.Stages.{IsTold, StopsAt, Declines, Holds, RefusesNone, IsCause}
 use Rattle.wf_top.proofs.Putting.{appended_none, begun_none}
@@ -21,21 +22,21 @@ nothing_put R e old new s h = record {
 pub wanting : (R : End → List ℕ → Type 0) (old new : Option (List ℕ)) → new ≡ old → EndsBy R NoMemory old new
 wanting R old new s = nothing_put R NoMemory old new s (λ w. absurd (w.1 refl))
 
-module _ {A : Type 0} (most : ℕ) (place : Place) (file : File) (Tells : List ℕ → A → Type 0) (Refuses : List ℕ → List ℕ → Type 0) (Next : A → End → List ℕ → Type 0) (old new : Option (List ℕ)) where
+module _ {A : Type 0} (most : ℕ) (place : Place) (file : File) (Tells : List ℕ → A → Type 0) (Refuses : List ℕ → Option ℕ → List ℕ → Type 0) (Next : A → End → List ℕ → Type 0) (old new : Option (List ℕ)) where
   -- a stage that stops ends the program
   pub stop_ends : (e : End) → StopsAt most place file Refuses e → new ≡ old → EndsBy (Stage most place file Tells Refuses Next) e old new
   stop_ends Done h s = absurd h
   stop_ends Usage h s = absurd h
-  stop_ends (Refused p fault) h s =
-      nothing_put _ (Refused p fault) old new s (λ w.
-      ⊎_elim (λ l. too_long l.0 (ap (λ q. Refused q fault) h.0 ∙ ap (Refused place) l.1) refl)
-      (λ q. refused q.0 q.1 fault q.2 (ap (λ r. Refused r fault) h.0) refl) h.1)
+  stop_ends (Refused p line fault) h s =
+      nothing_put _ (Refused p line fault) old new s (λ w.
+      ⊎_elim (λ l. too_long l.0 (ap (λ q. Refused q line fault) h.0 ∙ (ap (λ n. Refused place n fault) l.1 ∙ ap (Refused place None) l.2)) refl)
+      (λ q. refused q.0 q.1 line fault q.2 (ap (λ r. Refused r line fault) h.0) refl) h.1)
   stop_ends (ReadFault p) h s = nothing_put _ (ReadFault p) old new s (λ w. broken h.1 h.2 (ap ReadFault h.0) refl)
   stop_ends WriteFault h s = absurd h
   stop_ends NoMemory h s = wanting _ old new s
 
   -- a stage that goes on with the one value that its file tells ends as what follows
-  pub on_ends : (a : A) → IsTold most file Tells a → ((b : A) → Tells file.bytes b → b ≡ a) → ((fault : List ℕ) → Refuses file.bytes fault → ⊥) → (e : End) → EndsBy (Next a) e old new → EndsBy (Stage most place file Tells Refuses Next) e old new
+  pub on_ends : (a : A) → IsTold most file Tells a → ((b : A) → Tells file.bytes b → b ≡ a) → ((line : Option ℕ) (fault : List ℕ) → Refuses file.bytes line fault → ⊥) → (e : End) → EndsBy (Next a) e old new → EndsBy (Stage most place file Tells Refuses Next) e old new
   on_ends a told one none e ends = record {
     whole = λ w. let r = ends.whole w in (r.0, goes_on told.short told.whole a told.tells r.1, r.2);
     begun = λ d t st. go d t st;
@@ -44,18 +45,18 @@ module _ {A : Type 0} (most : ℕ) (place : Place) (file : File) (Tells : List �
       go : (d : End) (t : List ℕ) → Stage most place file Tells Refuses Next d t → (k : ℕ) × Appended (take k t) old new
       go d t (too_long l x y) = absurd (let s = told.short in omega arith)
       go d t (broken l b x y) = absurd (true≢false (sym b ∙ told.whole))
-      go d t (refused l b fault r x y) = absurd (none fault r)
+      go d t (refused l b line fault r x y) = absurd (none line fault r)
       go d t (goes_on l b c tells next) = ends.begun d t (subst (λ x. Next x d t) (one c tells) next)
 
 -- what tells a value is not refused for telling none
-pub tells_one : {A : Type 0} (Tells : List ℕ → A → Type 0) (bytes : List ℕ) (a : A) → Tells bytes a → (fault : List ℕ) → IsNotBuilt Tells bytes fault → ⊥
-tells_one Tells bytes a t fault h = h.0 a t
+pub tells_one : {A : Type 0} (Tells : List ℕ → A → Type 0) (bytes : List ℕ) (a : A) → Tells bytes a → (line : Option ℕ) (fault : List ℕ) → OfWhole (IsNotBuilt Tells) bytes line fault → ⊥
+tells_one Tells bytes a t line fault h = h.1.0 a t
 
 -- what reads and declines stops
-pub declines_stop : (most : ℕ) (place : Place) (file : File) (Refuses : List ℕ → List ℕ → Type 0) (bytes seen : List ℕ) (e : End) → IsTold most file Holds bytes → seen ≡ bytes → Declines place (Refuses seen) e → StopsAt most place file Refuses e
+pub declines_stop : (most : ℕ) (place : Place) (file : File) (Refuses : List ℕ → Option ℕ → List ℕ → Type 0) (bytes seen : List ℕ) (e : End) → IsTold most file Holds bytes → seen ≡ bytes → Declines place (Refuses seen) e → StopsAt most place file Refuses e
 declines_stop most place file Refuses bytes seen Done told s h = absurd h
 declines_stop most place file Refuses bytes seen Usage told s h = absurd h
-declines_stop most place file Refuses bytes seen (Refused p fault) told s h = (h.0, inr (told.short, told.whole, subst (λ b. Refuses b fault) (s ∙ told.tells) h.1))
+declines_stop most place file Refuses bytes seen (Refused p line fault) told s h = (h.0, inr (told.short, told.whole, subst (λ b. Refuses b line fault) (s ∙ told.tells) h.1))
 declines_stop most place file Refuses bytes seen (ReadFault p) told s h = absurd h
 declines_stop most place file Refuses bytes seen WriteFault told s h = absurd h
 declines_stop most place file Refuses bytes seen NoMemory told s h = tt
@@ -65,10 +66,10 @@ pub told_by : {A : Type 0} (most : ℕ) (file : File) (Tells : List ℕ → A �
 told_by most file Tells bytes seen a told s t = record { short = told.short; whole = told.whole; tells = subst (λ b. Tells b a) (s ∙ told.tells) t }
 
 -- a file that cannot be held whole stops whatever is refused
-pub held_stops : (most : ℕ) (place : Place) (file : File) (Refuses : List ℕ → List ℕ → Type 0) (e : End) → StopsAt most place file RefusesNone e → StopsAt most place file Refuses e
+pub held_stops : (most : ℕ) (place : Place) (file : File) (Refuses : List ℕ → Option ℕ → List ℕ → Type 0) (e : End) → StopsAt most place file RefusesNone e → StopsAt most place file Refuses e
 held_stops most place file Refuses Done h = absurd h
 held_stops most place file Refuses Usage h = absurd h
-held_stops most place file Refuses (Refused p fault) h = (h.0, ⊎_elim (λ l. inl l) (λ q. absurd q.2) h.1)
+held_stops most place file Refuses (Refused p line fault) h = (h.0, ⊎_elim (λ l. inl l) (λ q. absurd q.2) h.1)
 held_stops most place file Refuses (ReadFault p) h = h
 held_stops most place file Refuses WriteFault h = absurd h
 held_stops most place file Refuses NoMemory h = tt

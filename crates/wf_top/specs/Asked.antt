@@ -1,5 +1,5 @@
 -- One line of queries: its answer, or why it ends the program.
-use Rattle.std.specs.Prelude.{◌≡◌, ◌++◌, ℕ, List, take, Option, codes}
+use Rattle.std.specs.Prelude.{◌≡◌, ◌++◌, ℕ, List, take, Option, None, codes}
 use Rattle.wf_model.specs.declared.event.Event.{Event}
 use Rattle.wf_model.specs.Grammar.{Grammar}
 use Rattle.wf_model.specs.View.{View}
@@ -22,7 +22,7 @@ pub record IsAsked (g : Grammar) (u : View) (e : List Event) (text written : Lis
 abbrev pub EndsAt : Grammar → View → List Event → List ℕ → End → Option (List ℕ) → Option (List ℕ) → Type 0
 EndsAt g u e text Done old new = ⊥
 EndsAt g u e text Usage old new = ⊥
-EndsAt g u e text (Refused p fault) old new = (p ≡ Queries) × (fault ≡ codes "NotBuilt") × ((first second : List ℕ) → IsQuery text first second → ⊥) × (new ≡ old)
+EndsAt g u e text (Refused p line fault) old new = (p ≡ Queries) × (line ≡ None) × (fault ≡ codes "NotBuilt") × ((first second : List ℕ) → IsQuery text first second → ⊥) × (new ≡ old)
 EndsAt g u e text (ReadFault p) old new = ⊥
 EndsAt g u e text WriteFault old new = (written : List ℕ) × IsAsked g u e text written × ((k : ℕ) × Appended (take k written) old new)
 EndsAt g u e text NoMemory old new = new ≡ old

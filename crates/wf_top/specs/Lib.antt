@@ -4,6 +4,8 @@ pub mod Answers
 pub mod Refusals
 pub mod Endings
 pub mod Specification
+pub mod Telling
+pub mod RunTold
 pub mod CheckText
 pub mod Outcome
 pub mod Meets

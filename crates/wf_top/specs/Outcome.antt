@@ -1,15 +1,11 @@
 -- What the program does, by its words and the files that they name: how it ends, and the text that it writes to out.
 use Rattle.std.specs.Prelude.{◌≡◌, ◌⊎◌, ◌<◌, ◌≤◌, ℕ, true, false, List, [], ◌∷◌, ◌++◌, length, Option, Some, None, codes}
-use Rattle.serde_json.specs.Data.{Data}
 use Rattle.wf_model.specs.declared.event.Event.{Event}
 use Rattle.wf_model.specs.Grammar.{Grammar}
 use Rattle.wf_model.specs.View.{View as ViewOf}
 use Rattle.wf_model.specs.DefaultView.{default_view}
-use Rattle.wf_model.specs.Run.{IsAccepted, IsFinished}
 use Rattle.wf_io.specs.Told.{File}
 use Rattle.wf_io.specs.Lines.{Line, is_too_long, text_of, lines_of}
-use Rattle.wf_json.specs.Reading.{IsReading}
-use Rattle.wf_events.specs.EventForm.{event_of}
 use Rattle.wf_query.specs.Line.{IsQuery}
 use Rattle.wf_check.specs.Proper.{Ranking, IsRankingOf}
 use Rattle.wf_recur.specs.Cycles.{CyclesSeen, AreCyclesOf}
@@ -17,6 +13,8 @@ use Rattle.wf_top.specs.declared.ending.Place.{Place}
 use Rattle.wf_top.specs.declared.ending.Place.TheVariants.{Spec, View, Events, Queries}
 use Rattle.wf_top.specs.Endings.{End, Done, Usage, Refused, ReadFault}
 use Rattle.wf_top.specs.Specification.{TellsGrammar, RefusesSpec}
+use Rattle.wf_top.specs.Telling.{IsNotBuilt, OfWhole}
+use Rattle.wf_top.specs.RunTold.{TellsRun, RefusesRun}
 use Rattle.wf_top.specs.CheckText.{check_text_of}
 use Rattle.wf_top.specs.Answers.{IsAnswer}
 use Rattle.wf_top.specs.Words.{Command, Check, Trace, command_of}
@@ -28,20 +26,12 @@ long_fault View = codes "NotBuilt"
 long_fault Events = codes "NotBuilt"
 long_fault Queries = codes "NotBuilt"
 
--- what tells no value is refused as a form that is not built yet
-abbrev pub TellsNo : {A : Type 0} → (A → Type 0) → List ℕ → Type 0
-TellsNo Tells fault = ((a : _) → Tells a → ⊥) × (fault ≡ codes "NotBuilt")
-
--- so are bytes
-abbrev pub IsNotBuilt : {A : Type 0} → (List ℕ → A → Type 0) → List ℕ → List ℕ → Type 0
-IsNotBuilt Tells bytes = TellsNo (Tells bytes)
-
 -- A stage reads a whole file of at most so many bytes, takes from it a value that the bytes tell, and goes on with it.
 -- It ends the program where the file is longer, is broken, or holds bytes that are refused.
-pub data Stage {A : Type 0} (most : ℕ) (place : Place) (file : File) (Tells : List ℕ → A → Type 0) (Refuses : List ℕ → List ℕ → Type 0) (Next : A → End → List ℕ → Type 0) (ending : End) (text : List ℕ) : Type 0 where
-  too_long : most < length file.bytes → ending ≡ Refused place (long_fault place) → text ≡ [] → Stage most place file Tells Refuses Next ending text
+pub data Stage {A : Type 0} (most : ℕ) (place : Place) (file : File) (Tells : List ℕ → A → Type 0) (Refuses : List ℕ → Option ℕ → List ℕ → Type 0) (Next : A → End → List ℕ → Type 0) (ending : End) (text : List ℕ) : Type 0 where
+  too_long : most < length file.bytes → ending ≡ Refused place None (long_fault place) → text ≡ [] → Stage most place file Tells Refuses Next ending text
   broken : length file.bytes ≤ most → file.broken ≡ true → ending ≡ ReadFault place → text ≡ [] → Stage most place file Tells Refuses Next ending text
-  refused : length file.bytes ≤ most → file.broken ≡ false → (fault : List ℕ) → Refuses file.bytes fault → ending ≡ Refused place fault → text ≡ [] → Stage most place file Tells Refuses Next ending text
+  refused : length file.bytes ≤ most → file.broken ≡ false → (line : Option ℕ) (fault : List ℕ) → Refuses file.bytes line fault → ending ≡ Refused place line fault → text ≡ [] → Stage most place file Tells Refuses Next ending text
   goes_on : length file.bytes ≤ most → file.broken ≡ false → (a : A) → Tells file.bytes a → Next a ending text → Stage most place file Tells Refuses Next ending text
 
 -- the text of the default view: `{}`, with or without a newline
@@ -51,27 +41,6 @@ IsDefaultText bytes = (bytes ≡ codes "{}") ⊎ (bytes ≡ codes "{}\n")
 -- the bytes are the text of this view, which is the default view
 abbrev pub TellsView : Grammar → List ℕ → ViewOf → Type 0
 TellsView g bytes u = IsDefaultText bytes × (u ≡ default_view g)
-
--- the text is an event in JSON
-abbrev pub IsEventText : List ℕ → Event → Type 0
-IsEventText text e = (d : Data) × IsReading text d × (event_of d ≡ Some e)
-
--- the line is not too long and tells this event
-abbrev pub IsEventLine : Line → Event → Type 0
-IsEventLine l e = (is_too_long l.raw ≡ false) × IsEventText (text_of l.raw) e
-
--- each line tells its event
-abbrev pub AreEvents : List Line → List Event → Type 0
-AreEvents [] [] = Unit {0}
-AreEvents [] (e ∷ es) = ⊥
-AreEvents (l ∷ ls) [] = ⊥
-AreEvents (l ∷ ls) (e ∷ es) = IsEventLine l e × AreEvents ls es
-
--- the bytes tell a run that is accepted with this limit on its instances, and finished under the view
-pub record TellsRun (g : Grammar) (u : ViewOf) (limit : ℕ) (bytes : List ℕ) (events : List Event) : Type 0 where
-  pub read : AreEvents (lines_of bytes) events
-  pub accepted : IsAccepted g limit events
-  pub finished : IsFinished g u g.start events
 
 -- the line is not too long, and asks whether the second item depends on the first
 abbrev pub IsQueryLine : Line → List ℕ → List ℕ → Type 0
@@ -90,7 +59,7 @@ pub record IsAnswered (g : Grammar) (u : ViewOf) (e : List Event) (l : Line) (wr
 abbrev pub AreAnswered : Grammar → ViewOf → List Event → List Line → End → List ℕ → Type 0
 AreAnswered g u e [] ending text = (ending ≡ Done) × (text ≡ [])
 AreAnswered g u e (l ∷ ls) ending text =
-    (((first second : List ℕ) → IsQueryLine l first second → ⊥) × (ending ≡ Refused Queries (codes "NotBuilt")) × (text ≡ [])) ⊎
+    (((first second : List ℕ) → IsQueryLine l first second → ⊥) × (ending ≡ Refused Queries None (codes "NotBuilt")) × (text ≡ [])) ⊎
     ((written : List ℕ) × (rest : List ℕ) × IsAnswered g u e l written × (text ≡ written ++ rest) × AreAnswered g u e ls ending rest)
 
 -- the bytes hold these lines
@@ -109,7 +78,7 @@ instance_most = 16777216
 
 -- SPEC, as every command takes it
 abbrev pub SpecStage : File → (Grammar → End → List ℕ → Type 0) → End → List ℕ → Type 0
-SpecStage spec = Stage short_most Spec spec TellsGrammar RefusesSpec
+SpecStage spec = Stage short_most Spec spec TellsGrammar (OfWhole RefusesSpec)
 
 -- the text of a grammar, with its ranks, choices and cycles, is written
 abbrev pub IsChecked : Grammar → End → List ℕ → Type 0
@@ -121,15 +90,15 @@ Checks spec = SpecStage spec IsChecked
 
 -- QUERIES, answered on a run under a view
 abbrev pub AnswersQueries : Grammar → ViewOf → List Event → File → End → List ℕ → Type 0
-AnswersQueries g u e queries = Stage long_most Queries queries TellsLines (IsNotBuilt TellsLines) (AreAnswered g u e)
+AnswersQueries g u e queries = Stage long_most Queries queries TellsLines (OfWhole (IsNotBuilt TellsLines)) (AreAnswered g u e)
 
 -- EVENTS and QUERIES under a view
 abbrev pub AnswersRun : Grammar → ViewOf → File → File → End → List ℕ → Type 0
-AnswersRun g u events queries = Stage long_most Events events (TellsRun g u instance_most) (IsNotBuilt (TellsRun g u instance_most)) (λ e. AnswersQueries g u e queries)
+AnswersRun g u events queries = Stage long_most Events events (TellsRun g u instance_most) (RefusesRun g u instance_most) (λ e. AnswersQueries g u e queries)
 
 -- VIEW, EVENTS and QUERIES of a grammar
 abbrev pub AnswersView : Grammar → File → File → File → End → List ℕ → Type 0
-AnswersView g view events queries = Stage short_most View view (TellsView g) (IsNotBuilt (TellsView g)) (λ u. AnswersRun g u events queries)
+AnswersView g view events queries = Stage short_most View view (TellsView g) (OfWhole (IsNotBuilt (TellsView g))) (λ u. AnswersRun g u events queries)
 
 -- `trace` over the four files
 abbrev pub Traces : File → File → File → File → End → List ℕ → Type 0

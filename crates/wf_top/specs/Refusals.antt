@@ -1,6 +1,8 @@
 -- The texts of refusals: the name of the fault, and behind it what it is about.
 use Rattle.std.specs.Prelude.{ℕ, List, [], ◌++◌, map, flat_map, Option, Some, None, codes, decimal}
 use Rattle.wf_model.specs.declared.numbers.ProdNo.{ProdNo}
+use Rattle.wf_model.specs.declared.event.RunFault.{RunFault}
+use Rattle.wf_model.specs.declared.event.RunFault.TheVariants.{NotStarted, StartedTwice, UnknownInstance, UnknownProduction, WrongHead, AlreadyExpanded, PositionsWrong, NameBad as NameBadOfRun, NameTwice as NameTwiceOfRun, TooManyInstances, NoMemory as NoMemoryOfRun}
 use Rattle.wf_model.specs.Grammar.{Grammar, module_at, production_at}
 use Rattle.wf_model.specs.Reach.{Step}
 use Rattle.wf_json.specs.Canonical.{position_at}
@@ -16,7 +18,7 @@ use Rattle.wf_recur.specs.declared.fault.RecurFault.{RecurFault}
 use Rattle.wf_recur.specs.declared.fault.RecurFault.TheVariants.{TwoLoops, NoMemory as NoMemoryOfRecur}
 use Rattle.wf_recur.specs.Cycles.{step_of}
 use Rattle.wf_top.specs.declared.refusal.Refusal.{Refusal}
-use Rattle.wf_top.specs.declared.refusal.Refusal.TheVariants.{TooLong, NotJson, WrongShape, Form, Check, Recur, NotBuilt}
+use Rattle.wf_top.specs.declared.refusal.Refusal.TheVariants.{TooLong, NotJson, WrongShape, Form, Check, Recur, Run, NotBuilt}
 
 -- the word of a member
 abbrev pub member_word : Member → List ℕ
@@ -111,6 +113,20 @@ abbrev pub recur_text : Grammar → RecurFault → List ℕ
 recur_text g (TwoLoops m s t) = (codes "TwoLoops " ++ (module_at g m.0).name) ++ (step_text (codes " first ") g (step_of s) ++ step_text (codes " second ") g (step_of t))
 recur_text g NoMemoryOfRecur = codes "NoMemory"
 
+-- the name of a fault of an event
+abbrev pub run_name : RunFault → List ℕ
+run_name NotStarted = codes "NotStarted"
+run_name StartedTwice = codes "StartedTwice"
+run_name UnknownInstance = codes "UnknownInstance"
+run_name UnknownProduction = codes "UnknownProduction"
+run_name WrongHead = codes "WrongHead"
+run_name AlreadyExpanded = codes "AlreadyExpanded"
+run_name PositionsWrong = codes "PositionsWrong"
+run_name NameBadOfRun = codes "NameBad"
+run_name NameTwiceOfRun = codes "NameTwice"
+run_name TooManyInstances = codes "TooManyInstances"
+run_name NoMemoryOfRun = codes "NoMemory"
+
 -- the text of a refusal
 abbrev pub refusal_text : Refusal → List ℕ
 refusal_text TooLong = codes "TooLong"
@@ -119,4 +135,5 @@ refusal_text (WrongShape m) = shape_text m
 refusal_text (Form f) = form_text f
 refusal_text (Check g f) = check_text g.core f
 refusal_text (Recur g f) = recur_text g.core f
+refusal_text (Run f) = run_name f
 refusal_text NotBuilt = codes "NotBuilt"

@@ -1,5 +1,5 @@
 -- What is known of a stage: the value that it goes on with, or why it ends the program.
-use Rattle.std.specs.Prelude.{◌≡◌, ◌⊎◌, ◌<◌, ◌≤◌, ℕ, Bool, true, false, List, length}
+use Rattle.std.specs.Prelude.{◌≡◌, ◌⊎◌, ◌<◌, ◌≤◌, ℕ, Bool, true, false, List, length, Option, None}
 use Rattle.wf_io.specs.Told.{File, Rose}
 use Rattle.wf_top.specs.declared.ending.Place.{Place}
 use Rattle.wf_top.specs.Endings.{End, Done, Usage, Refused, ReadFault, WriteFault, NoMemory}
@@ -12,25 +12,25 @@ pub record IsTold {A : Type 0} (most : ℕ) (file : File) (Tells : List ℕ → 
   pub tells : Tells file.bytes a
 
 -- why a told file is refused: it is too long, or its bytes are refused
-abbrev pub IsRefused : ℕ → Place → File → (List ℕ → List ℕ → Type 0) → List ℕ → Type 0
-IsRefused most place file Refuses fault =
-    ((most < length file.bytes) × (fault ≡ long_fault place)) ⊎
-    ((length file.bytes ≤ most) × (file.broken ≡ false) × Refuses file.bytes fault)
+abbrev pub IsRefused : ℕ → Place → File → (List ℕ → Option ℕ → List ℕ → Type 0) → Option ℕ → List ℕ → Type 0
+IsRefused most place file Refuses line fault =
+    ((most < length file.bytes) × (line ≡ None) × (fault ≡ long_fault place)) ⊎
+    ((length file.bytes ≤ most) × (file.broken ≡ false) × Refuses file.bytes line fault)
 
 -- why the stage of a place ends the program over a told file
-abbrev pub StopsAt : ℕ → Place → File → (List ℕ → List ℕ → Type 0) → End → Type 0
+abbrev pub StopsAt : ℕ → Place → File → (List ℕ → Option ℕ → List ℕ → Type 0) → End → Type 0
 StopsAt most place file Refuses Done = ⊥
 StopsAt most place file Refuses Usage = ⊥
-StopsAt most place file Refuses (Refused p fault) = (p ≡ place) × IsRefused most place file Refuses fault
+StopsAt most place file Refuses (Refused p line fault) = (p ≡ place) × IsRefused most place file Refuses line fault
 StopsAt most place file Refuses (ReadFault p) = (p ≡ place) × (length file.bytes ≤ most) × (file.broken ≡ true)
 StopsAt most place file Refuses WriteFault = ⊥
 StopsAt most place file Refuses NoMemory = Unit {0}
 
 -- why bytes end the program: they are refused, or memory is wanting
-abbrev pub Declines : Place → (List ℕ → Type 0) → End → Type 0
+abbrev pub Declines : Place → (Option ℕ → List ℕ → Type 0) → End → Type 0
 Declines place Refuses Done = ⊥
 Declines place Refuses Usage = ⊥
-Declines place Refuses (Refused p fault) = (p ≡ place) × Refuses fault
+Declines place Refuses (Refused p line fault) = (p ≡ place) × Refuses line fault
 Declines place Refuses (ReadFault p) = ⊥
 Declines place Refuses WriteFault = ⊥
 Declines place Refuses NoMemory = Unit {0}
@@ -39,7 +39,7 @@ Declines place Refuses NoMemory = Unit {0}
 abbrev pub IsReadingCause : ℕ → ℕ → Bool → End → Type 0
 IsReadingCause before after at_last Done = ⊥
 IsReadingCause before after at_last Usage = ⊥
-IsReadingCause before after at_last (Refused p fault) = Unit {0}
+IsReadingCause before after at_last (Refused p line fault) = Unit {0}
 IsReadingCause before after at_last (ReadFault p) = Rose before after at_last
 IsReadingCause before after at_last WriteFault = ⊥
 IsReadingCause before after at_last NoMemory = Unit {0}
@@ -48,7 +48,7 @@ IsReadingCause before after at_last NoMemory = Unit {0}
 abbrev pub IsWritingCause : ℕ → ℕ → Bool → End → Type 0
 IsWritingCause before after at_last Done = ⊥
 IsWritingCause before after at_last Usage = ⊥
-IsWritingCause before after at_last (Refused p fault) = Unit {0}
+IsWritingCause before after at_last (Refused p line fault) = Unit {0}
 IsWritingCause before after at_last (ReadFault p) = ⊥
 IsWritingCause before after at_last WriteFault = Rose before after at_last
 IsWritingCause before after at_last NoMemory = Unit {0}
@@ -57,7 +57,7 @@ IsWritingCause before after at_last NoMemory = Unit {0}
 abbrev pub IsCause : ℕ → ℕ → Bool → ℕ → ℕ → Bool → End → Type 0
 IsCause before after at_last out_before out_after out_last Done = Unit {0}
 IsCause before after at_last out_before out_after out_last Usage = Unit {0}
-IsCause before after at_last out_before out_after out_last (Refused p fault) = Unit {0}
+IsCause before after at_last out_before out_after out_last (Refused p line fault) = Unit {0}
 IsCause before after at_last out_before out_after out_last (ReadFault p) = Rose before after at_last
 IsCause before after at_last out_before out_after out_last WriteFault = Rose out_before out_after out_last × (after ≡ before)
 IsCause before after at_last out_before out_after out_last NoMemory = Unit {0}
@@ -66,7 +66,7 @@ IsCause before after at_last out_before out_after out_last NoMemory = Unit {0}
 abbrev pub IsStop : End → Type 0
 IsStop Done = ⊥
 IsStop Usage = ⊥
-IsStop (Refused p fault) = Unit {0}
+IsStop (Refused p line fault) = Unit {0}
 IsStop (ReadFault p) = Unit {0}
 IsStop WriteFault = Unit {0}
 IsStop NoMemory = Unit {0}
@@ -76,5 +76,5 @@ abbrev pub Holds : List ℕ → List ℕ → Type 0
 Holds bytes held = held ≡ bytes
 
 -- no bytes are refused
-abbrev pub RefusesNone : List ℕ → List ℕ → Type 0
-RefusesNone bytes fault = ⊥
+abbrev pub RefusesNone : List ℕ → Option ℕ → List ℕ → Type 0
+RefusesNone bytes line fault = ⊥

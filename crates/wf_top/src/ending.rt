@@ -1,5 +1,5 @@
 // How the program ends, with the place of a refusal.
-ghost use Rattle.std.specs.Prelude.{◌≡◌, codes};
+ghost use Rattle.std.specs.Prelude.{◌≡◌, None, codes};
 ghost use Rattle.wf_top.specs.Endings.{end_of, Refused};
 ghost use Rattle.wf_top.specs.Outcome.{long_fault};
 
@@ -19,29 +19,38 @@ pub enum Place {
 pub enum Ending {
     Done,
     Usage,
-    Refused { place: Place, refusal: Refusal },
-    ReadFault { place: Place },
+    /// A file is refused, or a line of it, by its number from 1.
+    Refused {
+        place: Place,
+        line: Option<u64>,
+        refusal: Refusal,
+    },
+    ReadFault {
+        place: Place,
+    },
     WriteFault,
     NoMemory,
 }
 
 /// The ending at a file of a form that is not built yet.
 pub fn not_built(place: Place) -> Ending
-    ensures { end_of result ≡ Refused place (codes "NotBuilt") }
+    ensures { end_of result ≡ Refused place None (codes "NotBuilt") }
 {
     Ending::Refused {
         place,
+        line: None,
         refusal: Refusal::NotBuilt,
     }
 }
 
 /// The ending at a file that is too long.
 pub fn too_long(place: Place) -> Ending
-    ensures { end_of result ≡ Refused place (long_fault place) }
+    ensures { end_of result ≡ Refused place None (long_fault place) }
 {
     match place {
         Place::Spec => Ending::Refused {
             place,
+            line: None,
             refusal: Refusal::TooLong,
         },
         Place::View => not_built(place),

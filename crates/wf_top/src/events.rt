@@ -1,17 +1,21 @@
 // EVENTS: from bytes to a finished run.
-ghost use Rattle.std.specs.Prelude.{◌≡◌, ◌++◌, ◌∷◌, [], IfOk, IfErr, OnOk};
+ghost use Rattle.std.specs.Prelude.{◌≡◌, ◌++◌, ◌∷◌, [], Some, None, IfOk, IfErr, OnOk};
 ghost use Rattle.wf_model.specs.DefaultView.{default_view};
-ghost use Rattle.wf_model.specs.Run.{IsAccepted};
+ghost use Rattle.wf_model.specs.Faults.{fault_of};
 ghost use Rattle.wf_io.specs.Lines.{lines_of};
 ghost use Rattle.wf_model.specs.declared.event.Event.{Event};
 ghost use Rattle.wf_flat.specs.Table.{IsRunOf, events_of};
 ghost use Rattle.wf_flat.specs.Graph.{Marks};
-ghost use Rattle.wf_top.specs.Endings.{end_of};
-ghost use Rattle.wf_top.specs.Outcome.{TellsNo, IsNotBuilt, TellsRun, AreEvents, IsEventText, instance_most};
+ghost use Rattle.wf_top.specs.Endings.{end_of, Refused};
+ghost use Rattle.wf_top.specs.Refusals.{run_name};
+ghost use Rattle.wf_top.specs.Telling.{IsNotBuilt, OfWhole};
+ghost use Rattle.wf_top.specs.RunTold.{IsEventText, AreEvents, TellsRun, RefusesText, RefusesLines, RefusesRun};
+ghost use Rattle.wf_top.specs.Outcome.{instance_most};
 ghost use Rattle.wf_top.specs.Stages.{Declines};
 ghost use Rattle.wf_top.specs.declared.ending.Place.TheVariants.{Events};
 
 use crate::ending::{Ending, Place, not_built};
+use crate::refusal::Refusal;
 use std::alloc::Global;
 use wf_events::{EventFault, read_event};
 use wf_flat::{PlainRun, is_finished};
@@ -24,7 +28,7 @@ const INSTANCES: u32 = 16777216;
 /// The event of a line.
 fn event_of_line(alloc: Global, line: &[u8]) -> Result<Event, Ending>
     ensures ok { IfOk result (λ e. IsEventText line.now e) }
-    ensures declines { IfErr result (λ d. Declines Events (TellsNo (IsEventText line.now)) (end_of d)) }
+    ensures declines { IfErr result (λ d. Declines Events (OfWhole (IsNotBuilt IsEventText) line.now) (end_of d)) }
 {
     match read_event(alloc, line) {
         Ok(event) => Ok(event),
@@ -34,14 +38,31 @@ fn event_of_line(alloc: Global, line: &[u8]) -> Result<Event, Ending>
     }
 }
 
+/// The ending at a line whose event the run refuses.
+fn refused(number: u64, fault: RunFault) -> Ending
+    ensures { end_of result ≡ Refused Events (Some number) (run_name fault) }
+{
+    Ending::Refused {
+        place: Place::Events,
+        line: Some(number),
+        refusal: Refusal::Run { fault },
+    }
+}
+
 /// Takes the event of a line into a run.
-fn take_line(alloc: Global, g: &Grammar, run: &mut PlainRun, line: &[u8]) -> Result<(), Ending>
+fn take_line(
+    alloc: Global,
+    g: &Grammar,
+    run: &mut PlainRun,
+    number: u64,
+    line: &[u8],
+) -> Result<(), Ending>
     requires run { IsRunOf g.now.core run.old }
     requires most { run.old.most ≡ instance_most }
     ensures run { IsRunOf g.now.core run.new }
     ensures most { run.new.most ≡ instance_most }
-    ensures ok { OnOk result ((e : Event) × IsEventText line.now e × (events_of run.new ≡ events_of run.old ++ e ∷ [])) }
-    ensures declines { IfErr result (λ d. Declines Events (TellsNo (λ e. IsEventText line.now e × IsAccepted g.now.core instance_most (events_of run.old ++ e ∷ []))) (end_of d)) }
+    ensures ok { OnOk result ((e : Event) × IsEventText line.now e × (fault_of g.now.core instance_most (events_of run.old) e ≡ None) × (events_of run.new ≡ events_of run.old ++ e ∷ [])) }
+    ensures declines { IfErr result (λ d. Declines Events (RefusesText g.now.core instance_most (events_of run.old) number line.now) (end_of d)) }
 {
     let event = event_of_line(alloc, line)?;
     let Err(fault) = run.take(g, &event) else {
@@ -49,15 +70,15 @@ fn take_line(alloc: Global, g: &Grammar, run: &mut PlainRun, line: &[u8]) -> Res
     };
     match fault {
         RunFault::NoMemory => Err(Ending::NoMemory),
-        _ => Err(not_built(Place::Events)),
+        _ => Err(refused(number, fault)),
     }
 }
 
-/// The run that all lines tell, or the refusal of the first line that tells no event of it.
+/// The run that all lines tell, or the refusal of the first line that is refused.
 fn take_lines(alloc: Global, g: &Grammar, bytes: &[u8]) -> Result<PlainRun, Ending>
     ensures run { IfOk result (λ r. IsRunOf g.now.core r × (r.most ≡ instance_most)) }
     ensures read { IfOk result (λ r. AreEvents (lines_of bytes.now) (events_of r)) }
-    ensures declines { IfErr result (λ d. Declines Events (TellsNo (λ es. AreEvents (lines_of bytes.now) es × IsAccepted g.now.core instance_most es)) (end_of d)) }
+    ensures declines { IfErr result (λ d. Declines Events (RefusesLines g.now.core instance_most [] (lines_of bytes.now)) (end_of d)) }
 {
     let mut run = PlainRun::new(alloc, INSTANCES);
     let mut lines = WholeLines::open(bytes);
@@ -68,13 +89,13 @@ fn take_lines(alloc: Global, g: &Grammar, bytes: &[u8]) -> Result<PlainRun, Endi
         let Some(line) = next else {
             return Ok(run);
         };
-        take_line(alloc, g, &mut run, line)?;
+        take_line(alloc, g, &mut run, lines.line(), line)?;
     }
 }
 
 /// The run that events tell, which is finished under the default view, whose modules are marked.
 ///
-/// Refused at the first line that is too long, is no event, or is one that does not extend the run, and at the end where the run is not finished. `NoMemory` may come at any line.
+/// Refused at the first line that is too long or no event, which is not named; at the first whose event the run refuses, which is named by its number, with the fault; and at the end where the run is not finished. `NoMemory` may come at any line.
 ///
 /// Cost: linear in the bytes.
 pub fn run_of_bytes(
@@ -86,7 +107,7 @@ pub fn run_of_bytes(
     requires { Marks marks.now (default_view g.now.core) }
     ensures run { IfOk result (λ r. IsRunOf g.now.core r) }
     ensures ok { IfOk result (λ r. TellsRun g.now.core (default_view g.now.core) instance_most bytes.now (events_of r)) }
-    ensures declines { IfErr result (λ e. Declines Events (IsNotBuilt (TellsRun g.now.core (default_view g.now.core) instance_most) bytes.now) (end_of e)) }
+    ensures declines { IfErr result (λ e. Declines Events (RefusesRun g.now.core (default_view g.now.core) instance_most bytes.now) (end_of e)) }
 {
     let run = take_lines(alloc, g, bytes)?;
     let Ok(finished) = is_finished(alloc, g, &run, marks) else {

@@ -2,7 +2,7 @@
 use wf_check::CheckFault;
 use wf_json::Member;
 use wf_recur::RecurFault;
-use wf_spec::{FormFault, Grammar};
+use wf_spec::{FormFault, Grammar, RunFault};
 
 /// Why a file is refused. Want of memory is none of these: it is an ending of its own.
 #[derive(Drop)]
@@ -19,6 +19,8 @@ pub enum Refusal {
     Check { grammar: Grammar, fault: CheckFault },
     /// The grammar is proper, and not strictly linear. It is kept for the names of its modules and positions.
     Recur { grammar: Grammar, fault: RecurFault },
+    /// A run refuses the event of a line.
+    Run { fault: RunFault },
     /// The file has a form that is not built yet.
     NotBuilt,
 }

@@ -1,5 +1,5 @@
 // SPEC: from bytes to a grammar, with the ranks of its modules and its cycles.
-ghost use Rattle.std.specs.Prelude.{◌≡◌, ◌⊎◌, ◌≤◌, ℕ, List, Some, IfOk, IfErr, OnOk};
+ghost use Rattle.std.specs.Prelude.{◌≡◌, ◌⊎◌, ◌≤◌, ℕ, List, Some, None, IfOk, IfErr, OnOk};
 ghost use Rattle.wf_io.specs.Told.{File};
 ghost use Rattle.wf_model.specs.Proper.{IsProper};
 ghost use Rattle.wf_model.specs.Linear.{IsLinear};
@@ -10,6 +10,7 @@ ghost use Rattle.wf_top.specs.declared.ending.Place.TheVariants.{Spec as AtSpec}
 ghost use Rattle.wf_top.specs.Endings.{end_of, Refused, NoMemory};
 ghost use Rattle.wf_top.specs.Refusals.{form_text};
 ghost use Rattle.wf_top.specs.Specification.{IsSpecText, TellsGrammar, RefusesSpec, RefusesParts, RefusesGrammar};
+ghost use Rattle.wf_top.specs.Telling.{OfWhole};
 ghost use Rattle.wf_top.specs.Outcome.{short_most};
 ghost use Rattle.wf_top.specs.Stages.{Declines, IsTold, StopsAt, IsReadingCause};
 
@@ -32,10 +33,11 @@ pub struct Spec {
 }
 
 fn refused(refusal: Refusal) -> Ending
-    ensures { result ≡ Ending.Refused AtSpec refusal }
+    ensures { result ≡ Ending.Refused AtSpec None refusal }
 {
     Ending::Refused {
         place: Place::Spec,
+        line: None,
         refusal,
     }
 }
@@ -43,7 +45,7 @@ fn refused(refusal: Refusal) -> Ending
 /// The parts of a specification in JSON.
 fn parts_of_bytes(alloc: Global, bytes: &[u8]) -> Result<Parts, Ending>
     ensures ok { IfOk result (λ p. IsSpecText bytes.now p) }
-    ensures declines { IfErr result (λ e. Declines AtSpec (RefusesSpec bytes.now) (end_of e)) }
+    ensures declines { IfErr result (λ e. Declines AtSpec (OfWhole RefusesSpec bytes.now) (end_of e)) }
 {
     match read_spec(alloc, bytes) {
         Ok(parts) => Ok(parts),
@@ -55,7 +57,7 @@ fn parts_of_bytes(alloc: Global, bytes: &[u8]) -> Result<Parts, Ending>
 
 fn form_ending(fault: FormFault) -> Ending
     ensures memory { fault ≡ FormFault.NoMemory → end_of result ≡ NoMemory }
-    ensures refused { (end_of result ≡ NoMemory) ⊎ (end_of result ≡ Refused AtSpec (form_text fault)) }
+    ensures refused { (end_of result ≡ NoMemory) ⊎ (end_of result ≡ Refused AtSpec None (form_text fault)) }
 {
     match fault {
         FormFault::NoMemory => Ending::NoMemory,
@@ -66,7 +68,7 @@ fn form_ending(fault: FormFault) -> Ending
 /// The grammar that parts form.
 fn grammar_of_parts(alloc: Global, parts: Parts) -> Result<Grammar, Ending>
     ensures ok { IfOk result (λ g. (g.core ≡ grammar_of parts) × IsFormed parts) }
-    ensures declines { IfErr result (λ e. Declines AtSpec (RefusesParts parts) (end_of e)) }
+    ensures declines { IfErr result (λ e. Declines AtSpec (OfWhole RefusesParts parts) (end_of e)) }
 {
     match Grammar::build(alloc, parts) {
         Ok(g) => Ok(g),
@@ -81,7 +83,7 @@ fn with_cycles(alloc: Global, g: Grammar, ranking: Proper) -> Result<Spec, Endin
     ensures ok { IfOk result (λ s. (s.grammar ≡ g) × IsLinear g.core) }
     ensures ranking { IfOk result (λ s. IsRankingOf s.grammar.core s.ranking) }
     ensures cycles { IfOk result (λ s. AreCyclesOf s.grammar.core s.cycles) }
-    ensures declines { IfErr result (λ e. Declines AtSpec (RefusesGrammar g.core) (end_of e)) }
+    ensures declines { IfErr result (λ e. Declines AtSpec (OfWhole RefusesGrammar g.core) (end_of e)) }
 {
     match cycles(alloc, &g) {
         Ok(cycles) => Ok(Spec {
@@ -99,7 +101,7 @@ fn taken(alloc: Global, g: Grammar) -> Result<Spec, Ending>
     ensures ok { IfOk result (λ s. (s.grammar ≡ g) × IsProper g.core × IsLinear g.core) }
     ensures ranking { IfOk result (λ s. IsRankingOf s.grammar.core s.ranking) }
     ensures cycles { IfOk result (λ s. AreCyclesOf s.grammar.core s.cycles) }
-    ensures declines { IfErr result (λ e. Declines AtSpec (RefusesGrammar g.core) (end_of e)) }
+    ensures declines { IfErr result (λ e. Declines AtSpec (OfWhole RefusesGrammar g.core) (end_of e)) }
 {
     match proper(alloc, &g) {
         Ok(ranking) => with_cycles(alloc, g, ranking),
@@ -118,7 +120,7 @@ fn spec_of_bytes(alloc: Global, bytes: &[u8]) -> Result<Spec, Ending>
     ensures linear { IfOk result (λ s. IsLinear s.grammar.core) }
     ensures ranking { IfOk result (λ s. IsRankingOf s.grammar.core s.ranking) }
     ensures cycles { IfOk result (λ s. AreCyclesOf s.grammar.core s.cycles) }
-    ensures declines { IfErr result (λ e. Declines AtSpec (RefusesSpec bytes.now) (end_of e)) }
+    ensures declines { IfErr result (λ e. Declines AtSpec (OfWhole RefusesSpec bytes.now) (end_of e)) }
 {
     let parts = parts_of_bytes(alloc, bytes)?;
     let g = grammar_of_parts(alloc, parts)?;
@@ -131,7 +133,7 @@ pub fn spec_stage<H: Shelf>(alloc: Global, shelf: &mut H, name: &str) -> Result<
     ensures linear { IfOk result (λ s. IsLinear s.grammar.core) }
     ensures ranking { IfOk result (λ s. IsRankingOf s.grammar.core s.ranking) }
     ensures cycles { IfOk result (λ s. AreCyclesOf s.grammar.core s.cycles) }
-    ensures stops { IfErr result (λ e. (f : List ℕ → File) → H.files shelf.old ≡ Some f → StopsAt short_most AtSpec (f name.now) RefusesSpec (end_of e)) }
+    ensures stops { IfErr result (λ e. (f : List ℕ → File) → H.files shelf.old ≡ Some f → StopsAt short_most AtSpec (f name.now) (OfWhole RefusesSpec) (end_of e)) }
     ensures cause { IfErr result (λ e. IsReadingCause (H.faults shelf.old) (H.faults shelf.new) (H.at_last shelf.new) (end_of e)) }
     ensures count { OnOk result (H.faults shelf.new ≡ H.faults shelf.old) }
     ensures same { H.files shelf.new ≡ H.files shelf.old }

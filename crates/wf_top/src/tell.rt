@@ -1,11 +1,11 @@
 // The line that err gets.
-ghost use Rattle.std.specs.Prelude.{◌≡◌, ◌++◌, codes};
-ghost use Rattle.wf_top.specs.Endings.{end_of, status_of, word_of, line_of, Refused, ReadFault};
+ghost use Rattle.std.specs.Prelude.{◌≡◌, ◌++◌, Some, codes};
+ghost use Rattle.wf_top.specs.Endings.{end_of, status_of, word_of, where_of, line_of, Refused, ReadFault};
 ghost use Rattle.wf_top.specs.Refusals.{refusal_text};
 ghost use Rattle.wf_top.specs.Meets.{IsPut, Puts};
 
 use crate::ending::{Ending, Place};
-use crate::put::{put, put_two};
+use crate::put::{put, put_numbered, put_two};
 use crate::refusal::Refusal;
 use crate::status::Status;
 use crate::told::put_refusal;
@@ -52,11 +52,33 @@ fn put_cause<E: Sink>(err: &mut E, refusal: &Refusal) -> Result<(), Failed>
     put(err, b"\n")
 }
 
-fn put_refused<E: Sink>(err: &mut E, place: Place, refusal: &Refusal) -> Result<(), Failed>
-    ensures { Puts E.put_bytes E.faults E.at_last (line_of (Refused place (refusal_text refusal.now))) err.old err.new result }
+fn put_line_of<E: Sink>(err: &mut E, place: Place, number: u64) -> Result<(), Failed>
+    ensures { Puts E.put_bytes E.faults E.at_last (where_of place (Some number)) err.old err.new result }
+{
+    put(err, word_of(place))?;
+    put_numbered(err, b" line ", number)
+}
+
+/// Puts what a refusal is about: a file, or a line of it.
+fn put_where<E: Sink>(err: &mut E, place: Place, line: Option<u64>) -> Result<(), Failed>
+    ensures { Puts E.put_bytes E.faults E.at_last (where_of place line) err.old err.new result }
+{
+    match line {
+        Some(number) => put_line_of(err, place, number),
+        None => put(err, word_of(place)),
+    }
+}
+
+fn put_refused<E: Sink>(
+    err: &mut E,
+    place: Place,
+    line: Option<u64>,
+    refusal: &Refusal,
+) -> Result<(), Failed>
+    ensures { Puts E.put_bytes E.faults E.at_last (line_of (Refused place line (refusal_text refusal.now))) err.old err.new result }
 {
     put(err, b"refused: ")?;
-    put(err, word_of(place))?;
+    put_where(err, place, line)?;
     put_cause(err, refusal)
 }
 
@@ -67,7 +89,11 @@ fn put_line<E: Sink>(err: &mut E, ending: &Ending) -> Result<(), Failed>
     match ending {
         Ending::Done => Ok(()),
         Ending::Usage => put(err, b"usage: wfprov COMMAND WORDS\n"),
-        Ending::Refused { place, refusal } => put_refused(err, *place, refusal),
+        Ending::Refused {
+            place,
+            line,
+            refusal,
+        } => put_refused(err, *place, *line, refusal),
         Ending::ReadFault { place } => put_read_fault(err, *place),
         Ending::WriteFault => put(err, b"fault: writing\n"),
         Ending::NoMemory => put(err, b"no memory\n"),

@@ -3,7 +3,7 @@ ghost use Rattle.std.specs.Prelude.{◌≡◌, ◌++◌, Some, map, codes};
 ghost use Rattle.wf_model.specs.Grammar.{module_at};
 ghost use Rattle.wf_recur.specs.Cycles.{step_of};
 ghost use Rattle.wf_top.specs.Meets.{Puts};
-ghost use Rattle.wf_top.specs.Refusals.{member_word, spot_text, form_name, form_spot, behind_space, form_text, numbers_text, check_text, position_name, step_text, recur_text, refusal_text};
+ghost use Rattle.wf_top.specs.Refusals.{member_word, spot_text, form_name, form_spot, behind_space, form_text, numbers_text, check_text, position_name, step_text, recur_text, run_name, refusal_text};
 
 use crate::put::{put, put_numbered, put_numbers, put_two};
 use crate::refusal::Refusal;
@@ -11,7 +11,7 @@ use wf_check::CheckFault;
 use wf_io::{Failed, Sink};
 use wf_json::Member;
 use wf_recur::RecurFault;
-use wf_spec::{FormFault, Grammar, ModNo, ProdNo, Spot, Step};
+use wf_spec::{FormFault, Grammar, ModNo, ProdNo, RunFault, Spot, Step};
 
 fn member_word(member: Member) -> &'static [u8]
     ensures { result.now ≡ member_word member }
@@ -193,6 +193,24 @@ fn put_recur<E: Sink>(err: &mut E, g: &Grammar, fault: RecurFault) -> Result<(),
     }
 }
 
+fn run_name(fault: RunFault) -> &'static [u8]
+    ensures { result.now ≡ run_name fault }
+{
+    match fault {
+        RunFault::NotStarted => b"NotStarted",
+        RunFault::StartedTwice => b"StartedTwice",
+        RunFault::UnknownInstance => b"UnknownInstance",
+        RunFault::UnknownProduction => b"UnknownProduction",
+        RunFault::WrongHead => b"WrongHead",
+        RunFault::AlreadyExpanded => b"AlreadyExpanded",
+        RunFault::PositionsWrong => b"PositionsWrong",
+        RunFault::NameBad => b"NameBad",
+        RunFault::NameTwice => b"NameTwice",
+        RunFault::TooManyInstances => b"TooManyInstances",
+        RunFault::NoMemory => b"NoMemory",
+    }
+}
+
 /// Puts the text of a refusal.
 pub fn put_refusal<E: Sink>(err: &mut E, refusal: &Refusal) -> Result<(), Failed>
     ensures { Puts E.put_bytes E.faults E.at_last (refusal_text refusal.now) err.old err.new result }
@@ -204,6 +222,7 @@ pub fn put_refusal<E: Sink>(err: &mut E, refusal: &Refusal) -> Result<(), Failed
         Refusal::Form { fault } => put_form(err, *fault),
         Refusal::Check { grammar, fault } => put_check(err, grammar, fault),
         Refusal::Recur { grammar, fault } => put_recur(err, grammar, *fault),
+        Refusal::Run { fault } => put(err, run_name(*fault)),
         Refusal::NotBuilt => put(err, b"NotBuilt"),
     }
 }

@@ -8,7 +8,9 @@ ghost use Rattle.wf_flat.specs.Table.{IsRunOf, events_of};
 ghost use Rattle.wf_flat.specs.Graph.{Marks};
 ghost use Rattle.wf_top.specs.declared.ending.Place.TheVariants.{View, Events, Queries};
 ghost use Rattle.wf_top.specs.Endings.{end_of, end_after};
-ghost use Rattle.wf_top.specs.Outcome.{IsNotBuilt, TellsView, TellsRun, AnswersQueries, AnswersView, Traces, short_most, long_most, instance_most};
+ghost use Rattle.wf_top.specs.Telling.{IsNotBuilt, OfWhole};
+ghost use Rattle.wf_top.specs.RunTold.{TellsRun, RefusesRun};
+ghost use Rattle.wf_top.specs.Outcome.{TellsView, AnswersQueries, AnswersView, Traces, short_most, long_most, instance_most};
 ghost use Rattle.wf_top.specs.Meets.{EndsBy};
 ghost use Rattle.wf_top.specs.Stages.{IsTold, StopsAt, IsReadingCause, IsCause, IsStop};
 ghost use Rattle.wf_top.specs.Prepared.{IsPrepared};
@@ -29,7 +31,7 @@ use wf_spec::Grammar;
 /// VIEW, which is the default view.
 fn view_stage<H: Shelf>(alloc: Global, shelf: &mut H, name: &str, g: &Grammar) -> Result<(), Ending>
     ensures ok { OnOk result ((f : List ℕ → File) → H.files shelf.old ≡ Some f → IsTold short_most (f name.now) (TellsView g.now.core) (default_view g.now.core)) }
-    ensures stops { IfErr result (λ e. (f : List ℕ → File) → H.files shelf.old ≡ Some f → StopsAt short_most View (f name.now) (IsNotBuilt (TellsView g.now.core)) (end_of e)) }
+    ensures stops { IfErr result (λ e. (f : List ℕ → File) → H.files shelf.old ≡ Some f → StopsAt short_most View (f name.now) (OfWhole (IsNotBuilt (TellsView g.now.core))) (end_of e)) }
     ensures cause { IfErr result (λ e. IsReadingCause (H.faults shelf.old) (H.faults shelf.new) (H.at_last shelf.new) (end_of e)) }
     ensures count { OnOk result (H.faults shelf.new ≡ H.faults shelf.old) }
     ensures same { H.files shelf.new ≡ H.files shelf.old }
@@ -54,7 +56,7 @@ fn events_stage<H: Shelf>(
     requires { Marks marks.now (default_view g.now.core) }
     ensures run { IfOk result (λ r. IsRunOf g.now.core r × IsFinished g.now.core (default_view g.now.core) g.now.core.start (events_of r)) }
     ensures ok { IfOk result (λ r. (f : List ℕ → File) → H.files shelf.old ≡ Some f → IsTold long_most (f name.now) (TellsRun g.now.core (default_view g.now.core) instance_most) (events_of r)) }
-    ensures stops { IfErr result (λ e. (f : List ℕ → File) → H.files shelf.old ≡ Some f → StopsAt long_most Events (f name.now) (IsNotBuilt (TellsRun g.now.core (default_view g.now.core) instance_most)) (end_of e)) }
+    ensures stops { IfErr result (λ e. (f : List ℕ → File) → H.files shelf.old ≡ Some f → StopsAt long_most Events (f name.now) (RefusesRun g.now.core (default_view g.now.core) instance_most) (end_of e)) }
     ensures cause { IfErr result (λ e. IsReadingCause (H.faults shelf.old) (H.faults shelf.new) (H.at_last shelf.new) (end_of e)) }
     ensures count { OnOk result (H.faults shelf.new ≡ H.faults shelf.old) }
     ensures same { H.files shelf.new ≡ H.files shelf.old }

@@ -1,16 +1,22 @@
-use Rattle.std.proofs.Common.{List, ap}
+use Rattle.std.proofs.Common.{[], None, ap}
+use Rattle.std.specs.Prelude.{codes}
 use Rattle.std.proofs.lemmas.Result.{err_from_is_err_and}
-use Rattle.wf_model.specs.declared.event.Event.{Event}
-use Rattle.wf_model.specs.Run.{IsAccepted}
 use Rattle.wf_io.specs.Lines.{LinesLeft, Lends, Ends, lines_of}
 use Rattle.wf_top.specs.declared.ending.Place.TheVariants.{Events}
-use Rattle.wf_top.specs.Outcome.{AreEvents, instance_most}
-use Rattle.wf_top.proofs.EventLines.{handed_on, taken_none, taken_more, all_taken, line_refused}
+use Rattle.wf_top.specs.Endings.{end_of}
+use Rattle.wf_top.specs.RunTold.{RefusesLines}
+use Rattle.wf_top.specs.Outcome.{instance_most}
+use Rattle.wf_top.proofs.EventLines.{handed_on, declined, taken_none, taken_more, all_taken, long_refused, line_refused}
 use Rattle.wf_top.proofs.events.take_lines.Goals as goal
 
 pub loop-next-init : goal.loop-next-init
 loop-next-init c =
     taken_none c.args.g.now.core (lines_of c.args.bytes.now) c.open-lines.result.left c.new-run.result c.new-run.ensures (ap (λ (l : LinesLeft). l.left) c.open-lines.ensures)
+
+pub returns-in_default-clause-declines : goal.returns-in_default-clause-declines
+returns-in_default-clause-declines c =
+    declined Events _ (end_of c.not_built.result) None (codes "NotBuilt") c.not_built.ensures
+    (long_refused c.args.g.now.core (lines_of c.args.bytes.now) c.loop-next.lines c.next.new.self c.loop-next.run c.loop-next.invariant c.in_default.ensures.next)
 
 pub returns-in_default-next-clause-read : goal.returns-in_default-next-clause-read
 returns-in_default-next-clause-read c =
@@ -25,5 +31,5 @@ loop-next-preserved c =
 pub returns-in_err-take_line-clause-declines : goal.returns-in_err-take_line-clause-declines
 returns-in_err-take_line-clause-declines c =
     let h : Lends c.loop-next.lines c.in-Some.line.now c.next.new.self = rw c.in-Some.is at c.in-Ok.ensures.next in
-    handed_on Events (λ (es : List Event). AreEvents (lines_of c.args.bytes.now) es × IsAccepted c.args.g.now.core instance_most es) c.from_residual.result c.in_err-take_line.field-0.0 (err_from_is_err_and c.from_residual.result c.from_residual.ensures.1)
-    (line_refused c.args.g.now.core (lines_of c.args.bytes.now) c.loop-next.lines c.next.new.self c.loop-next.run c.loop-next.invariant c.in-Some.line.now h _ c.in_err-take_line.ensures.declines)
+    handed_on Events (RefusesLines c.args.g.now.core instance_most [] (lines_of c.args.bytes.now)) c.from_residual.result c.in_err-take_line.field-0.0 (err_from_is_err_and c.from_residual.result c.from_residual.ensures.1)
+    (line_refused c.args.g.now.core (lines_of c.args.bytes.now) c.loop-next.lines c.next.new.self c.loop-next.run c.loop-next.invariant c.in-Some.line.now h _ c.line.ensures _ c.in_err-take_line.ensures.declines)

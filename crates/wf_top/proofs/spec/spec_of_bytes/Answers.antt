@@ -3,6 +3,7 @@ use Rattle.std.proofs.lemmas.Result.{IfOk-weaker, IfErr-weaker}
 use Rattle.wf_spec.specs.Held.{HeldGrammar}
 use Rattle.wf_top.specs.declared.ending.Place.TheVariants.{Spec}
 use Rattle.wf_top.specs.Endings.{end_of}
+use Rattle.wf_top.specs.Telling.{OfWhole}
 use Rattle.wf_top.specs.Specification.{TellsGrammar, RefusesGrammar, RefusesSpec}
 use Rattle.wf_top.proofs.SpecSteps.{declines_by, refuses_by_grammar, told_grammar}
 use Rattle.wf_top.proofs.spec.spec_of_bytes.Goals as goal
@@ -16,5 +17,5 @@ returns-clause-ok c =
 pub returns-clause-declines : goal.returns-clause-declines
 returns-clause-declines c =
     IfErr-weaker c.taken.result _ _
-    (λ e d. declines_by Spec (RefusesGrammar c.in_ok-g.g.core) (RefusesSpec c.args.bytes.now) (refuses_by_grammar c.args.bytes.now c.in_ok-parts.parts c.in_ok-parts.ensures.ok c.in_ok-g.g.core c.in_ok-g.ensures.ok) (end_of e) d)
+    (λ e d. declines_by Spec (OfWhole RefusesGrammar c.in_ok-g.g.core) (OfWhole RefusesSpec c.args.bytes.now) (λ line fault h. (h.0, refuses_by_grammar c.args.bytes.now c.in_ok-parts.parts c.in_ok-parts.ensures.ok c.in_ok-g.g.core c.in_ok-g.ensures.ok fault h.1)) (end_of e) d)
     c.taken.ensures.declines

@@ -1,7 +1,8 @@
 use Rattle.std.proofs.lemmas.Result.{IfOk-weaker}
 use Rattle.wf_model.specs.DefaultView.{default_view}
 use Rattle.wf_flat.specs.Table.{events_of}
-use Rattle.wf_top.specs.Outcome.{TellsRun, long_most, instance_most}
+use Rattle.wf_top.specs.RunTold.{TellsRun}
+use Rattle.wf_top.specs.Outcome.{long_most, instance_most}
 use Rattle.wf_top.proofs.Stages.{told_by}
 use Rattle.wf_top.proofs.trace.events_stage.Goals as goal
 

@@ -1,0 +1,95 @@
+-- Events have one refusal at most, and none where they tell a finished run.
+use Rattle.std.proofs.Common.{◌≡◌, ℕ, ◌+◌, ◌≤◌, List, [], ◌∷◌, ◌++◌, length, Option, Some, None, sym, ap, ◌∙◌, subst, inl, inr, arith, true≢false, append_assoc, length-append}
+use Rattle.wf_model.specs.declared.event.Event.{Event}
+use Rattle.wf_model.specs.Grammar.{Grammar}
+use Rattle.wf_model.specs.View.{View}
+use Rattle.wf_model.specs.Run.{made, names_of, IsAccepted, IsFinished}
+use Rattle.wf_model.specs.Lists.{IsIn}
+use Rattle.wf_model.specs.Faults.{fault_of}
+use Rattle.wf_model.proofs.Lists.{in_append_left}
+use Rattle.wf_model.proofs.Runs.{made-append, name_in, name_from, AllExtend-append}
+use Rattle.wf_model.proofs.Taking.{taking_law}
+use Rattle.wf_io.specs.Lines.{Line, text_of, lines_of}
+use Rattle.wf_top.specs.Refusals.{run_name}
+use Rattle.wf_top.specs.RunTold.{IsEventText, IsEventLine, AreEvents, TellsRun, RefusesEvent, RefusesText, RefusesLine, RefusesLines, RefusesRun}
+use Rattle.wf_top.proofs.OneOutcome.{some_same, one_event, one_list}
+
+-- an accepted run is accepted as far as it is read
+accepted_before : (g : Grammar) (limit : ℕ) (a b : List Event) → IsAccepted g limit (a ++ b) → IsAccepted g limit a
+accepted_before g limit a b h =
+    let e = made-append g g.start a b in
+    let few : length (made g g.start (a ++ b)) ≤ limit = h.1 in
+    let n : length (made g g.start (a ++ b)) ≡ length (made g g.start a) + length (made g g.start b) = ap length e ∙ length-append (made g g.start a) (made g g.start b) in (
+      (AllExtend-append g g.start [] a b h.0).0,
+      omega arith,
+      λ n k. let r = name_from n (made g g.start a) k in
+          h.2 n (subst (λ x. IsIn x (names_of (made g g.start (a ++ b)))) (sym r.2) (name_in r.0 _ (subst (λ l. IsIn r.0 l) (sym e) (in_append_left r.0 (made g g.start a) (made g g.start b) r.1)))),
+    )
+
+seam : (a : List Event) (e : Event) (b : List Event) → (a ++ e ∷ []) ++ b ≡ a ++ e ∷ b
+seam a e b = append_assoc a (e ∷ []) b
+
+module _ (g : Grammar) (limit : ℕ) where
+  -- a run that is accepted took each of its events
+  takes : (before : List Event) (e : Event) (es : List Event) → IsAccepted g limit (before ++ e ∷ es) → fault_of g limit before e ≡ None
+  takes before e es acc =
+      (taking_law g limit before e (accepted_before g limit before (e ∷ es) acc)).1
+      (accepted_before g limit (before ++ e ∷ []) es (subst (IsAccepted g limit) (sym (seam before e es)) acc))
+
+  one_event_fault : (before : List Event) (text x y : List ℕ) → RefusesEvent g limit before text x → RefusesEvent g limit before text y → x ≡ y
+  one_event_fault before text x y p q =
+      let same : p.2.0 ≡ q.2.0 = some_same p.2.0 q.2.0 (sym p.2.1 ∙ (ap (fault_of g limit before) (one_event text p.0 q.0 p.1 q.1) ∙ q.2.1)) in
+      p.2.2 ∙ (ap run_name same ∙ sym q.2.2)
+
+  one_text_fault : (before : List Event) (number : ℕ) (text : List ℕ) (l m : Option ℕ) (x y : List ℕ) → RefusesText g limit before number text l x → RefusesText g limit before number text m y → (l ≡ m) × (x ≡ y)
+  one_text_fault before number text l m x y (inl p) (inl q) = (p.0 ∙ sym q.0, p.1.1 ∙ sym q.1.1)
+  one_text_fault before number text l m x y (inl p) (inr q) = absurd (p.1.0 q.1.0 q.1.1)
+  one_text_fault before number text l m x y (inr p) (inl q) = absurd (q.1.0 p.1.0 p.1.1)
+  one_text_fault before number text l m x y (inr p) (inr q) = (p.0 ∙ sym q.0, one_event_fault before text x y p.1 q.1)
+
+  one_line_fault : (before : List Event) (k : Line) (l m : Option ℕ) (x y : List ℕ) → RefusesLine g limit before k l x → RefusesLine g limit before k m y → (l ≡ m) × (x ≡ y)
+  one_line_fault before k l m x y (inl p) (inl q) = (p.1 ∙ sym q.1, p.2 ∙ sym q.2)
+  one_line_fault before k l m x y (inl p) (inr q) = absurd (true≢false (sym p.0 ∙ q.0))
+  one_line_fault before k l m x y (inr p) (inl q) = absurd (true≢false (sym q.0 ∙ p.0))
+  one_line_fault before k l m x y (inr p) (inr q) = one_text_fault before k.number (text_of k.raw) l m x y p.1 q.1
+
+  text_not_taken : (before : List Event) (number : ℕ) (text : List ℕ) (l : Option ℕ) (x : List ℕ) (e : Event) → RefusesText g limit before number text l x → IsEventText text e → fault_of g limit before e ≡ None → ⊥
+  text_not_taken before number text l x e (inl p) is none = p.1.0 e is
+  text_not_taken before number text l x e (inr p) is none =
+      let refused : Some p.1.2.0 ≡ None = sym p.1.2.1 ∙ (ap (fault_of g limit before) (one_event text p.1.0 e p.1.1 is) ∙ none) in absurd (cc)
+
+  -- a line whose event the run takes is not refused
+  not_taken : (before : List Event) (k : Line) (l : Option ℕ) (x : List ℕ) (e : Event) → RefusesLine g limit before k l x → IsEventLine k e → fault_of g limit before e ≡ None → ⊥
+  not_taken before k l x e (inl p) is none = true≢false (sym p.0 ∙ is.0)
+  not_taken before k l x e (inr p) is none = text_not_taken before k.number (text_of k.raw) l x e p.1 is.1 none
+
+  -- lines have one refusal
+  one_lines_fault : (ks : List Line) (before : List Event) (l m : Option ℕ) (x y : List ℕ) → RefusesLines g limit before ks l x → RefusesLines g limit before ks m y → (l ≡ m) × (x ≡ y)
+  one_lines_fault [] before l m x y p q = absurd p
+  one_lines_fault (k ∷ ks) before l m x y (inl p) (inl q) = one_line_fault before k l m x y p q
+  one_lines_fault (k ∷ ks) before l m x y (inl p) (inr q) = absurd (not_taken before k l x q.0 p q.1 q.2)
+  one_lines_fault (k ∷ ks) before l m x y (inr p) (inl q) = absurd (not_taken before k m y p.0 q p.1 p.2)
+  one_lines_fault (k ∷ ks) before l m x y (inr p) (inr q) =
+      one_lines_fault ks (before ++ p.0 ∷ []) l m x y p.3 (subst (λ e. RefusesLines g limit (before ++ e ∷ []) ks m y) (one_event (text_of k.raw) q.0 p.0 q.1.1 p.1.1) q.3)
+
+  -- and none where they tell an accepted run
+  none_refused : (ks : List Line) (es before : List Event) (l : Option ℕ) (x : List ℕ) → AreEvents ks es → IsAccepted g limit (before ++ es) → RefusesLines g limit before ks l x → ⊥
+  none_refused [] es before l x read acc h = absurd h
+  none_refused (k ∷ ks) [] before l x read acc h = absurd read
+  none_refused (k ∷ ks) (e ∷ es) before l x read acc (inl p) = not_taken before k l x e p read.0 (takes before e es acc)
+  none_refused (k ∷ ks) (e ∷ es) before l x read acc (inr p) =
+      none_refused ks es (before ++ e ∷ []) l x read.1 (subst (IsAccepted g limit) (sym (seam before e es)) acc)
+      (subst (λ d. RefusesLines g limit (before ++ d ∷ []) ks l x) (one_event (text_of k.raw) p.0 e p.1.1 read.0.1) p.3)
+
+  module _ (u : View) (bytes : List ℕ) where
+    -- the bytes of events have one refusal
+    pub one_refusal_of_run : (l m : Option ℕ) (x y : List ℕ) → RefusesRun g u limit bytes l x → RefusesRun g u limit bytes m y → (l ≡ m) × (x ≡ y)
+    one_refusal_of_run l m x y (inl p) (inl q) = one_lines_fault (lines_of bytes) [] l m x y p q
+    one_refusal_of_run l m x y (inl p) (inr q) = absurd (none_refused (lines_of bytes) q.0.0 [] l x q.0.1 q.0.2 p)
+    one_refusal_of_run l m x y (inr p) (inl q) = absurd (none_refused (lines_of bytes) p.0.0 [] m y p.0.1 p.0.2 q)
+    one_refusal_of_run l m x y (inr p) (inr q) = (p.1 ∙ sym q.1, p.2 ∙ sym q.2)
+
+    -- bytes that tell a finished run have none
+    pub no_refusal_of_run : (es : List Event) (l : Option ℕ) (x : List ℕ) → TellsRun g u limit bytes es → RefusesRun g u limit bytes l x → ⊥
+    no_refusal_of_run es l x t (inl p) = none_refused (lines_of bytes) es [] l x t.read t.accepted p
+    no_refusal_of_run es l x t (inr p) = p.0.3 (subst (IsFinished g u g.start) (one_list (lines_of bytes) es p.0.0 t.read p.0.1) t.finished)

@@ -1,0 +1,69 @@
+-- What the bytes of events tell: a finished run, or why they are refused.
+use Rattle.std.specs.Prelude.{◌≡◌, ◌⊎◌, ℕ, true, false, List, [], ◌∷◌, ◌++◌, Option, Some, None, codes}
+use Rattle.serde_json.specs.Data.{Data}
+use Rattle.wf_model.specs.declared.event.Event.{Event}
+use Rattle.wf_model.specs.declared.event.RunFault.{RunFault}
+use Rattle.wf_model.specs.Grammar.{Grammar}
+use Rattle.wf_model.specs.View.{View as ViewOf}
+use Rattle.wf_model.specs.Run.{IsAccepted, IsFinished}
+use Rattle.wf_model.specs.Faults.{fault_of}
+use Rattle.wf_io.specs.Lines.{Line, is_too_long, text_of, lines_of}
+use Rattle.wf_json.specs.Reading.{IsReading}
+use Rattle.wf_events.specs.EventForm.{event_of}
+use Rattle.wf_top.specs.Refusals.{run_name}
+use Rattle.wf_top.specs.Telling.{IsNotBuilt, OfWhole}
+
+-- the text is an event in JSON
+abbrev pub IsEventText : List ℕ → Event → Type 0
+IsEventText text e = (d : Data) × IsReading text d × (event_of d ≡ Some e)
+
+-- the line is not too long and tells this event
+abbrev pub IsEventLine : Line → Event → Type 0
+IsEventLine l e = (is_too_long l.raw ≡ false) × IsEventText (text_of l.raw) e
+
+-- each line tells its event
+abbrev pub AreEvents : List Line → List Event → Type 0
+AreEvents [] [] = Unit {0}
+AreEvents [] (e ∷ es) = ⊥
+AreEvents (l ∷ ls) [] = ⊥
+AreEvents (l ∷ ls) (e ∷ es) = IsEventLine l e × AreEvents ls es
+
+-- the bytes tell a run that is accepted with this limit on its instances, and finished under the view
+pub record TellsRun (g : Grammar) (u : ViewOf) (limit : ℕ) (bytes : List ℕ) (events : List Event) : Type 0 where
+  pub read : AreEvents (lines_of bytes) events
+  pub accepted : IsAccepted g limit events
+  pub finished : IsFinished g u g.start events
+
+-- the run refuses the event that a text tells, with this fault
+abbrev pub RefusesEvent : Grammar → ℕ → List Event → List ℕ → List ℕ → Type 0
+RefusesEvent g limit before text fault =
+    (e : Event) × IsEventText text e × ((f : RunFault) × (fault_of g limit before e ≡ Some f) × (fault ≡ run_name f))
+
+-- why the text of a line of this number is refused after a run: it tells no event, and no line is named; or it tells one that the run refuses, and the line is named
+abbrev pub RefusesText : Grammar → ℕ → List Event → ℕ → List ℕ → Option ℕ → List ℕ → Type 0
+RefusesText g limit before number text line fault =
+    OfWhole (IsNotBuilt IsEventText) text line fault ⊎
+    ((line ≡ Some number) × RefusesEvent g limit before text fault)
+
+-- why a line is refused after a run: it is too long; or its text is refused
+abbrev pub RefusesLine : Grammar → ℕ → List Event → Line → Option ℕ → List ℕ → Type 0
+RefusesLine g limit before l line fault =
+    ((is_too_long l.raw ≡ true) × (line ≡ None) × (fault ≡ codes "NotBuilt")) ⊎
+    ((is_too_long l.raw ≡ false) × RefusesText g limit before l.number (text_of l.raw) line fault)
+
+-- why lines are refused after a run: the first is; or the run takes its event, and those behind it are refused after that
+abbrev pub RefusesLines : Grammar → ℕ → List Event → List Line → Option ℕ → List ℕ → Type 0
+RefusesLines g limit before [] line fault = ⊥
+RefusesLines g limit before (l ∷ ls) line fault =
+    RefusesLine g limit before l line fault ⊎
+    ((e : Event) × IsEventLine l e × (fault_of g limit before e ≡ None) × RefusesLines g limit (before ++ e ∷ []) ls line fault)
+
+-- the lines tell an accepted run that is not finished
+abbrev pub IsUnfinished : Grammar → ViewOf → ℕ → List Line → Type 0
+IsUnfinished g u limit ls = (es : List Event) × AreEvents ls es × IsAccepted g limit es × (¬ IsFinished g u g.start es)
+
+-- why bytes are refused as events: a line of them is; or they tell a run that is not finished
+abbrev pub RefusesRun : Grammar → ViewOf → ℕ → List ℕ → Option ℕ → List ℕ → Type 0
+RefusesRun g u limit bytes line fault =
+    RefusesLines g limit [] (lines_of bytes) line fault ⊎
+    (IsUnfinished g u limit (lines_of bytes) × (line ≡ None) × (fault ≡ codes "NotBuilt"))
