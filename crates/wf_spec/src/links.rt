@@ -8,7 +8,7 @@ mod inner;
 mod linked;
 pub mod numbers;
 mod pairs;
-mod places;
+pub mod places;
 mod tables;
 mod wirings;
 
