@@ -13,8 +13,8 @@ use Rattle.wf_spec.specs.declared.fault.Spot.TheVariants.{Production as AtProduc
 use Rattle.wf_spec.specs.declared.wiring.Wiring.{Wiring}
 use Rattle.wf_spec.specs.Forming.{names_of, module_of, modules_of, head_in}
 use Rattle.wf_spec.specs.Resolving.{HasFewPorts as HasFewPortsOf}
-use Rattle.wf_spec.specs.Rules.{Rule, each, AllHold, FailsFirstAt, HoldsThroughout, IsFirstFault, first_rules, body_rules, module_names, HasDifferentPorts, HasFewPorts, HasKnownModules, HasKnownPorts, HasKnownPairs, IsLinkedAtMostOnce, IsLinkedAtLeastOnce, HasNoCycle, IsOfAtomic}
-use Rattle.wf_spec.specs.Wiring.{AreReady, AreWiringsOf, IsWithin, IsWiredAtMostOnce, IsWiredAtLeastOnce, IsWiredForward, wiring_rules, rules_on}
+use Rattle.wf_spec.specs.Rules.{Rule, each, AllHold, FailsFirstAt, HoldsThroughout, IsFirstFault, first_rules, body_rules, link_rules_of, module_names, HasDifferentPorts, HasFewPorts, HasKnownModules, HasKnownPorts, HasKnownPairs, IsLinkedAtMostOnce, IsLinkedAtLeastOnce, HasNoCycle, IsOfAtomic}
+use Rattle.wf_spec.specs.Wiring.{AreReady, AreWiringsOf, IsWithin, IsWiredAtMostOnce, IsWiredAtLeastOnce, IsWiredForward, wiring_rules}
 use Rattle.wf_spec.proofs.Agreeing.{most_same, least_same, forward_same, within_parts}
 use Rattle.wf_spec.proofs.Lawful.{same_names, number_below, differ_left, differ_right, head_ports}
 use Rattle.wf_spec.proofs.Rules.{holds_of}
@@ -103,20 +103,20 @@ module _ (names : List (List ℕ)) (modules : List Module) (productions : List P
 
     -- where the rules before them hold, a fault of the rules on wirings is the first of all
     pub refused_by_wirings : HoldsThroughout (each deps (HasKnownPairs modules) (λ k. UnknownPort (DepsAt k))) → (f : FormFault) → (f ≡ NoMemory) ⊎ IsFirstFault (wiring_rules modules wirings) f
-        → (f ≡ NoMemory) ⊎ IsFirstFault (rules_on modules productions deps) f
+        → (f ≡ NoMemory) ⊎ IsFirstFault (link_rules_of modules productions deps) f
     refused_by_wirings pairs f (inl e) = inl e
     refused_by_wirings pairs f (inr h) = inr (inr (ports, inr (pairs, wirings_refused (each deps (IsOfAtomic productions) DepsOnComposite ∷ []) f h)))
 
     -- and so is a deps part on a composite module
     pub refused_by_deps : HoldsThroughout (each deps (HasKnownPairs modules) (λ k. UnknownPort (DepsAt k))) → AllHold (wiring_rules modules wirings)
-        → (k : ℕ) → FailsFirstAt (length deps) (each deps (IsOfAtomic productions) DepsOnComposite).holds k → IsFirstFault (rules_on modules productions deps) (DepsOnComposite k)
+        → (k : ℕ) → FailsFirstAt (length deps) (each deps (IsOfAtomic productions) DepsOnComposite).holds k → IsFirstFault (link_rules_of modules productions deps) (DepsOnComposite k)
     refused_by_deps pairs all k fails =
         let h = wirings_kept all in
         inr (ports, inr (pairs, inr (h.0, inr (h.1.0, inr (h.1.1.0, inl (k, fails, refl))))))
 
     -- all rules hold
     pub all_kept : HoldsThroughout (each deps (HasKnownPairs modules) (λ k. UnknownPort (DepsAt k))) → AllHold (wiring_rules modules wirings)
-        → HoldsThroughout (each deps (IsOfAtomic productions) DepsOnComposite) → AllHold (rules_on modules productions deps)
+        → HoldsThroughout (each deps (IsOfAtomic productions) DepsOnComposite) → AllHold (link_rules_of modules productions deps)
     all_kept pairs all atomic = let h = wirings_kept all in (ports, (pairs, (h.0, (h.1.0, (h.1.1.0, (atomic, tt))))))
 
 -- what holds over parts holds over them as they are read

@@ -1,6 +1,6 @@
 -- Ends of links that differ, and ports that are met.
-use Rattle.std.proofs.Common.{◌≡◌, ℕ, zero, suc, ◌+◌, ◌*◌, ◌<◌, ◌≤◌, Bool, true, false, cond, List, [], ◌∷◌, get_or, Vec, Global, Option, Some, None, refl, sym, ap, subst, ◌∙◌, inl, inr, arith}
-use Rattle.std.specs.Prelude.{◌==◌, MatchOption, IsSome}
+use Rattle.std.proofs.Common.{◌≡◌, ◌↔◌, ℕ, zero, suc, ◌+◌, ◌*◌, ◌<◌, ◌≤◌, Bool, true, false, cond, List, [], ◌∷◌, get_or, Vec, Global, Option, Some, None, refl, sym, ap, subst, ◌∙◌, inl, inr, arith, true≢false}
+use Rattle.std.specs.Prelude.{◌==◌, MatchOption, IsSome, is_some, IsTrue}
 use Rattle.std.proofs.lemmas.Bool.{eqb-true, eq-eqb}
 use Rattle.std.proofs.lemmas.List.Sums.{sum_by-cons}
 use Rattle.wf_model.specs.Lists.{IsIn, AllDiffer}
@@ -105,14 +105,19 @@ twice_not ends small t d =
     omega arith
 
 -- a table of ends has each at most once
-pub table_differ : (p : ℕ) (marks : List Bool) (ends : List Inner) → IsTable p marks ends → AllDiffer ends
+table_differ : (p : ℕ) (marks : List Bool) (ends : List Inner) → IsTable p marks ends → AllDiffer ends
 table_differ p marks ends t = once_differ ends (λ n. by n (get_or marks n false) refl)
   where
     by : (n : ℕ) (b : Bool) → get_or marks n false ≡ b → ends_at n ends ≤ 1
     by n true e = let s = t.each n ∙ ap (λ b. cond {A = ℕ} b 1 0) e in omega arith
     by n false e = let s = t.each n ∙ ap (λ b. cond {A = ℕ} b 1 0) e in omega arith
 
--- there is a table of ends that differ
+-- there is a table of ends exactly if they differ
+pub table_told : (p : ℕ) (ends : List Inner) (t : Option (Vec Bool Global)) (b : Bool) → ((i : Inner) → IsIn i ends → i.port < 64) → b ≡ is_some t
+    → MatchOption t (IsTwice ends) (λ (marks : Vec Bool Global). IsTable p marks.items ends) → IsTrue b ↔ AllDiffer ends
+table_told p ends None b small is h = (λ t. absurd (true≢false (sym t ∙ is)), λ d. absurd (twice_not ends small h d))
+table_told p ends (Some marks) b small is h = (λ _. table_differ p marks.items ends h, λ _. is)
+
 pub some_table : (p : ℕ) (ends : List Inner) (t : Option (Vec Bool Global)) → ((i : Inner) → IsIn i ends → i.port < 64) → AllDiffer ends
     → MatchOption t (IsTwice ends) (λ (marks : Vec Bool Global). IsTable p marks.items ends) → IsSome t
 some_table p ends None small d h = absurd (twice_not ends small h d)

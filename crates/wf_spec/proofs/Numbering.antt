@@ -34,12 +34,11 @@ found_there names name answer k is some =
     let r = present names name answer k is some in
     (r.0, is_in_place names name (subst (λ j. j < length names) r.0 r.1))
 
--- a loop over all of a list has made all
-pub all_made : {A B C : Type 0} (f : A → C) (g : B → C) (P : B → Type 0) (made : List A) (bs : List B) (i : ℕ) → map f made ≡ map g (take i bs) → ((b : B) → IsIn b (take i bs) → P b) → length bs ≤ i
-    → (map f made ≡ map g bs) × ((b : B) → IsIn b bs → P b)
-all_made {A} {B} {C} f g P made bs i same all past =
-    subst (λ (l : List B). (map f made ≡ map g l) × ((b : B) → IsIn b l → P b)) (take_all i bs past) (same, all)
+-- what holds of each element that a loop has read holds of all, once it has read all
+pub all_read : {A : Type 0} (P : A → Type 0) (xs : List A) (i : ℕ) → ((x : A) → IsIn x (take i xs) → P x) → length xs ≤ i → (x : A) → IsIn x xs → P x
+all_read {A} P xs i all past = subst (λ (l : List A). (x : A) → IsIn x l → P x) (take_all i xs past) all
 
+-- a name that is there is found
 pub is_found : (names : List (List ℕ)) (name : List ℕ) (answer : Option ℕ) → answer ≡ position (bytes_eq name) names → IsIn name names → IsSome answer
 is_found names name answer is here = by answer is
   where
