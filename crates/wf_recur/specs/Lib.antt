@@ -1,2 +1,5 @@
 pub mod Cycles
 pub mod Loops
+pub mod Reaching
+pub mod Rounds
+pub mod Steps

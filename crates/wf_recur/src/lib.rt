@@ -2,7 +2,10 @@
 #![tactic(auto)]
 
 mod fault;
+mod reach;
+mod rounds;
 mod search;
+mod steps;
 mod table;
 
 pub use fault::RecurFault;

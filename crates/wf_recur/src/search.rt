@@ -6,14 +6,21 @@ ghost use Rattle.wf_recur.specs.Loops.{IsFaultOf};
 ghost use Rattle.wf_recur.specs.declared.fault.RecurFault.TheVariants.{NoMemory};
 
 use crate::fault::RecurFault;
+use crate::rounds::rounds;
+use crate::steps::only_steps;
 use crate::table::Cycles;
 use std::alloc::Global;
 use wf_spec::Grammar;
 
 /// The cycles of a grammar, or two loops of one module where it is not strictly linear.
+///
+/// Errors: `TwoLoops`; `NoMemory` may come at any time.
+///
+/// Cost: as `only_steps`.
 pub fn cycles(alloc: Global, g: &Grammar) -> Result<Cycles, RecurFault>
     ensures cycles { IfOk result (λ c. IsLinear g.now.core × AreCyclesOf g.now.core c) }
     ensures refused { IfErr result (λ f. (f ≡ NoMemory) ⊎ IsFaultOf g.now.core f) }
 {
-    Err(RecurFault::NoMemory)
+    let steps = only_steps(alloc, g)?;
+    Ok(rounds(alloc, g, &steps)?)
 }

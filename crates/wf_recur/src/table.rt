@@ -1,6 +1,7 @@
 // The cycles of a grammar.
 ghost use Rattle.std.specs.Prelude.{◌≡◌, ◌<◌, ◌≤◌, [], None, length, map, get_or, option_map};
 ghost use Rattle.wf_recur.specs.Cycles.{on_of};
+ghost use Rattle.wf_recur.specs.Rounds.{rounds_in, stands_in};
 
 use std::marker::Model;
 use wf_spec::{ModNo, Step};
@@ -34,6 +35,13 @@ impl Model for Cycles {
 }
 
 impl Cycles {
+    pub(crate) fn of_tables(rounds: Vec<Vec<ModNo>>, on: Vec<Option<OnCycle>>) -> Cycles
+        ensures rounds { result.rounds ≡ rounds_in rounds.items }
+        ensures on { result.on ≡ stands_in on.items }
+    {
+        Cycles { rounds, on }
+    }
+
     /// Where a module stands on a cycle, and `None` where it is on none.
     pub fn on(&self, m: ModNo) -> Option<OnCycle>
         requires { m.0 < length self.now.on }

@@ -4,6 +4,7 @@ pub mod Bodies
 pub mod Counting
 pub mod Differing
 pub mod Ends
+pub mod Faults
 pub mod Finding
 pub mod Fitting
 pub mod Formed

@@ -9,10 +9,10 @@ use Rattle.std.proofs.lemmas.Nat.Bits.{bit_at_ones, bit_at_ones_above, bit_at-ze
 use Rattle.std.proofs.lemmas.List.Sums.{count_by-le-length, count_by_more_yes, count_by_more_no}
 use Rattle.std.specs.Int.{bit_at}
 use borrow.Author.Tests.{ltb-true, ltb-false}
-use Rattle.wf_model.specs.Grammar.{Grammar, Module, Production, inputs_of, outputs_of, module_at, is_given, alternative_of}
+use Rattle.wf_model.specs.Grammar.{Grammar, Module, Production, inputs_of, outputs_of, module_at, is_given, alternative_of, head_of, IsAtomic}
 use Rattle.wf_model.specs.WellFormed.{IsWellFormed}
-use Rattle.wf_model.proofs.Lists.{at_in, is_at, in_at, at_is, at_below}
-use Rattle.wf_spec.specs.Tables.{head_at, headed, places, AreByHead, AreRows, AreRowsOf, full_rows, numbers_in}
+use Rattle.wf_model.proofs.Lists.{in_filter, at_in, is_at, in_at, at_is, at_below}
+use Rattle.wf_spec.specs.Tables.{productions_of, head_at, headed, places, AreByHead, AreRows, AreRowsOf, full_rows, numbers_in}
 use Rattle.wf_spec.specs.Held.{HeldProduction}
 
 pub get_in : {A : Type 0} (k : ℕ) (xs : List A) (d : A) → k < length xs → IsIn (get_or xs k d) xs
@@ -206,3 +206,16 @@ list_length modules ps n h lists v known below was =
 pub places_all : (ps : List Production) (kept : List ℕ) → kept ≡ places ps (length ps) → length kept ≡ length ps
 places_all ps kept known =
     ap length known ∙ length-map (numbers_from 0 (length ps)) (λ p. length (headed ps p (head_at ps p))) ∙ length-numbers 0 (length ps)
+
+-- a module that heads no production is atomic
+pub none_atomic : (g : Grammar) (m : ℕ) (told : List ProdNo) → map (λ (p : ProdNo). p.0) told ≡ productions_of g m → length told ≡ 0 → IsAtomic g m
+none_atomic g m told are none p inside head =
+    let there : IsIn p (numbers_from 0 (length g.productions)) =
+    subst (λ k. IsIn k (numbers_from 0 (length g.productions))) (number_at 0 (length g.productions) p inside ∙ zero-add p)
+    (get_in p (numbers_from 0 (length g.productions)) 0 (subst (λ n. p < n) (sym (length-numbers 0 (length g.productions))) inside)) in
+    some_listed (productions_of g m) p (in_filter (λ q. head_of g q == m) p (numbers_from 0 (length g.productions)) there (eq-eqb (head_of g p) m head))
+    (ap length (sym are) ∙ (length-map told (λ (q : ProdNo). q.0) ∙ none))
+  where
+    some_listed : (ps : List ℕ) (q : ℕ) → IsIn q ps → length ps ≡ 0 → ⊥
+    some_listed [] q h e = h
+    some_listed (x ∷ ps) q h e = absurd (omega arith)

@@ -13,9 +13,10 @@ mod links;
 mod module;
 mod production;
 mod rule;
+#[cfg(test)]
+mod tests;
 mod wiring;
 
-pub use checks::{check_bodies, check_modules};
 pub use deps::Deps;
 pub use fault::{FormFault, Spot};
 pub use grammar::Grammar;

@@ -1,0 +1,11 @@
+pub mod Going
+pub mod Heads
+pub mod Lists
+pub mod Numbering
+pub mod Opening
+pub mod Order
+pub mod Reaching
+pub mod Rows
+pub mod Stepping
+pub mod Telling
+pub mod Ways
