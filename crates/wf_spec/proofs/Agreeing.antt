@@ -1,16 +1,15 @@
 -- Wirings and the parts that they are of: what they say of links is the same.
-use Rattle.std.proofs.Common.{◌≡◌, ◌↔◌, ℕ, ◌<◌, ◌≤◌, List, [], ◌∷◌, ◌++◌, length, get_or, map, bytes_eq, refl, sym, ap, subst, ◌∙◌, inl, inr, ⊎_elim, arith}
+use Rattle.std.proofs.Common.{◌≡◌, ◌↔◌, ℕ, ◌<◌, ◌≤◌, List, [], ◌∷◌, ◌++◌, length, map, refl, sym, ap, subst, ◌∙◌, ⊎_elim}
 use Rattle.std.proofs.lemmas.List.{length-map}
 use Rattle.wf_model.specs.declared.body.Edge.{Edge as EdgeHeld}
 use Rattle.wf_model.specs.declared.parts.ProdPart.{ProdPart}
-use Rattle.wf_model.specs.declared.parts.PosPart.{PosPart}
 use Rattle.wf_model.specs.declared.parts.EdgePart.{EdgePart}
 use Rattle.wf_model.specs.declared.parts.EntryPart.{EntryPart}
 use Rattle.wf_model.specs.declared.parts.ExitPart.{ExitPart}
 use Rattle.wf_model.specs.Lists.{IsIn, AllDiffer}
 use Rattle.wf_model.specs.Grammar.{Module, Position, Inner, Edge}
 use Rattle.wf_model.specs.Meaning.{position_of, inner_of, edge_of}
-use Rattle.wf_model.proofs.Lists.{in_append_left, in_append_right, in_append_cases, in_map, in_map_from}
+use Rattle.wf_model.proofs.Lists.{in_append_cases, in_map_from}
 use Rattle.wf_spec.specs.declared.wiring.Entry.{Entry}
 use Rattle.wf_spec.specs.declared.wiring.Exit.{Exit}
 use Rattle.wf_spec.specs.declared.wiring.Wiring.{Wiring}
@@ -18,7 +17,7 @@ use Rattle.wf_spec.specs.Forming.{place_of, names_of, module_in, placed, body_in
 use Rattle.wf_spec.specs.Graphs.{IsAcyclic}
 use Rattle.wf_spec.specs.Resolving.{AreOfModules, IsInputIn, IsOutputIn}
 use Rattle.wf_spec.specs.Rules.{fed, used, entered, left, HasKnownModules, HasKnownPorts, IsLinkedAtMostOnce, IsLinkedAtLeastOnce, HasNoCycle}
-use Rattle.wf_spec.specs.Wiring.{entry_of, exit_of, entry_link, exit_link, IsWiringOf, body_of, head_of, fed_by, used_by, entered_by, left_by, IsWithin, IsWiredAtMostOnce, IsWiredAtLeastOnce, IsWiredForward}
+use Rattle.wf_spec.specs.Wiring.{entry_of, exit_of, entry_link, exit_link, IsWiringOf, head_of, fed_by, used_by, entered_by, left_by, IsWithin, IsWiredAtMostOnce, IsWiredAtLeastOnce, IsWiredForward}
 use Rattle.wf_spec.proofs.Finding.{place_within}
 use Rattle.wf_spec.proofs.Numbered.{numbers_differ, numbers_all}
 

@@ -1,10 +1,10 @@
 -- Links of a body and its head: ends as they are read, and the head as a single position.
-use Rattle.std.proofs.Common.{◌≡◌, ◌↔◌, ℕ, zero, suc, ◌<◌, ◌≤◌, Bool, true, false, IsTrue, List, [], ◌∷◌, length, get_or, map, refl, sym, ap, subst, ◌∙◌, inl, inr, arith, true≢false}
+use Rattle.std.proofs.Common.{◌≡◌, ◌↔◌, ℕ, zero, suc, ◌<◌, ◌≤◌, Bool, true, false, IsTrue, List, [], ◌∷◌, get_or, map, refl, sym, ap, subst, ◌∙◌, inl, inr, arith, true≢false}
 use Rattle.wf_model.specs.declared.body.Inner.{Inner as InnerHeld}
 use Rattle.wf_model.specs.Lists.{IsIn, AllDiffer}
 use Rattle.wf_model.specs.Grammar.{Inner}
 use Rattle.wf_model.specs.Meaning.{inner_of}
-use Rattle.wf_model.proofs.Lists.{in_map, in_map_from, at_in, is_at, in_at, at_is, at_below}
+use Rattle.wf_model.proofs.Lists.{in_map, in_map_from}
 use Rattle.wf_spec.specs.Ends.{IsPortOf}
 use Rattle.wf_spec.specs.Wiring.{in_head, AreSmall}
 

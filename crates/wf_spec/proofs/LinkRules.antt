@@ -1,5 +1,5 @@
 -- The rules on links, over parts and over their wirings.
-use Rattle.std.proofs.Common.{◌≡◌, ◌↔◌, ◌⊎◌, ℕ, zero, suc, ◌<◌, ◌≤◌, List, [], ◌∷◌, ◌++◌, length, map, refl, sym, ap, subst, ◌∙◌, inl, inr, arith}
+use Rattle.std.proofs.Common.{◌≡◌, ◌↔◌, ◌⊎◌, ℕ, zero, suc, ◌<◌, ◌≤◌, List, [], ◌∷◌, ◌++◌, length, map, refl, sym, ap, subst, inl, inr, arith}
 use Rattle.std.proofs.lemmas.List.{length-map}
 use Rattle.wf_model.specs.declared.parts.Parts.{Parts}
 use Rattle.wf_model.specs.declared.parts.ModulePart.{ModulePart}
@@ -12,9 +12,9 @@ use Rattle.wf_spec.specs.declared.fault.FormFault.{FormFault}
 use Rattle.wf_spec.specs.declared.fault.FormFault.TheVariants.{NoMemory, TooManyPorts, PortTwice, UnknownModule, BodyTooLong, UnknownPort, PortLinkedTwice, PortUnlinked, BodyCycle, DepsOnComposite}
 use Rattle.wf_spec.specs.declared.fault.Spot.TheVariants.{Production as AtProduction, DepsAt}
 use Rattle.wf_spec.specs.declared.wiring.Wiring.{Wiring}
-use Rattle.wf_spec.specs.Forming.{place_of, names_of, module_of, module_in, modules_of, head_in}
-use Rattle.wf_spec.specs.Resolving.{HaveFewPorts, HasFewPorts as HasFewPortsOf}
-use Rattle.wf_spec.specs.Rules.{Rule, each, AllHold, FailsFirstAt, HoldsThroughout, IsFirstFailing, IsFirstFault, first_rules, body_rules, link_rules, module_names, HasDifferentPorts, HasFewPorts, HasKnownModules, HasKnownPorts, HasKnownPairs, IsLinkedAtMostOnce, IsLinkedAtLeastOnce, HasNoCycle, IsOfAtomic}
+use Rattle.wf_spec.specs.Forming.{place_of, names_of, module_of, modules_of, head_in}
+use Rattle.wf_spec.specs.Resolving.{HasFewPorts as HasFewPortsOf}
+use Rattle.wf_spec.specs.Rules.{Rule, each, AllHold, FailsFirstAt, HoldsThroughout, IsFirstFault, first_rules, body_rules, module_names, HasDifferentPorts, HasFewPorts, HasKnownModules, HasKnownPorts, HasKnownPairs, IsLinkedAtMostOnce, IsLinkedAtLeastOnce, HasNoCycle, IsOfAtomic}
 use Rattle.wf_spec.specs.Wiring.{AreReady, AreWiringsOf, IsWithin, IsWiredAtMostOnce, IsWiredAtLeastOnce, IsWiredForward, wiring_rules, rules_on}
 use Rattle.wf_spec.proofs.Agreeing.{most_same, least_same, forward_same, within_parts}
 use Rattle.wf_spec.proofs.Finding.{place_within}

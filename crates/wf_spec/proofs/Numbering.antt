@@ -3,7 +3,6 @@ use Rattle.std.proofs.Common.{◌≡◌, ◌⊎◌, ℕ, zero, suc, ◌<◌, ◌
 use Rattle.std.specs.Prelude.{position, IsSome}
 use Rattle.std.proofs.lemmas.List.{take_all, length-map}
 use Rattle.wf_model.specs.declared.body.Position.{Position as PositionHeld}
-use Rattle.wf_model.specs.declared.body.Edge.{Edge as EdgeHeld}
 use Rattle.wf_model.specs.declared.parts.ProdPart.{ProdPart}
 use Rattle.wf_model.specs.declared.parts.EdgePart.{EdgePart}
 use Rattle.wf_model.specs.declared.parts.EntryPart.{EntryPart}

@@ -1,6 +1,5 @@
-use Rattle.std.proofs.Common.{◌≡◌, ◌<◌, ◌∙◌, List, refl, subst, sym, ap, map, length}
+use Rattle.std.proofs.Common.{◌≡◌, List, refl, subst, sym, map}
 use Rattle.wf_model.specs.declared.parts.PosPart.{PosPart}
-use Rattle.wf_model.specs.Grammar.{Module}
 use Rattle.wf_model.specs.Lists.{IsIn}
 use Rattle.wf_model.specs.Meaning.{position_of}
 use Rattle.wf_spec.specs.Forming.{names_of, place_of, body_in, head_in}
