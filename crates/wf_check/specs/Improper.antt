@@ -1,7 +1,7 @@
 -- Why a grammar is not proper: the first fault in the order of trial.
 use Rattle.std.specs.Prelude.{◌≡◌, ℕ, ◌<◌, ◌≤◌, ◌⊎◌, List, [], ◌∷◌, map, length, get_or}
 use Rattle.wf_model.specs.declared.numbers.ProdNo.{ProdNo}
-use Rattle.wf_model.specs.Grammar.{Grammar, body_of, head_of, IsComposite, IsProductionOf}
+use Rattle.wf_model.specs.Grammar.{Grammar, body_of, IsComposite, IsProductionOf}
 use Rattle.wf_model.specs.Proper.{Derives, RankWithin}
 use Rattle.wf_check.specs.declared.fault.CheckFault.{CheckFault}
 use Rattle.wf_check.specs.declared.fault.CheckFault.TheVariants.{Unreachable, Unproductive, UnitCycle, NoMemory}

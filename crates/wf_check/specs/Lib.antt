@@ -1,2 +1,5 @@
 pub mod Improper
 pub mod Proper
+pub mod Ranks
+pub mod UnitPaths
+pub mod UnitRules

@@ -2,9 +2,17 @@
 #![tactic(auto)]
 
 mod check;
+mod choices;
+mod composite;
 mod fault;
 mod ranking;
+mod ranks;
+mod reach;
+mod unit;
 
 pub use check::proper;
 pub use fault::CheckFault;
 pub use ranking::Proper;
+
+#[cfg(test)]
+mod tests;

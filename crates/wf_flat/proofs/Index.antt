@@ -46,12 +46,6 @@ nexts_more [] v (suc a) e = refl
 nexts_more (x ∷ graph) v zero e = refl
 nexts_more (x ∷ graph) v (suc a) e = nexts_more graph v a e
 
-pub index_none : (ports : List Port) (graph : List (Vec ℕ Global)) → ports ≡ [] → graph ≡ [] → IsIndex [] ports graph
-index_none ports graph e f = subst (λ p. IsIndex [] p graph) (sym e) (subst (IsIndex [] []) (sym f) first)
-  where
-    first : IsIndex [] [] []
-    first = record { one_each = refl; few = omega arith; differ = tt; linked = λ l i. absurd i; links = λ a b h. absurd h }
-
 pub index_port : (ls : List Link) (ports : List Port) (graph : List (Vec ℕ Global)) (x : Port) (v : Vec ℕ Global) → v.items ≡ [] → (IsIn x ports → ⊥) → length ports + 1 ≤ 2 ^ 32 → IsIndex ls ports graph → IsIndex ls (ports ++ x ∷ []) (graph ++ v ∷ [])
 index_port ls ports graph x v e new room i =
     let one = i.one_each in

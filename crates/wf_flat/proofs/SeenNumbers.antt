@@ -1,13 +1,12 @@
 -- What is seen of a run, by number.
-use Rattle.std.proofs.Common.{◌≡◌, ℕ, zero, suc, ◌+◌, ◌<◌, ◌≤◌, Bool, true, false, cond, ◌||◌, ◌&&◌, List, [], ◌∷◌, ◌++◌, map, take, drop, set, replicate, length, get_or, refl, ap, sym, subst, ◌∙◌, arith, inl, inr, ⊎_elim, true≢false}
+use Rattle.std.proofs.Common.{◌≡◌, ℕ, zero, suc, ◌+◌, ◌<◌, ◌≤◌, Bool, true, false, cond, ◌||◌, ◌&&◌, List, [], ◌∷◌, ◌++◌, map, take, drop, set, length, get_or, refl, ap, sym, subst, ◌∙◌, arith, inl, inr, ⊎_elim, true≢false}
 use Rattle.std.specs.Prelude.{◌==◌, bytes_eq}
 use Rattle.std.proofs.lemmas.Bool.Decides.{nat_tests}
 use Rattle.std.proofs.lemmas.List.{map-append, length-map, get_or-map, get_or-set_same, get_or-set_other, drop_more, get_or_default}
-use Rattle.wf_model.specs.declared.event.Event.TheVariants.{Start}
 use Rattle.wf_model.specs.Lists.{IsIn, IsAt, AllDiffer, some, numbers_from}
 use Rattle.wf_model.specs.Grammar.{Grammar, body_of}
 use Rattle.wf_model.specs.View.{View, expands}
-use Rattle.wf_model.specs.Run.{Instance, named, made, opens, newly_seen, see_all, seen_in}
+use Rattle.wf_model.specs.Run.{Instance, named, opens, newly_seen, see_all, seen_in}
 use Rattle.wf_model.proofs.Lists.{in_append_cases, at_in, is_at, differ_at, same_bytes, bytes_same}
 use Rattle.wf_model.proofs.Taking.{run_differs}
 use Rattle.wf_flat.specs.declared.table.Inst.{Inst}
@@ -137,26 +136,6 @@ module _ (g : Grammar) (t : Table) (run : IsRunOf g t) where
       go true a = let r = in_range_below c o.first o.count a in let q : o.first + o.count ≤ length t.instances = h.2 in omega arith
       go false a = absurd a
 
-  -- the start
-  pub first_seen : (u : View) → 0 < length t.instances → see_all g u g.start (map (inst_at t.instances) (0 ∷ [])) (map (expansion_of (names_in t.instances)) t.order) ≡ seen_in g u g.start (events_of t)
-  first_seen u h = go t.instances refl h
-    where
-      root : (xs ys : List Inst) (x : Inst) → t.instances ≡ x ∷ ys → instance_of x ≡ record { name = x.name; module_no = g.start }
-      root xs ys x e =
-          let m : instance_of x ∷ map instance_of ys ≡ made g g.start (map Start (take 1 (names_in (x ∷ ys))) ++ map (expansion_of (names_in (x ∷ ys))) t.order) =
-          ap (map instance_of) (sym e) ∙ (run.made ∙ ap (λ l. made g g.start (events_by (names_in l) t.order)) e) in
-          head (instance_of x) (record { name = x.name; module_no = g.start }) (map instance_of ys) _ m
-        where
-          head : {A : Type 0} (a b : A) (us vs : List A) → a ∷ us ≡ b ∷ vs → a ≡ b
-          head a b us vs q = cc
-
-      go : (xs : List Inst) → t.instances ≡ xs → 0 < length xs → see_all g u g.start (map (inst_at t.instances) (0 ∷ [])) (map (expansion_of (names_in t.instances)) t.order) ≡ seen_in g u g.start (events_of t)
-      go [] e z = absurd (omega arith)
-      go (x ∷ ys) e z =
-          ap (λ l. see_all g u g.start (inst_at l 0 ∷ []) (map (expansion_of (names_in l)) t.order)) e
-          ∙ (ap (λ i. see_all g u g.start (i ∷ []) (map (expansion_of (names_in (x ∷ ys))) t.order)) (root (x ∷ ys) ys x e)
-          ∙ ap (λ l. seen_in g u g.start (events_by (names_in l) t.order)) (sym e))
-
   pub none_seen : (u : View) → length t.instances ≡ 0 → ((o : Opened) → IsIn o t.order → IsOpenedIn (length t.instances) o) → [] ≡ seen_in g u g.start (events_of t)
   none_seen u h k = go t.instances refl t.order refl
     where
@@ -187,8 +166,3 @@ module _ (g : Grammar) (t : Table) (run : IsRunOf g t) where
 
   pub there_more : (seen new : List ℕ) (o : Opened) (b : Bool) → IsOpenedIn (length t.instances) o → ((c : ℕ) → IsIn c seen → c < length t.instances) → new ≡ seen ++ cond b (numbers_from o.first o.count) [] → (c : ℕ) → IsIn c new → c < length t.instances
   there_more seen new o b h l e c i = seen_below seen o b h l c (subst (IsIn c) e i)
-
-pub none_marked : (n : ℕ) (j : ℕ) → flag_of (replicate n false) j ≡ false
-none_marked zero j = refl
-none_marked (suc n) zero = refl
-none_marked (suc n) (suc j) = none_marked n j

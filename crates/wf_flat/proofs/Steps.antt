@@ -1,5 +1,5 @@
 -- A table that stands for a run goes on standing for it, an event later.
-use Rattle.std.proofs.Common.{◌≡◌, ℕ, zero, suc, ◌+◌, ◌<◌, ◌≤◌, ◌⊎◌, false, cond, List, [], ◌∷◌, ◌++◌, map, take, drop, set, get_or, length, Option, Some, None, refl, ap, sym, subst, ◌∙◌, arith, inl, inr, ⊎_elim, append_assoc, length-append}
+use Rattle.std.proofs.Common.{◌≡◌, ℕ, zero, suc, ◌+◌, ◌<◌, ◌≤◌, ◌⊎◌, false, cond, List, [], ◌∷◌, ◌++◌, map, take, drop, set, get_or, length, Option, Some, None, refl, ap, sym, subst, ◌∙◌, arith, inl, inr, ⊎_elim, append_assoc}
 use Rattle.std.specs.Prelude.{option_map, MatchOption}
 use Rattle.std.proofs.lemmas.List.{length-map, map-append, take-append-le, drop-append-le, drop_at, take_all, get_or_append_left, get_or-set_same, get_or-set_other, length-set, length-drop}
 use Rattle.wf_model.specs.declared.event.Event.TheVariants.{Start, Expand}
@@ -7,7 +7,7 @@ use Rattle.wf_model.specs.declared.numbers.ProdNo.{ProdNo}
 use Rattle.wf_model.specs.declared.numbers.ModNo.{ModNo}
 use Rattle.wf_model.specs.declared.body.Position.{Position}
 use Rattle.wf_model.specs.Lists.{IsIn, IsAt, AllDiffer}
-use Rattle.wf_model.specs.Grammar.{Grammar, Production, Position as PositionSeen, body_of}
+use Rattle.wf_model.specs.Grammar.{Grammar, Production, Position as PositionSeen, production_at, body_of}
 use Rattle.wf_model.specs.Meaning.{position_of}
 use Rattle.wf_model.specs.Faults.{some_twice, fault_of}
 use Rattle.wf_model.specs.Run.{Instance, Expanded, named, made, names_of, expanded_by, CanExpand, IsAccepted}
@@ -18,7 +18,7 @@ use Rattle.wf_flat.specs.declared.table.Inst.{Inst}
 use Rattle.wf_flat.specs.declared.table.Opened.{Opened}
 use Rattle.wf_flat.specs.Table.{Table, IsRunOf, IsParentAt, IsKept, IsOpenedIn, instance_of, names_in, given_names, expansion_of, events_by, events_of, expansion_at, children, expanded_by_no, no_instance, opened_table, root_instance, started_table}
 use Rattle.wf_flat.proofs.Tables.{names-with_children, instances-with_children, length-with_children}
-use Rattle.wf_flat.proofs.Tests.{at_map, map-map, same_names, same_count, body_read}
+use Rattle.wf_flat.proofs.Tests.{at_map, map-map, same_names}
 
 map_same : {A B : Type 0} (f h : A → B) (xs : List A) → ((x : A) → IsIn x xs → f x ≡ h x) → map f xs ≡ map h xs
 map_same f h [] e = refl
@@ -341,22 +341,9 @@ fresh_names g t i p new run next =
     let can = (AllExtend-append g g.start [] (events_of t) (Expand i p new ∷ []) next.0).1.0 in
     ap (λ l. some_twice l new) (sym (same_names g t run)) ∙ twice_from (names_of (made g g.start (events_of t))) new can.differ can.new
 
-pub room_left : (g : Grammar) (t : Table) (i : List ℕ) (p : ℕ) (new : List (List ℕ)) → IsRunOf g t → IsAccepted g t.most (events_of t ++ Expand i p new ∷ []) → length t.instances + length new ≤ t.most
-room_left g t i p new run next =
-    let can = (AllExtend-append g g.start [] (events_of t) (Expand i p new ∷ []) next.0).1.0 in
-    subst (λ n. n ≤ t.most) (ap length (made_more g g.start (events_of t) (Expand i p new)) ∙ (length-append (made g g.start (events_of t)) (named new (body_of g p)) ∙ (ap (λ n. n + length (named new (body_of g p))) (same_count g t run) ∙ ap (λ n. length t.instances + n) (length-named new (body_of g p) can.one_each)))) next.1
-
-pub in_range : (g : Grammar) (t : Table) (i : List ℕ) (p : ℕ) (new : List (List ℕ)) → IsAccepted g t.most (events_of t ++ Expand i p new ∷ []) → p < length g.productions
-in_range g t i p new next =
-    let can = (AllExtend-append g g.start [] (events_of t) (Expand i p new ∷ []) next.0).1.0 in can.in_range
-
-pub one_each : (g : Grammar) (t : Table) (i : List ℕ) (p : ℕ) (new : List (List ℕ)) → IsAccepted g t.most (events_of t ++ Expand i p new ∷ []) → length new ≡ length (body_of g p)
-one_each g t i p new next =
-    let can = (AllExtend-append g g.start [] (events_of t) (Expand i p new ∷ []) next.0).1.0 in can.one_each
-
-pub same_modules : (g : Grammar) (ps : List Production) (p : ℕ) (r : Production) (body : List Position) → ps ≡ g.productions → p < length g.productions → r ≡ get_or ps p r → map position_of body ≡ r.positions → map (λ (q : Position). q.module.0) body ≡ body_of g p
-same_modules g ps p r body e h q b =
-    sym (map-map (λ (z : PositionSeen). z.module_no) position_of body) ∙ (ap (map (λ (z : PositionSeen). z.module_no)) b ∙ body_read g ps p r e (subst (λ l. p < length l) (sym e) h) q)
+pub same_modules : (g : Grammar) (p : ℕ) (r : Production) (body : List Position) → map position_of body ≡ r.positions → r ≡ production_at g p → map (λ (q : Position). q.module.0) body ≡ body_of g p
+same_modules g p r body b e =
+    sym (map-map (λ (z : PositionSeen). z.module_no) position_of body) ∙ (ap (map (λ (z : PositionSeen). z.module_no)) b ∙ ap (λ (z : Production). map (λ (y : PositionSeen). y.module_no) z.positions) e)
 
 pub run_first : (g : Grammar) (t : Table) (m : ModNo) (name : List ℕ) → IsRunOf g t → m.0 ≡ g.start → fault_of g t.most (events_of t) (Start name) ≡ None → IsRunOf g (started_table t.most m name)
 run_first g t m name run e h =

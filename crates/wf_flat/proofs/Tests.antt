@@ -6,6 +6,7 @@ use Rattle.std.proofs.lemmas.List.{length-map, get_or-map, get_or_read}
 use Rattle.std.proofs.lemmas.List.Quantifiers.{position-Some}
 use Rattle.wf_model.specs.Lists.{IsAt, some}
 use Rattle.wf_model.specs.Grammar.{Grammar, Production, Position, production_at, body_of, head_of}
+use Rattle.wf_spec.specs.Held.{HeldProduction}
 use Rattle.wf_model.specs.Run.{Instance, made, names_of, expanded_by}
 use Rattle.wf_model.specs.Faults.{is_nil, is_one_of, module_in, is_short_name, some_twice, fault_of}
 use Rattle.wf_model.specs.declared.event.Event.TheVariants.{Expand}
@@ -131,23 +132,18 @@ module _ (g : Grammar) (t : Table) (run : IsRunOf g t) where
   passed i p names k xs x e h r =
       passed_two i p names k e ∙ ap (λ y. cond (nat_le (length g.productions) p) (Some UnknownProduction) (from_head g t y p names)) (sym (get_or_read t.instances k x (its_name i k e).0 (r ∙ ap (λ l. get_or l k x) h) no_instance))
 
-pub production_read : (g : Grammar) (ps : List Production) (p : ℕ) (r : Production) → ps ≡ g.productions → p < length ps → r ≡ get_or ps p r → r ≡ production_at g p
-production_read g ps p r e h q = get_or_read g.productions p r (subst (λ l. p < length l) e h) (q ∙ ap (λ l. get_or l p r) e) _
+pub length_read : (g : Grammar) (p : ℕ) (r : Production) → r ≡ production_at g p → length r.positions ≡ length (body_of g p)
+length_read g p r e = sym (length-map r.positions (λ (y : Position). y.module_no)) ∙ ap (λ (z : Production). length (map (λ (y : Position). y.module_no) z.positions)) e
 
-pub head_read : (g : Grammar) (ps : List Production) (p : ℕ) (r : Production) → ps ≡ g.productions → p < length ps → r ≡ get_or ps p r → r.head ≡ head_of g p
-head_read g ps p r e h q = ap (λ (z : Production). z.head) (production_read g ps p r e h q)
+-- the productions are counted as the program holds them
+held_count : (g : Grammar) (ps : List HeldProduction) → map (λ (p : HeldProduction). p.core) ps ≡ g.productions → length ps ≡ length g.productions
+held_count g ps e = sym (length-map ps (λ (p : HeldProduction). p.core)) ∙ ap length e
 
-pub body_read : (g : Grammar) (ps : List Production) (p : ℕ) (r : Production) → ps ≡ g.productions → p < length ps → r ≡ get_or ps p r → map (λ (z : Position). z.module_no) r.positions ≡ body_of g p
-body_read g ps p r e h q = ap (λ (z : Production). map (λ (y : Position). y.module_no) z.positions) (production_read g ps p r e h q)
+pub below_count : (g : Grammar) (ps : List HeldProduction) (p : ℕ) → map (λ (p : HeldProduction). p.core) ps ≡ g.productions → p < length ps → nat_le (length g.productions) p ≡ false
+below_count g ps p e h = subst (λ n. nat_le n p ≡ false) (held_count g ps e) (grind (arith, nat_tests))
 
-pub length_read : (g : Grammar) (ps : List Production) (p : ℕ) (r : Production) → ps ≡ g.productions → p < length ps → r ≡ get_or ps p r → length r.positions ≡ length (body_of g p)
-length_read g ps p r e h q = sym (length-map r.positions (λ (y : Position). y.module_no)) ∙ ap length (body_read g ps p r e h q)
-
-pub below_count : (g : Grammar) (ps : List Production) (p : ℕ) → ps ≡ g.productions → p < length ps → nat_le (length g.productions) p ≡ false
-below_count g ps p e h = subst (λ l. nat_le (length l) p ≡ false) e (grind (arith, nat_tests))
-
-pub above_count : (g : Grammar) (ps : List Production) (p : ℕ) → ps ≡ g.productions → length ps ≤ p → nat_le (length g.productions) p ≡ true
-above_count g ps p e h = subst (λ l. nat_le (length l) p ≡ true) e (grind (arith, nat_tests))
+pub above_count : (g : Grammar) (ps : List HeldProduction) (p : ℕ) → map (λ (p : HeldProduction). p.core) ps ≡ g.productions → length ps ≤ p → nat_le (length g.productions) p ≡ true
+above_count g ps p e h = subst (λ n. nat_le n p ≡ true) (held_count g ps e) (grind (arith, nat_tests))
 
 pub until_names : (g : Grammar) (t : Table) → IsRunOf g t → (i : List ℕ) (p : ℕ) (names : List (List ℕ)) (k : ℕ) (xs : List Inst) (x : Inst) → position (bytes_eq i) (names_in t.instances) ≡ Some k → xs ≡ t.instances → x ≡ get_or xs k x →
     nat_le (length g.productions) p ≡ false → not (x.module.0 == head_of g p) ≡ false → is_some x.production ≡ false →

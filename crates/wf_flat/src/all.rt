@@ -1,5 +1,5 @@
 // A whole list of events, as a caller takes it.
-ghost use Rattle.std.specs.Prelude.{◌≡◌, ◌<◌, ℕ, List, length, take, IfOk, IfErr, ◌⊎◌, Some};
+ghost use Rattle.std.specs.Prelude.{◌≡◌, ◌<◌, ℕ, take, IfOk, IfErr, ◌⊎◌, Some};
 ghost use Rattle.wf_model.specs.declared.event.Event.{Event};
 ghost use Rattle.wf_model.specs.declared.event.RunFault.TheVariants.{NoMemory};
 ghost use Rattle.wf_model.specs.Lists.{IsAt};
@@ -19,9 +19,9 @@ pub fn take_all(
     most: u32,
     events: &[Event],
 ) -> Result<PlainRun, RunFault>
-    ensures run { IfOk result (λ r. IsRunOf g.now r) }
+    ensures run { IfOk result (λ r. IsRunOf g.now.core r) }
     ensures events { IfOk result (λ r. events_of r ≡ events.now) }
-    ensures refused { IfErr result (λ f. (f ≡ NoMemory) ⊎ ((k : ℕ) × (e : Event) × IsAt e k events.now × (fault_of g.now most (take k events.now) e ≡ Some f))) }
+    ensures refused { IfErr result (λ f. (f ≡ NoMemory) ⊎ ((k : ℕ) × (e : Event) × IsAt e k events.now × (fault_of g.now.core most (take k events.now) e ≡ Some f))) }
 {
     let mut run = PlainRun::new(alloc, most);
     for e in events {

@@ -26,8 +26,8 @@ pub fn is_finished(
     run: &PlainRun,
     expanded: &[bool],
 ) -> Result<bool, AllocError>
-    requires { IsRunOf g.now run.now }
-    ensures { IfOk result (λ b. (u : View) → Marks expanded.now u → IsTrue b ↔ IsFinished g.now u g.now.start (events_of run.now)) }
+    requires { IsRunOf g.now.core run.now }
+    ensures { IfOk result (λ b. (u : View) → Marks expanded.now u → IsTrue b ↔ IsFinished g.now.core u g.now.core.start (events_of run.now)) }
 {
     let all = seen(alloc, g, run, expanded)?;
     let instances = run.instances();

@@ -140,9 +140,9 @@ impl Flat {
         expanded: &[bool],
         leaf: &Deps,
     ) -> Result<Flat, AllocError>
-        requires run { IsRunOf g.now run.now }
-        requires made_for { IsMadeFor g.now leaf.now }
-        ensures links { IfOk result (λ f. (u : View) → Marks expanded.now u → named_links (names_in run.now.instances) f.links ≡ links_with g.now u (pairs_of leaf.now) g.now.start (events_of run.now)) }
+        requires run { IsRunOf g.now.core run.now }
+        requires made_for { IsMadeFor g.now.core leaf.now }
+        ensures links { IfOk result (λ f. (u : View) → Marks expanded.now u → named_links (names_in run.now.instances) f.links ≡ links_with g.now.core u (pairs_of leaf.now) g.now.core.start (events_of run.now)) }
         ensures within { IfOk result (λ f. AreWithin (length run.now.instances) f.links) }
     {
         let links = links(alloc, g, run, expanded, leaf)?;

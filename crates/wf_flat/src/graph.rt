@@ -163,11 +163,11 @@ fn add_wiring(
     first: u32,
     rule: &Production,
 ) -> Result<(), AllocError>
-    requires few_entries { length rule.now.entries ≤ 64 }
-    requires few_exits { length rule.now.exits ≤ 64 }
-    ensures within { OnOk result ((count n : ℕ) → AreBelow count rule.now → instance < n → first + count ≤ n → n < 2 ^ 32 → AreWithin n links.old.items → AreWithin n links.new.items) }
-    ensures links { OnOk result ((names : List (List ℕ)) (count : ℕ) → AreBelow count rule.now → first + count < 2 ^ 32 →
-        named_links names links.new.items ≡ named_links names links.old.items ++ map (move_link (instance_at (get_or names instance []) (take count (drop first names)))) (wiring_of rule.now)) }
+    requires few_entries { length rule.now.core.entries ≤ 64 }
+    requires few_exits { length rule.now.core.exits ≤ 64 }
+    ensures within { OnOk result ((count n : ℕ) → AreBelow count rule.now.core → instance < n → first + count ≤ n → n < 2 ^ 32 → AreWithin n links.old.items → AreWithin n links.new.items) }
+    ensures links { OnOk result ((names : List (List ℕ)) (count : ℕ) → AreBelow count rule.now.core → first + count < 2 ^ 32 →
+        named_links names links.new.items ≡ named_links names links.old.items ++ map (move_link (instance_at (get_or names instance []) (take count (drop first names)))) (wiring_of rule.now.core)) }
 {
     add_edges(links, first, rule.edges())?;
     add_entries(links, instance, first, rule.entries())?;
@@ -183,10 +183,10 @@ fn add_pairs(
     m: ModNo,
     leaf: &Deps,
 ) -> Result<(), AllocError>
-    requires in_range { m.0 < length g.now.modules }
-    requires made_for { IsMadeFor g.now leaf.now }
+    requires in_range { m.0 < length g.now.core.modules }
+    requires made_for { IsMadeFor g.now.core leaf.now }
     ensures within { OnOk result ((n : ℕ) → instance < n → AreWithin n links.old.items → AreWithin n links.new.items) }
-    ensures links { OnOk result ((names : List (List ℕ)) → named_links names links.new.items ≡ named_links names links.old.items ++ pair_links g.now (pairs_of leaf.now) m.0 (get_or names instance [])) }
+    ensures links { OnOk result ((names : List (List ℕ)) → named_links names links.new.items ≡ named_links names links.old.items ++ pair_links g.now.core (pairs_of leaf.now) m.0 (get_or names instance [])) }
 {
     let module = &g.modules()[m.0 as usize];
     let inputs = module.inputs().len();
@@ -206,14 +206,15 @@ fn add_instance(
     expanded: &[bool],
     leaf: &Deps,
 ) -> Result<(), AllocError>
-    requires run { IsRunOf g.now run.now }
+    requires run { IsRunOf g.now.core run.now }
     requires there { k < length run.now.instances }
-    requires made_for { IsMadeFor g.now leaf.now }
+    requires made_for { IsMadeFor g.now.core leaf.now }
     ensures within { OnOk result (AreWithin (length run.now.instances) links.old.items → AreWithin (length run.now.instances) links.new.items) }
     ensures links { OnOk result ((u : View) → Marks expanded.now u →
-        named_links (names_in run.now.instances) links.new.items ≡ named_links (names_in run.now.instances) links.old.items ++ links_of g.now u (pairs_of leaf.now) (events_of run.now) (inst_at run.now.instances k)) }
+        named_links (names_in run.now.instances) links.new.items ≡ named_links (names_in run.now.instances) links.old.items ++ links_of g.now.core u (pairs_of leaf.now) (events_of run.now) (inst_at run.now.instances k)) }
 {
-    let rules = g.productions();
+    // A grammar is well-formed: the production of an instance is there.
+    let _formed = g.start();
     let x = &run.instances()[k as usize];
     if !is_marked(expanded, x.module) {
         add_pairs(links, g, k, x.module, leaf)?;
@@ -223,7 +224,7 @@ fn add_instance(
         add_pairs(links, g, k, x.module, leaf)?;
         return Ok(());
     };
-    add_wiring(links, k, x.first_child, &rules[p.0 as usize])?;
+    add_wiring(links, k, x.first_child, g.production(p))?;
     Ok(())
 }
 
@@ -235,10 +236,10 @@ pub fn links(
     expanded: &[bool],
     leaf: &Deps,
 ) -> Result<Vec<Link>, AllocError>
-    requires run { IsRunOf g.now run.now }
-    requires made_for { IsMadeFor g.now leaf.now }
+    requires run { IsRunOf g.now.core run.now }
+    requires made_for { IsMadeFor g.now.core leaf.now }
     ensures within { IfOk result (λ ls. AreWithin (length run.now.instances) ls.items) }
-    ensures links { IfOk result (λ ls. (u : View) → Marks expanded.now u → named_links (names_in run.now.instances) ls.items ≡ links_with g.now u (pairs_of leaf.now) g.now.start (events_of run.now)) }
+    ensures links { IfOk result (λ ls. (u : View) → Marks expanded.now u → named_links (names_in run.now.instances) ls.items ≡ links_with g.now.core u (pairs_of leaf.now) g.now.core.start (events_of run.now)) }
 {
     let all = seen(alloc, g, run, expanded)?;
     let mut links = Vec::new(alloc);

@@ -100,14 +100,14 @@ fn edge_item(
     k: u32,
     o: u8,
 ) -> Option<Item>
-    requires in_range { production.0 < length g.now.productions }
+    requires in_range { production.0 < length g.now.core.productions }
     requires first { first ≤ k }
-    requires last { k < first + length (body_of g.now production.0) }
-    requires room { first + length (body_of g.now production.0) < 2 ^ 32 }
-    ensures found { IfSome result (λ i. (e : EdgeSeen) × IsIn e (production_at g.now production.0).edges × IsItemOfEdge parent first k o e i) }
-    ensures none { IsNone result → (e : EdgeSeen) → IsIn e (production_at g.now production.0).edges → e.from ≡ record { position = k - first; port = o } → ⊥ }
+    requires last { k < first + length (body_of g.now.core production.0) }
+    requires room { first + length (body_of g.now.core production.0) < 2 ^ 32 }
+    ensures found { IfSome result (λ i. (e : EdgeSeen) × IsIn e (production_at g.now.core production.0).edges × IsItemOfEdge parent first k o e i) }
+    ensures none { IsNone result → (e : EdgeSeen) → IsIn e (production_at g.now.core production.0).edges → e.from ≡ record { position = k - first; port = o } → ⊥ }
 {
-    let rule = &g.productions()[production.0 as usize];
+    let rule = g.production(production);
     let from = Inner {
         pos: PosNo((k - first) as u8),
         port: PortNo(o),
@@ -132,11 +132,11 @@ fn edge_item(
 
 /// The item of an output of an instance below the root.
 fn inner_item(g: &Grammar, run: &PlainRun, k: u32, parent: u32, port: &[u8]) -> Option<Item>
-    requires run { IsRunOf g.now run.now }
+    requires run { IsRunOf g.now.core run.now }
     requires there { k < length run.now.instances }
     requires parent { (get_or run.now.instances k no_instance).parent ≡ Some parent }
-    ensures found { IfSome result (λ i. IsIn (named_item (names_in run.now.instances) (dotted (get_or (names_in run.now.instances) k []) port.now) i) (items g.now g.now.start (events_of run.now))) }
-    ensures none { IsNone result → (t : ItemSeen) → IsIn t (items g.now g.now.start (events_of run.now)) → t.name ≡ dotted (get_or (names_in run.now.instances) k []) port.now → ⊥ }
+    ensures found { IfSome result (λ i. IsIn (named_item (names_in run.now.instances) (dotted (get_or (names_in run.now.instances) k []) port.now) i) (items g.now.core g.now.core.start (events_of run.now))) }
+    ensures none { IsNone result → (t : ItemSeen) → IsIn t (items g.now.core g.now.core.start (events_of run.now)) → t.name ≡ dotted (get_or (names_in run.now.instances) k []) port.now → ⊥ }
     ensures within { IfSome result (λ i. IsItemWithin (length run.now.instances) i) }
 {
     let all = run.instances();
@@ -154,10 +154,10 @@ fn inner_item(g: &Grammar, run: &PlainRun, k: u32, parent: u32, port: &[u8]) -> 
 
 /// The item that is named by an instance and a port.
 fn item_at(g: &Grammar, run: &PlainRun, k: u32, port: &[u8]) -> Option<Item>
-    requires run { IsRunOf g.now run.now }
+    requires run { IsRunOf g.now.core run.now }
     requires there { k < length run.now.instances }
-    ensures found { IfSome result (λ i. IsIn (named_item (names_in run.now.instances) (dotted (get_or (names_in run.now.instances) k []) port.now) i) (items g.now g.now.start (events_of run.now))) }
-    ensures none { IsNone result → (t : ItemSeen) → IsIn t (items g.now g.now.start (events_of run.now)) → t.name ≡ dotted (get_or (names_in run.now.instances) k []) port.now → ⊥ }
+    ensures found { IfSome result (λ i. IsIn (named_item (names_in run.now.instances) (dotted (get_or (names_in run.now.instances) k []) port.now) i) (items g.now.core g.now.core.start (events_of run.now))) }
+    ensures none { IsNone result → (t : ItemSeen) → IsIn t (items g.now.core g.now.core.start (events_of run.now)) → t.name ≡ dotted (get_or (names_in run.now.instances) k []) port.now → ⊥ }
     ensures within { IfSome result (λ i. IsItemWithin (length run.now.instances) i) }
 {
     let x = &run.instances()[k as usize];
@@ -171,9 +171,9 @@ fn item_at(g: &Grammar, run: &PlainRun, k: u32, port: &[u8]) -> Option<Item>
 ///
 /// Cost: one look-up by hashing, the ports of one module and the edges of one body. Takes no memory.
 pub fn find_item(g: &Grammar, run: &PlainRun, name: &[u8]) -> Option<Item>
-    requires { IsRunOf g.now run.now }
-    ensures found { IfSome result (λ i. IsIn (named_item (names_in run.now.instances) name.now i) (items g.now g.now.start (events_of run.now))) }
-    ensures none { IsNone result → (t : ItemSeen) → IsIn t (items g.now g.now.start (events_of run.now)) → t.name ≡ name.now → ⊥ }
+    requires { IsRunOf g.now.core run.now }
+    ensures found { IfSome result (λ i. IsIn (named_item (names_in run.now.instances) name.now i) (items g.now.core g.now.core.start (events_of run.now))) }
+    ensures none { IsNone result → (t : ItemSeen) → IsIn t (items g.now.core g.now.core.start (events_of run.now)) → t.name ≡ name.now → ⊥ }
     ensures within { IfSome result (λ i. IsItemWithin (length run.now.instances) i) }
 {
     // A grammar is well-formed: the instance that names an item is there.

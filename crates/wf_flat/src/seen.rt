@@ -71,8 +71,8 @@ pub fn seen(
     run: &PlainRun,
     expanded: &[bool],
 ) -> Result<Vec<u32>, AllocError>
-    requires { IsRunOf g.now run.now }
-    ensures seen { IfOk result (λ s. (u : View) → Marks expanded.now u → map (inst_at run.now.instances) s.items ≡ seen_in g.now u g.now.start (events_of run.now)) }
+    requires { IsRunOf g.now.core run.now }
+    ensures seen { IfOk result (λ s. (u : View) → Marks expanded.now u → map (inst_at run.now.instances) s.items ≡ seen_in g.now.core u g.now.core.start (events_of run.now)) }
     ensures there { IfOk result (λ s. (k : ℕ) → IsIn k s.items → k < length run.now.instances) }
 {
     let instances = run.instances();

@@ -1,11 +1,9 @@
 // A run as a table of numbered instances.
-ghost use Rattle.std.specs.Prelude.{◌≡◌, ◌<◌, ◌≤◌, ◌+◌, ◌^◌, ◌++◌, ◌∷◌, [], List, ℕ, Option, Some, None, false, length, take, drop, map, position, set, get_or, IfOk, IfErr, OnOk, OnErr, IfSome, bytes_eq, ◌⊎◌};
+ghost use Rattle.std.specs.Prelude.{◌≡◌, ◌<◌, ◌≤◌, ◌+◌, ◌^◌, ◌++◌, ◌∷◌, [], List, Option, Some, None, false, length, take, position, IfOk, IfErr, OnOk, OnErr, IfSome, bytes_eq, ◌⊎◌};
 ghost use Rattle.std.specs.List.{list_all};
-ghost use Rattle.std.specs.Result.{MatchResult};
 ghost use Rattle.wf_model.specs.declared.event.Event.TheVariants.{Start, Expand};
 ghost use Rattle.wf_model.specs.declared.event.RunFault.TheVariants.{NoMemory};
 ghost use Rattle.wf_model.specs.Faults.{is_name_byte, is_short_name, some_twice, fault_of, is_one_of};
-ghost use Rattle.wf_model.specs.Grammar.{body_of};
 ghost use Rattle.wf_flat.specs.Table.{Table, IsRunOf, events_of, names_in, children, with_children, root_instance, started_table, opened_table};
 
 use std::alloc::{AllocError, Global};
@@ -263,12 +261,12 @@ impl PlainRun {
     ///
     /// Cost: one look-up for each name of the event, which is also compared with the names before it in the event, at most 63.
     pub fn take(&mut self, g: &Grammar, e: &Event) -> Result<(), RunFault>
-        requires { IsRunOf g.now self.old }
+        requires { IsRunOf g.now.core self.old }
         ensures taken { OnOk result (events_of self.new ≡ events_of self.old ++ e.now ∷ []) }
-        ensures extends { OnOk result (fault_of g.now self.old.most (events_of self.old) e.now ≡ None) }
-        ensures refused { IfErr result (λ f. (f ≡ NoMemory) ⊎ (fault_of g.now self.old.most (events_of self.old) e.now ≡ Some f)) }
+        ensures extends { OnOk result (fault_of g.now.core self.old.most (events_of self.old) e.now ≡ None) }
+        ensures refused { IfErr result (λ f. (f ≡ NoMemory) ⊎ (fault_of g.now.core self.old.most (events_of self.old) e.now ≡ Some f)) }
         ensures unchanged { OnErr result (self.new ≡ self.old) }
-        ensures run { IsRunOf g.now self.new }
+        ensures run { IsRunOf g.now.core self.new }
         ensures most { self.new.most ≡ self.old.most }
     {
         match e {
@@ -282,12 +280,12 @@ impl PlainRun {
     }
 
     fn take_start(&mut self, g: &Grammar, name: &[u8]) -> Result<(), RunFault>
-        requires { IsRunOf g.now self.old }
+        requires { IsRunOf g.now.core self.old }
         ensures taken { OnOk result (events_of self.new ≡ events_of self.old ++ Start name.now ∷ []) }
-        ensures extends { OnOk result (fault_of g.now self.old.most (events_of self.old) (Start name.now) ≡ None) }
-        ensures refused { IfErr result (λ f. (f ≡ NoMemory) ⊎ (fault_of g.now self.old.most (events_of self.old) (Start name.now) ≡ Some f)) }
+        ensures extends { OnOk result (fault_of g.now.core self.old.most (events_of self.old) (Start name.now) ≡ None) }
+        ensures refused { IfErr result (λ f. (f ≡ NoMemory) ⊎ (fault_of g.now.core self.old.most (events_of self.old) (Start name.now) ≡ Some f)) }
         ensures unchanged { OnErr result (self.new ≡ self.old) }
-        ensures run { IsRunOf g.now self.new }
+        ensures run { IsRunOf g.now.core self.new }
         ensures most { self.new.most ≡ self.old.most }
     {
         if let Some(fault) = self.start_fault(g, name) {
@@ -298,8 +296,8 @@ impl PlainRun {
     }
 
     fn start_fault(&self, g: &Grammar, name: &[u8]) -> Option<RunFault>
-        requires { IsRunOf g.now self.now }
-        ensures { result ≡ fault_of g.now self.now.most (events_of self.now) (Start name.now) }
+        requires { IsRunOf g.now.core self.now }
+        ensures { result ≡ fault_of g.now.core self.now.most (events_of self.now) (Start name.now) }
     {
         if !self.instances.is_empty() {
             return Some(RunFault::StartedTwice);
@@ -320,26 +318,29 @@ impl PlainRun {
         production: u64,
         names: &[Name],
     ) -> Result<(), RunFault>
-        requires { IsRunOf g.now self.old }
+        requires { IsRunOf g.now.core self.old }
         ensures taken { OnOk result (events_of self.new ≡ events_of self.old ++ Expand instance.now production names.now ∷ []) }
-        ensures extends { OnOk result (fault_of g.now self.old.most (events_of self.old) (Expand instance.now production names.now) ≡ None) }
-        ensures refused { IfErr result (λ f. (f ≡ NoMemory) ⊎ (fault_of g.now self.old.most (events_of self.old) (Expand instance.now production names.now) ≡ Some f)) }
+        ensures extends { OnOk result (fault_of g.now.core self.old.most (events_of self.old) (Expand instance.now production names.now) ≡ None) }
+        ensures refused { IfErr result (λ f. (f ≡ NoMemory) ⊎ (fault_of g.now.core self.old.most (events_of self.old) (Expand instance.now production names.now) ≡ Some f)) }
         ensures unchanged { OnErr result (self.new ≡ self.old) }
-        ensures run { IsRunOf g.now self.new }
+        ensures run { IsRunOf g.now.core self.new }
         ensures most { self.new.most ≡ self.old.most }
     {
         let _all = self.instances.len();
         let k = self.place(g, instance, production, names)?;
-        let body = g.productions()[production as usize].positions();
-        self.expand(k, ProdNo(production as u16), names, body)?;
+        // A grammar is well-formed: the number of a production has 16 bits.
+        let _formed = g.start();
+        let number = ProdNo(production as u16);
+        let body = g.production(number).positions();
+        self.expand(k, number, names, body)?;
         Ok(())
     }
 
     /// The number of the instance that an event may expand by the production of a number.
     fn place(&self, g: &Grammar, name: &[u8], number: u64, names: &[Name]) -> Result<u32, RunFault>
-        requires { IsRunOf g.now self.now }
-        ensures refused { IfErr result (λ f. fault_of g.now self.now.most (events_of self.now) (Expand name.now number names.now) ≡ Some f) }
-        ensures extends { OnOk result (fault_of g.now self.now.most (events_of self.now) (Expand name.now number names.now) ≡ None) }
+        requires { IsRunOf g.now.core self.now }
+        ensures refused { IfErr result (λ f. fault_of g.now.core self.now.most (events_of self.now) (Expand name.now number names.now) ≡ Some f) }
+        ensures extends { OnOk result (fault_of g.now.core self.now.most (events_of self.now) (Expand name.now number names.now) ≡ None) }
         ensures place { IfOk result (λ k. position (bytes_eq name.now) (names_in self.now.instances) ≡ Some k) }
     {
         if self.instances.is_empty() {
@@ -352,7 +353,7 @@ impl PlainRun {
         if productions.len() as u64 <= number {
             return Err(RunFault::UnknownProduction);
         }
-        let rule = &productions[number as usize];
+        let rule = g.production(ProdNo(number as u16));
         let x = &self.instances[k as usize];
         if x.module != rule.head() {
             return Err(RunFault::WrongHead);

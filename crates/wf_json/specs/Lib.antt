@@ -1,3 +1,5 @@
+pub mod Canonical
+pub mod Writing
 pub mod Reading
 pub mod Forms
 pub mod SpecForm

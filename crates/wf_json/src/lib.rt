@@ -1,16 +1,20 @@
-//! Reading specifications from JSON.
+//! Specifications in JSON: reading them, and the canonical text of a grammar with its digest.
 #![tactic(auto)]
 
 mod fault;
 mod form;
+mod hashing;
 mod parts;
 mod reading;
 mod spec;
+mod writing;
 
 pub use fault::{JsonFault, Member};
 pub use form::{FromJson, member, member_list, pair};
+pub use hashing::digest;
 pub use reading::{TextFault, read_value};
 pub use spec::read_spec;
+pub use writing::canonical;
 
 #[cfg(test)]
 mod tests;

@@ -1,7 +1,8 @@
-// Texts that are specifications, and texts that are not.
+// Texts that are specifications, texts that are not, and canonical texts.
 use super::*;
 use std::test::Fail;
 use wf_model::{EdgePart, EntryPart, ExitPart, Parts, ProdPart};
+use wf_spec::Grammar;
 
 const LINE: &[u8] =
     b"{\"start\":\"S\",\"modules\":[{\"name\":\"S\",\"in\":[\"a\"],\"out\":[\"b\"]},{\"name\":\"P\",\"in\":[\"x\"],\"out\":[\"y\"]},{\"name\":\"Q\",\"in\":[\"x\"],\"out\":[\"y\"]}],\"productions\":[{\"head\":\"S\",\"body\":[[\"u\",\"P\"],[\"v\",\"Q\"]],\"edges\":[[\"u.y\",\"v.x\"]],\"in\":[[\"a\",\"u.x\"]],\"out\":[[\"v.y\",\"b\"]]}]}";
@@ -201,5 +202,39 @@ fn other_bytes_are_no_json(rt: HostRuntime) -> Result<(), Fail> {
     ] {
         assert!(rt; matches!(read_spec(rt.alloc(), text), Err(JsonFault::NotJson)));
     }
+    Ok(())
+}
+
+#[test]
+fn line_has_its_canonical_text(rt: HostRuntime) -> Result<(), Fail> {
+    let grammar = Grammar::build(rt.alloc(), read_spec(rt.alloc(), LINE)?)?;
+    let text = canonical(rt.alloc(), &grammar)?;
+    assert_eq!(rt; text.as_slice(), LINE);
+    Ok(())
+}
+
+#[test]
+fn line_has_its_digest(rt: HostRuntime) -> Result<(), Fail> {
+    let grammar = Grammar::build(rt.alloc(), read_spec(rt.alloc(), LINE)?)?;
+    let word = hex::encode(rt.alloc(), digest(rt.alloc(), &grammar)?)?;
+    assert_eq!(rt;
+        word.as_str(),
+        "8fbb4fcaf0d4776320008979b921950e24ba2b3ffd937a5fbe182481201dce8e"
+    );
+    Ok(())
+}
+
+#[test]
+fn other_texts_of_a_grammar_have_one_canonical_text(rt: HostRuntime) -> Result<(), Fail> {
+    let text =
+        b"{ \"modules\": [ {\"out\":[\"b\"], \"name\":\"S\"}, {\"name\":\"P\",\"out\":[\"y\"],\"color\":1} ],
+ \"deps\": [ {\"module\":\"P\",\"pairs\":[]} ],
+ \"productions\": [ {\"out\":[[\"u.y\",\"b\"]], \"body\":[[\"u\",\"P\"]], \"head\":\"S\"} ], \"start\": \"S\" }";
+    let grammar = Grammar::build(rt.alloc(), read_spec(rt.alloc(), text)?)?;
+    let written = canonical(rt.alloc(), &grammar)?;
+    assert_eq!(rt;
+        written.as_slice(),
+        b"{\"start\":\"S\",\"modules\":[{\"name\":\"S\",\"in\":[],\"out\":[\"b\"]},{\"name\":\"P\",\"in\":[],\"out\":[\"y\"]}],\"productions\":[{\"head\":\"S\",\"body\":[[\"u\",\"P\"]],\"edges\":[],\"in\":[],\"out\":[[\"u.y\",\"b\"]]}]}".as_slice()
+    );
     Ok(())
 }

@@ -19,6 +19,7 @@ use Rattle.wf_spec.specs.Resolving.{AreOfModules, IsInputIn, IsOutputIn}
 use Rattle.wf_spec.specs.Rules.{fed, used, entered, left, HasKnownModules, HasKnownPorts, IsLinkedAtMostOnce, IsLinkedAtLeastOnce, HasNoCycle}
 use Rattle.wf_spec.specs.Wiring.{entry_of, exit_of, entry_link, exit_link, IsWiringOf, head_of, fed_by, used_by, entered_by, left_by, IsWithin, IsWiredAtMostOnce, IsWiredAtLeastOnce, IsWiredForward}
 use Rattle.wf_spec.proofs.Finding.{place_within}
+use Rattle.wf_spec.proofs.Lawful.{number_below}
 use Rattle.wf_spec.proofs.Numbered.{numbers_differ, numbers_all}
 
 map_after : {C D E : Type 0} (h : C → D) (f : E → C) (q : E → D) → ((x : E) → h (f x) ≡ q x) → (zs : List E) → map h (map f zs) ≡ map q zs
@@ -116,11 +117,11 @@ module _ (modules : List Module) (p : ProdPart) (w : Wiring) (of : IsWiringOf mo
   -- its numbers are those of what is there
   pub within_parts : HasKnownModules (names_of modules) p → length p.body ≤ 64 → IsWithin modules w
   within_parts known few = record {
-    head = subst (λ k. k < length modules) (sym of.head) (below p.head known.head);
+    head = subst (λ k. k < length modules) (sym of.head) (number_below modules p.head known.head);
     few_positions = subst (λ n. n ≤ 64) (sym (sym (length-map w.positions.items position_of) ∙ (ap length of.positions ∙ length-map p.body (placed (names_of modules))))) few;
     of_modules = subst (AreOfModules modules) (sym of.positions) (λ q i.
         (let r = in_map_from (placed (names_of modules)) q p.body i in
-        subst (λ (z : Position). z.module_no < length modules) (sym r.2) (below r.0.«module» (known.positions r.0 r.1))));
+        subst (λ (z : Position). z.module_no < length modules) (sym r.2) (number_below modules r.0.«module» (known.positions r.0 r.1))));
     fed = λ i h. subst (λ (b : List Position). IsInputIn modules b i) (sym of.positions) (⊎_elim
         (λ a. (let r = in_map_from (λ (e : EdgePart). inner_input modules (body_in modules p) e.to) i p.edges a in subst (IsInputIn modules (body_in modules p)) (sym r.2) (ports.edges r.0 r.1).to))
         (λ a. (let r = in_map_from (λ (e : EntryPart). inner_input modules (body_in modules p) e.to) i p.entries a in subst (IsInputIn modules (body_in modules p)) (sym r.2) (ports.entries_to r.0 r.1)))
@@ -136,6 +137,3 @@ module _ (modules : List Module) (p : ProdPart) (w : Wiring) (of : IsWiringOf mo
         (let r = in_map_from (place_of (head_in modules p).outputs) k (left p) (subst (IsIn k) (left_is modules p w of) h) in
         subst (λ (m : Module). k < length m.outputs) (sym (head_is modules p w of)) (subst (λ j. j < length (head_in modules p).outputs) (sym r.2) (place_within (head_in modules p).outputs r.0 (known_exits r.0 r.1))));
   }
-    where
-      below : (n : List ℕ) → IsIn n (names_of modules) → place_of (names_of modules) n < length modules
-      below n i = subst (λ k. place_of (names_of modules) n < k) (length-map modules (λ (m : Module). m.name)) (place_within (names_of modules) n i)

@@ -1,8 +1,7 @@
 -- The rules on links, over parts and over their wirings.
-use Rattle.std.proofs.Common.{◌≡◌, ◌↔◌, ◌⊎◌, ℕ, zero, suc, ◌<◌, ◌≤◌, List, [], ◌∷◌, ◌++◌, length, map, refl, sym, ap, subst, inl, inr, arith}
+use Rattle.std.proofs.Common.{◌≡◌, ◌↔◌, ◌⊎◌, ℕ, zero, suc, ◌<◌, ◌≤◌, List, [], ◌∷◌, ◌++◌, length, refl, sym, subst, inl, inr, arith}
 use Rattle.std.proofs.lemmas.List.{length-map}
 use Rattle.wf_model.specs.declared.parts.Parts.{Parts}
-use Rattle.wf_model.specs.declared.parts.ModulePart.{ModulePart}
 use Rattle.wf_model.specs.declared.parts.ProdPart.{ProdPart}
 use Rattle.wf_model.specs.declared.parts.DepsPart.{DepsPart}
 use Rattle.wf_model.specs.Lists.{IsIn, IsAt, AllDiffer}
@@ -12,17 +11,16 @@ use Rattle.wf_spec.specs.declared.fault.FormFault.{FormFault}
 use Rattle.wf_spec.specs.declared.fault.FormFault.TheVariants.{NoMemory, TooManyPorts, PortTwice, UnknownModule, BodyTooLong, UnknownPort, PortLinkedTwice, PortUnlinked, BodyCycle, DepsOnComposite}
 use Rattle.wf_spec.specs.declared.fault.Spot.TheVariants.{Production as AtProduction, DepsAt}
 use Rattle.wf_spec.specs.declared.wiring.Wiring.{Wiring}
-use Rattle.wf_spec.specs.Forming.{place_of, names_of, module_of, modules_of, head_in}
+use Rattle.wf_spec.specs.Forming.{names_of, module_of, modules_of, head_in}
 use Rattle.wf_spec.specs.Resolving.{HasFewPorts as HasFewPortsOf}
 use Rattle.wf_spec.specs.Rules.{Rule, each, AllHold, FailsFirstAt, HoldsThroughout, IsFirstFault, first_rules, body_rules, module_names, HasDifferentPorts, HasFewPorts, HasKnownModules, HasKnownPorts, HasKnownPairs, IsLinkedAtMostOnce, IsLinkedAtLeastOnce, HasNoCycle, IsOfAtomic}
 use Rattle.wf_spec.specs.Wiring.{AreReady, AreWiringsOf, IsWithin, IsWiredAtMostOnce, IsWiredAtLeastOnce, IsWiredForward, wiring_rules, rules_on}
 use Rattle.wf_spec.proofs.Agreeing.{most_same, least_same, forward_same, within_parts}
-use Rattle.wf_spec.proofs.Finding.{place_within}
+use Rattle.wf_spec.proofs.Lawful.{same_names, number_below, differ_left, differ_right, head_ports}
 use Rattle.wf_spec.proofs.Rules.{holds_of}
-use Rattle.wf_spec.proofs.Tables.{get_in}
 
 -- something stands at each place
-pub at_there : {A : Type 0} (k : ℕ) (xs : List A) → k < length xs → (x : A) × IsAt x k xs
+at_there : {A : Type 0} (k : ℕ) (xs : List A) → k < length xs → (x : A) × IsAt x k xs
 at_there k [] h = absurd (omega arith)
 at_there zero (x ∷ xs) h = (x, refl)
 at_there (suc k) (x ∷ xs) h = at_there k xs (omega arith)
@@ -35,7 +33,7 @@ module _ {A B : Type 0} (P : A → Type 0) (Q : B → Type 0) (told : ℕ → Fo
   held_back : (k : ℕ) → k < length ys → ((y : B) → IsAt y k ys → Q y) → (x : A) → IsAt x k xs → P x
   held_back k low h x at = let y = at_there k ys low in (same k x y.0 at y.1).1 (h y.0 y.1)
 
-  pub all_over : HoldsThroughout (each xs P told) → HoldsThroughout (each ys Q told)
+  all_over : HoldsThroughout (each xs P told) → HoldsThroughout (each ys Q told)
   all_over h k low = held_over k low (h k (subst (λ n. k < n) (sym as_many) low))
 
   fails_over : (k : ℕ) → FailsFirstAt (length xs) (each xs P told).holds k → FailsFirstAt (length ys) (each ys Q told).holds k
@@ -47,33 +45,20 @@ module _ {A B : Type 0} (P : A → Type 0) (Q : B → Type 0) (told : ℕ → Fo
         fails = λ all. h.fails (held_back k low all);
       }
 
-  pub fault_over : (rs ss : List Rule) (f : FormFault) → (IsFirstFault rs f → IsFirstFault ss f) → IsFirstFault (each xs P told ∷ rs) f → IsFirstFault (each ys Q told ∷ ss) f
+  fault_over : (rs ss : List Rule) (f : FormFault) → (IsFirstFault rs f → IsFirstFault ss f) → IsFirstFault (each xs P told ∷ rs) f → IsFirstFault (each ys Q told ∷ ss) f
   fault_over rs ss f rest (inl h) = inl (h.0, fails_over h.0 h.1, h.2)
   fault_over rs ss f rest (inr h) = inr (all_over h.0, rest h.1)
 
 -- what is known of the modules of a production
 module _ (names : List (List ℕ)) (modules : List Module) (productions : List ProdPart) (deps : List DepsPart) (ready : AreReady names modules productions deps) where
-  pub known_here : (p : ProdPart) → IsIn p productions → HasKnownModules (names_of modules) p
+  known_here : (p : ProdPart) → IsIn p productions → HasKnownModules (names_of modules) p
   known_here p i = subst (λ ns. HasKnownModules ns p) ready.numbered (ready.known p i)
 
-  head_there : (p : ProdPart) → IsIn p productions → IsIn (head_in modules p) modules
-  head_there p i =
-      let k = known_here p i in
-      get_in (place_of (names_of modules) p.head) modules _ (subst (λ n. place_of (names_of modules) p.head < n) (length-map modules (λ (m : Module). m.name)) (place_within (names_of modules) p.head k.head))
+  inputs_differ : (p : ProdPart) → IsIn p productions → AllDiffer (head_in modules p).inputs
+  inputs_differ p i = differ_left (head_in modules p).inputs (head_in modules p).outputs (head_ports modules p ready.ports_differ (number_below modules p.head (known_here p i).head))
 
-  pub inputs_differ : (p : ProdPart) → IsIn p productions → AllDiffer (head_in modules p).inputs
-  inputs_differ p i = first_differ (head_in modules p).inputs (head_in modules p).outputs (ready.ports_differ (head_in modules p) (head_there p i))
-    where
-      first_differ : (xs ys : List (List ℕ)) → AllDiffer (xs ++ ys) → AllDiffer xs
-      first_differ [] ys d = tt
-      first_differ (x ∷ xs) ys d = (λ j. d.0 (Rattle.wf_model.proofs.Lists.in_append_left x xs ys j), first_differ xs ys d.1)
-
-  pub outputs_differ : (p : ProdPart) → IsIn p productions → AllDiffer (head_in modules p).outputs
-  outputs_differ p i = last_differ (head_in modules p).inputs (head_in modules p).outputs (ready.ports_differ (head_in modules p) (head_there p i))
-    where
-      last_differ : (xs ys : List (List ℕ)) → AllDiffer (xs ++ ys) → AllDiffer ys
-      last_differ [] ys d = d
-      last_differ (x ∷ xs) ys d = last_differ xs ys d.1
+  outputs_differ : (p : ProdPart) → IsIn p productions → AllDiffer (head_in modules p).outputs
+  outputs_differ p i = differ_right (head_in modules p).inputs (head_in modules p).outputs (head_ports modules p ready.ports_differ (number_below modules p.head (known_here p i).head))
 
   module _ (wirings : List Wiring) (of : AreWiringsOf modules productions wirings) (ports : HoldsThroughout (each productions (HasKnownPorts modules) (λ k. UnknownPort (AtProduction k)))) where
     ports_of : (k : ℕ) (p : ProdPart) → IsAt p k productions → HasKnownPorts modules p
@@ -97,17 +82,15 @@ module _ (names : List (List ℕ)) (modules : List Module) (productions : List P
     forward_at k w p a b = forward_same modules p w (of.each k p w b a)
 
     -- the rules on wirings are those on their parts
-    pub wirings_kept : AllHold (wiring_rules modules wirings)
+    wirings_kept : AllHold (wiring_rules modules wirings)
         → AllHold (each productions (IsLinkedAtMostOnce modules) PortLinkedTwice ∷ each productions (IsLinkedAtLeastOnce modules) PortUnlinked ∷ each productions (HasNoCycle modules) BodyCycle ∷ [])
     wirings_kept h = (
       all_over IsWiredAtMostOnce (IsLinkedAtMostOnce modules) PortLinkedTwice wirings productions of.as_many most_at h.0,
-      (
-        all_over (IsWiredAtLeastOnce modules) (IsLinkedAtLeastOnce modules) PortUnlinked wirings productions of.as_many least_at h.1.0,
-        (all_over IsWiredForward (HasNoCycle modules) BodyCycle wirings productions of.as_many forward_at h.1.1.0, tt),
-      ),
+      (all_over (IsWiredAtLeastOnce modules) (IsLinkedAtLeastOnce modules) PortUnlinked wirings productions of.as_many least_at h.1.0,
+      (all_over IsWiredForward (HasNoCycle modules) BodyCycle wirings productions of.as_many forward_at h.1.1.0, tt)),
     )
 
-    pub wirings_refused : (last : List Rule) (f : FormFault) → IsFirstFault (wiring_rules modules wirings) f
+    wirings_refused : (last : List Rule) (f : FormFault) → IsFirstFault (wiring_rules modules wirings) f
         → IsFirstFault (each productions (IsLinkedAtMostOnce modules) PortLinkedTwice ∷ each productions (IsLinkedAtLeastOnce modules) PortUnlinked ∷ each productions (HasNoCycle modules) BodyCycle ∷ last) f
     wirings_refused last f h =
         fault_over IsWiredAtMostOnce (IsLinkedAtMostOnce modules) PortLinkedTwice wirings productions of.as_many most_at
@@ -142,11 +125,6 @@ pub on_read : (F : List Module → List ProdPart → List DepsPart → Type 0) (
 on_read F modules ms productions ps deps ds a b c h =
     subst (λ l. F l productions deps) (sym a) (subst (λ l. F ms l deps) (sym b) (subst (λ l. F ms ps l) (sym c) h))
 
--- the names of the modules of parts
-module_names_same : (ms : List ModulePart) → module_names ms ≡ names_of (map module_of ms)
-module_names_same [] = refl
-module_names_same (m ∷ ms) = ap (λ l. m.name ∷ l) (module_names_same ms)
-
 -- what the rules on modules and bodies give
 pub ready_of : (parts : Parts) → AllHold (first_rules parts) → AllHold (body_rules parts) → AreReady (names_of (modules_of parts)) (modules_of parts) parts.productions parts.deps
 ready_of parts first bodies = record {
@@ -161,9 +139,9 @@ ready_of parts first bodies = record {
       subst (λ (z : Module). AllDiffer (z.inputs ++ z.outputs)) (sym r.2) (holds_of HasDifferentPorts PortTwice parts.modules first.1.1.1.0 r.0 r.1));
   few_positions = holds_of (λ (p : ProdPart). length p.body ≤ 64) BodyTooLong parts.productions bodies.1.1.1.1.0;
   known = λ p i.
-      subst (λ ns. HasKnownModules ns p) (module_names_same parts.modules)
+      subst (λ ns. HasKnownModules ns p) (sym (same_names parts))
       (holds_of (HasKnownModules (module_names parts.modules)) (λ k. UnknownModule (AtProduction k)) parts.productions bodies.1.0 p i);
   given = λ d i.
-      subst (IsIn d.«module») (module_names_same parts.modules)
+      subst (IsIn d.«module») (sym (same_names parts))
       (holds_of (λ (e : DepsPart). IsIn e.«module» (module_names parts.modules)) (λ k. UnknownModule (DepsAt k)) parts.deps bodies.1.1.0 d i);
 }

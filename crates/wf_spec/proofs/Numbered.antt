@@ -1,28 +1,12 @@
 -- Names and their places among names.
-use Rattle.std.proofs.Common.{◌≡◌, ◌↔◌, ℕ, zero, suc, ◌+◌, ◌<◌, Bool, true, false, cond, not, List, [], ◌∷◌, length, get_or, map, bytes_eq, refl, sym, ap, subst, ◌∙◌, inl, inr, arith}
+use Rattle.std.proofs.Common.{◌≡◌, ◌↔◌, ℕ, zero, suc, ◌+◌, ◌<◌, Bool, true, false, cond, not, List, [], ◌∷◌, length, get_or, map, bytes_eq, refl, sym, ap, subst, arith}
 use Rattle.wf_model.specs.Lists.{IsIn, AllDiffer}
 use Rattle.wf_model.proofs.Lists.{in_map, in_map_from, same_bytes, bytes_same}
 use Rattle.wf_spec.specs.Forming.{place_of}
 use Rattle.wf_spec.proofs.Finding.{place_within}
 use Rattle.wf_spec.proofs.LinkEnds.{differ_before, differ_after}
+use Rattle.wf_spec.proofs.Picking.{same_name}
 use Rattle.wf_spec.proofs.Tables.{get_in}
-
--- a name stands at its place
-pub at_place : (names : List (List ℕ)) (a : List ℕ) → IsIn a names → get_or names (place_of names a) [] ≡ a
-at_place [] a h = absurd h
-at_place (n ∷ names) a (inl e) = ap (λ b. get_or (n ∷ names) (cond (not b) (1 + place_of names a) 0) []) (bytes_same a n e) ∙ sym e
-at_place (n ∷ names) a (inr h) = by (at_place names a h) (bytes_eq a n) refl
-  where
-    by : get_or names (place_of names a) [] ≡ a → (b : Bool) → bytes_eq a n ≡ b → get_or (n ∷ names) (cond (not b) (1 + place_of names a) 0) [] ≡ a
-    by rest true e = sym (same_bytes a n e)
-    by rest false e = ap (λ k. get_or (n ∷ names) k []) (one_more (place_of names a)) ∙ rest
-      where
-        one_more : (k : ℕ) → 1 + k ≡ suc k
-        one_more k = omega arith
-
--- names with the same place are the same
-pub same_place : (names : List (List ℕ)) (a b : List ℕ) → IsIn a names → IsIn b names → place_of names a ≡ place_of names b → a ≡ b
-same_place names a b i j e = sym (at_place names a i) ∙ (ap (λ k. get_or names k []) e ∙ at_place names b j)
 
 -- where names differ, each stands at its place only
 pub place_at : (names : List (List ℕ)) (k : ℕ) → AllDiffer names → k < length names → place_of names (get_or names k []) ≡ k
@@ -38,7 +22,7 @@ place_at (n ∷ names) (suc k) d h = by (place_at names k d.1 (omega arith)) (by
 pub numbers_differ : (names ns : List (List ℕ)) (ks : List ℕ) → ks ≡ map (place_of names) ns → ((n : List ℕ) → IsIn n ns → IsIn n names) → AllDiffer ks ↔ AllDiffer ns
 numbers_differ names ns ks is known = (
   λ d. differ_before (place_of names) ns (subst AllDiffer is d),
-  λ d. subst AllDiffer (sym is) (differ_after (place_of names) ns (λ a b i j e. same_place names a b (known a i) (known b j) e) d),
+  λ d. subst AllDiffer (sym is) (differ_after (place_of names) ns (λ a b i j e. same_name names a b (known a i) (known b j) e) d),
 )
 
 -- all names are there exactly if all their numbers are
@@ -47,7 +31,7 @@ pub numbers_all : (names ns : List (List ℕ)) (ks : List ℕ) → ks ≡ map (p
 numbers_all names ns ks is d known = (
   λ h n i.
       (let r = in_map_from (place_of names) (place_of names n) ns (subst (IsIn (place_of names n)) is (h (place_of names n) (place_within names n i))) in
-      subst (λ m. IsIn m ns) (sym (same_place names n r.0 i (known r.0 r.1) r.2)) r.1),
+      subst (λ m. IsIn m ns) (sym (same_name names n r.0 i (known r.0 r.1) r.2)) r.1),
   λ h k l.
       (let i = in_map (place_of names) (get_or names k []) ns (h (get_or names k []) (get_in k names [] l)) in
       subst (IsIn k) (sym is) (subst (λ j. IsIn j (map (place_of names) ns)) (place_at names k d l) i)),

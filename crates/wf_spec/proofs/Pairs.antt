@@ -1,7 +1,6 @@
 -- Pairs of ports that deps parts name.
-use Rattle.std.proofs.Common.{◌≡◌, ◌<◌, ◌&&◌, ℕ, Bool, true, false, List, length, get_or, bytes_eq, refl, sym, ap, subst, ◌∙◌, true≢false}
+use Rattle.std.proofs.Common.{◌≡◌, ◌&&◌, ℕ, Bool, true, false, List, bytes_eq, refl, sym, ap, subst, ◌∙◌, true≢false}
 use Rattle.std.specs.List.{list_all, list_any}
-use Rattle.std.proofs.lemmas.List.{get_or_default}
 use Rattle.wf_names.proofs.Found.{some_any}
 use Rattle.wf_model.specs.declared.parts.DepsPart.{DepsPart}
 use Rattle.wf_model.specs.declared.parts.PairPart.{PairPart}
@@ -32,12 +31,6 @@ pair_gives m e h = by (list_any (bytes_eq e.input) m.inputs) (list_any (bytes_eq
 
 pair_from : (m : Module) (e : PairPart) → IsIn e.input m.inputs × IsIn e.output m.outputs → is_pair_of m e ≡ true
 pair_from m e h = ap (λ b. b && list_any (bytes_eq e.output) m.outputs) (is_listed e.input m.inputs h.0) ∙ is_listed e.output m.outputs h.1
-
--- the module of a deps part, as it is read
-pub deps_module : (modules : List Module) (names : List (List ℕ)) (d : DepsPart) (name : List ℕ) (k : ℕ) (m : Module) → names ≡ names_of modules → name ≡ d.«module»
-    → k ≡ place_of names name → k < length modules → m ≡ get_or modules k m → m ≡ module_in modules (place_of (names_of modules) d.«module»)
-deps_module modules names d name k m numbered is place inside was =
-    was ∙ get_or_default modules k m _ inside ∙ ap (module_in modules) (place ∙ ap (place_of names) is ∙ ap (λ ns. place_of ns d.«module») numbered)
 
 pub pairs_give : (modules : List Module) (d : DepsPart) (m : Module) (pairs : List PairPart) (b : Bool) → m ≡ module_in modules (place_of (names_of modules) d.«module») → pairs ≡ d.pairs
     → b ≡ list_all (is_pair_of m) pairs → b ≡ true → HasKnownPairs modules d

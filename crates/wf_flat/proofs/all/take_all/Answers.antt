@@ -8,14 +8,14 @@ use Rattle.wf_flat.proofs.all.take_all.Goals as goal
 
 pub loop-e-init : goal.loop-e-init
 loop-e-init c = record {
-  run = subst (IsRunOf c.args.g.now) (sym c.new-run.ensures) (run_none c.args.g.now c.args.most);
+  run = subst (IsRunOf c.args.g.now.core) (sym c.new-run.ensures) (run_none c.args.g.now.core c.args.most);
   events = ap events_of c.new-run.ensures;
   most = ap (λ (t : Table). t.most) c.new-run.ensures;
 }
 
 pub returns-in-Err-clause-refused : goal.returns-in-Err-clause-refused
 returns-in-Err-clause-refused c =
-    let g = c.args.g.now in
+    let g = c.args.g.now.core in
     let es = c.args.events.now in
     let e = c.e-item.result in
     let k = c.loop-e.e-index in

@@ -26,7 +26,7 @@ returns-then-is_waiting c = λ u m.
     let at = c.index-instances-k.is ∙ ap (λ l. get_or l k c.index-instances-k.result) c.instances-instances.ensures.instances in
     let e = get_or_read t.instances k c.index-instances-k.result h at no_instance in
     let w = ap (waits c.args.expanded.now) (sym e) ∙ (sym c.is_waiting.ensures ∙ c.if-is_waiting.true) in
-    (λ z. absurd (true≢false (sym z)), λ f. absurd (f (inst_at t.instances k) (waits_pending c.args.g.now t c.requires u c.args.expanded.now m c.in_ok-all.all.items (c.in_ok-all.ensures.seen u m) k i h w)))
+    (λ z. absurd (true≢false (sym z)), λ f. absurd (f (inst_at t.instances k) (waits_pending c.args.g.now.core t c.requires u c.args.expanded.now m c.in_ok-all.all.items (c.in_ok-all.ensures.seen u m) k i h w)))
 
 pub loop-k-preserved : goal.loop-k-preserved
 loop-k-preserved c =
@@ -42,7 +42,7 @@ pub returns : goal.returns
 returns c = λ u m.
     let t = c.args.run.now in
     let s = c.as_slice-k-items.result.now in (
-      λ z. none_waits c.args.g.now t c.requires u c.args.expanded.now m c.in_ok-all.all.items (c.in_ok-all.ensures.seen u m) c.in_ok-all.ensures.there
+      λ z. none_waits c.args.g.now.core t c.requires u c.args.expanded.now m c.in_ok-all.all.items (c.in_ok-all.ensures.seen u m) c.in_ok-all.ensures.there
           (λ j h. (let v = c.as_slice-k-items.ensures.value in
           let l = ap length v in
           let low : j < c.loop-k.k-index = (let q = c.loop-k-test.false in omega arith) in

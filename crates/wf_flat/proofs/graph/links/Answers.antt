@@ -21,7 +21,7 @@ loop-k-preserved c = record {
   links = λ u m.
       let t = c.args.run.now in
       let s = c.as_slice-k-items.result.now in
-      let F = links_of c.args.g.now u (pairs_of c.args.leaf.now) (events_of t) in
+      let F = links_of c.args.g.now.core u (pairs_of c.args.leaf.now) (events_of t) in
       go_on _ (named_links (names_in t.instances) c.loop-k.links.items) (F (inst_at t.instances (get_or s c.loop-k.k-index 0))) _ _ _ (c.in_ok-add_instance.ensures.links u m) (c.loop-k.invariant.links u m)
       (ap (λ z. flat_map F (map (inst_at t.instances) z)) (drop_more s c.loop-k.k-index 0 c.loop-k-test.true));
 }
@@ -30,6 +30,6 @@ pub returns-clause-links : goal.returns-clause-links
 returns-clause-links c = λ u m.
     let t = c.args.run.now in
     let s = c.as_slice-k-items.result.now in
-    let F = links_of c.args.g.now u (pairs_of c.args.leaf.now) (events_of t) in
+    let F = links_of c.args.g.now.core u (pairs_of c.args.leaf.now) (events_of t) in
     sym (ap (λ z. named_links (names_in t.instances) c.loop-k.links.items ++ flat_map F (map (inst_at t.instances) z)) (drop_all c.loop-k.k-index s c.loop-k-test.false) ∙ append-nil (named_links (names_in t.instances) c.loop-k.links.items))
     ∙ (c.loop-k.invariant.links u m ∙ (ap (λ z. flat_map F (map (inst_at t.instances) z)) c.as_slice-k-items.ensures.value ∙ ap (flat_map F) (c.in_ok-all.ensures.seen u m)))

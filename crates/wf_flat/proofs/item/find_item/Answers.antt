@@ -9,18 +9,18 @@ use Rattle.wf_flat.proofs.Named.{no_dot_named, no_instance_named, split_found}
 use Rattle.wf_flat.proofs.item.find_item.Goals as goal
 
 pub returns-in_default-clause-none : goal.returns-in_default-clause-none
-returns-in_default-clause-none c = λ z i h e. no_dot_named c.args.g.now c.args.run.now i c.args.name.now c.requires c.start-formed.ensures.formed (sym c.in_default.ensures.place) h e
+returns-in_default-clause-none c = λ z i h e. no_dot_named c.args.g.now.core c.args.run.now i c.args.name.now c.requires c.start-formed.ensures.formed (sym c.in_default.ensures.place) h e
 
 pub returns-in_default-find-clause-none : goal.returns-in_default-find-clause-none
 returns-in_default-find-clause-none c =
     let name = c.args.name.now in
     let s = split_at name c.in-Some.dot (sym c.in-Some.ensures.place) in
-    λ z i h e. no_instance_named c.args.g.now c.args.run.now i (take c.in-Some.dot name) (drop (c.in-Some.dot + 1) name) c.requires c.start-formed.ensures.formed (sym c.in_default-find.ensures.place) s.1 h (e ∙ s.0)
+    λ z i h e. no_instance_named c.args.g.now.core c.args.run.now i (take c.in-Some.dot name) (drop (c.in-Some.dot + 1) name) c.requires c.start-formed.ensures.formed (sym c.in_default-find.ensures.place) s.1 h (e ∙ s.0)
 
 pub returns-clause-found : goal.returns-clause-found
 returns-clause-found c =
     let t = c.args.run.now in
-    let g = c.args.g.now in
+    let g = c.args.g.now.core in
     let e = split_found c.args.name.now (names_in t.instances) c.in-Some.dot c.in-Some-find.k (sym c.in-Some.ensures.place) (sym c.in-Some-find.ensures.place) in
     subst (λ n. IfSome c.item_at.result (λ i. IsIn (named_item (names_in t.instances) n i) (items g g.start (events_of t)))) e c.item_at.ensures.found
 

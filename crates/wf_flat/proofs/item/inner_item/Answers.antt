@@ -7,35 +7,35 @@ use Rattle.wf_flat.proofs.item.inner_item.Goals as goal
 
 pub bounds-modules-module : goal.bounds-modules-module
 bounds-modules-module c =
-    let j = ap (λ (z : Inst). z.module.0) (inst_read c.args.g.now c.args.run.now c.requires.run c.modules.ensures.formed c.args.k c.requires.there c.instances-all.result.now c.index-all-k.result c.instances-all.ensures.instances) in
-    module_low c.args.g.now c.args.run.now c.requires.run c.modules.ensures.formed c.args.k c.requires.there c.modules.result.now _ c.modules.ensures.modules j
+    let j = ap (λ (z : Inst). z.module.0) (inst_read c.args.g.now.core c.args.run.now c.requires.run c.modules.ensures.formed c.args.k c.requires.there c.instances-all.result.now c.index-all-k.result c.instances-all.ensures.instances) in
+    module_low c.args.g.now.core c.args.run.now c.requires.run c.modules.ensures.formed c.args.k c.requires.there c.modules.result.now _ c.modules.ensures.modules j
 
 pub port_of-requires : goal.port_of-requires
 port_of-requires c =
     let wf = c.modules.ensures.formed in
-    let j = ap (λ (z : Inst). z.module.0) (inst_read c.args.g.now c.args.run.now c.requires.run wf c.args.k c.requires.there c.instances-all.result.now c.index-all-k.result c.instances-all.ensures.instances) in
-    let m = module_read c.args.g.now c.args.run.now c.requires.run wf c.args.k c.requires.there c.modules.result.now _ c.index-modules-module.result c.modules.ensures.modules j c.index-modules-module.is in
-    record { few = subst (λ l. length l ≤ 64) (sym (c.outputs.ensures ∙ ap (λ (z : Module). z.outputs) m)) (module_formed c.args.g.now c.args.run.now c.requires.run wf c.args.k c.requires.there).few_outputs }
+    let j = ap (λ (z : Inst). z.module.0) (inst_read c.args.g.now.core c.args.run.now c.requires.run wf c.args.k c.requires.there c.instances-all.result.now c.index-all-k.result c.instances-all.ensures.instances) in
+    let m = module_read c.args.g.now.core c.args.run.now c.requires.run wf c.args.k c.requires.there c.modules.result.now _ c.index-modules-module.result c.modules.ensures.modules j c.index-modules-module.is in
+    record { few = subst (λ l. length l ≤ 64) (sym (c.outputs.ensures ∙ ap (λ (z : Module). z.outputs) m)) (module_formed c.args.g.now.core c.args.run.now c.requires.run wf c.args.k c.requires.there).few_outputs }
 
 pub returns-in_default-clause-none : goal.returns-in_default-clause-none
 returns-in_default-clause-none c =
     let wf = c.modules.ensures.formed in
-    let j = ap (λ (z : Inst). z.module.0) (inst_read c.args.g.now c.args.run.now c.requires.run wf c.args.k c.requires.there c.instances-all.result.now c.index-all-k.result c.instances-all.ensures.instances) in
-    let m = module_read c.args.g.now c.args.run.now c.requires.run wf c.args.k c.requires.there c.modules.result.now _ c.index-modules-module.result c.modules.ensures.modules j c.index-modules-module.is in
+    let j = ap (λ (z : Inst). z.module.0) (inst_read c.args.g.now.core c.args.run.now c.requires.run wf c.args.k c.requires.there c.instances-all.result.now c.index-all-k.result c.instances-all.ensures.instances) in
+    let m = module_read c.args.g.now.core c.args.run.now c.requires.run wf c.args.k c.requires.there c.modules.result.now _ c.index-modules-module.result c.modules.ensures.modules j c.index-modules-module.is in
     let outs = c.outputs.ensures ∙ ap (λ (z : Module). z.outputs) m in
-    let parent = parent_at c.args.g.now c.args.run.now c.requires.run wf c.args.k c.requires.there c.args.parent c.requires.parent in
+    let parent = parent_at c.args.g.now.core c.args.run.now c.requires.run wf c.args.k c.requires.there c.args.parent c.requires.parent in
     λ z i h e.
-    no_output c.args.g.now c.args.run.now c.requires.run wf c.args.k c.requires.there c.args.parent c.requires.parent parent.production parent.expanded c.args.port.now i
+    no_output c.args.g.now.core c.args.run.now c.requires.run wf c.args.k c.requires.there c.args.parent c.requires.parent parent.production parent.expanded c.args.port.now i
     (ap (position (bytes_eq c.args.port.now)) (sym outs) ∙ sym c.in_default.ensures.place) h e
 
 pub bounds-all-parent : goal.bounds-all-parent
 bounds-all-parent c =
     subst (λ l. c.args.parent < length l) (sym c.instances-all.ensures.instances)
-    (parent_there c.args.g.now c.args.run.now c.requires.run c.modules.ensures.formed c.args.k c.requires.there c.args.parent c.requires.parent)
+    (parent_there c.args.g.now.core c.args.run.now c.requires.run c.modules.ensures.formed c.args.k c.requires.there c.args.parent c.requires.parent)
 
 pub returns-in_default-production-clause-none : goal.returns-in_default-production-clause-none
 returns-in_default-production-clause-none c =
-    let g = c.args.g.now in
+    let g = c.args.g.now.core in
     let t = c.args.run.now in
     let run = c.requires.run in
     let wf = c.modules.ensures.formed in
@@ -51,7 +51,7 @@ returns-in_default-production-clause-none c =
 
 pub edge_item-requires-clause-in_range : goal.edge_item-requires-clause-in_range
 edge_item-requires-clause-in_range c =
-    let g = c.args.g.now in
+    let g = c.args.g.now.core in
     let t = c.args.run.now in
     let run = c.requires.run in
     let wf = c.modules.ensures.formed in
@@ -70,7 +70,7 @@ edge_item-requires-clause-in_range c =
 
 pub edge_item-requires-clause-first : goal.edge_item-requires-clause-first
 edge_item-requires-clause-first c =
-    let g = c.args.g.now in
+    let g = c.args.g.now.core in
     let t = c.args.run.now in
     let run = c.requires.run in
     let wf = c.modules.ensures.formed in
@@ -89,7 +89,7 @@ edge_item-requires-clause-first c =
 
 pub edge_item-requires-clause-last : goal.edge_item-requires-clause-last
 edge_item-requires-clause-last c =
-    let g = c.args.g.now in
+    let g = c.args.g.now.core in
     let t = c.args.run.now in
     let run = c.requires.run in
     let wf = c.modules.ensures.formed in
@@ -108,7 +108,7 @@ edge_item-requires-clause-last c =
 
 pub edge_item-requires-clause-room : goal.edge_item-requires-clause-room
 edge_item-requires-clause-room c =
-    let g = c.args.g.now in
+    let g = c.args.g.now.core in
     let t = c.args.run.now in
     let run = c.requires.run in
     let wf = c.modules.ensures.formed in
@@ -129,7 +129,7 @@ edge_item-requires-clause-room c =
 
 pub returns-clause-found : goal.returns-clause-found
 returns-clause-found c =
-    let g = c.args.g.now in
+    let g = c.args.g.now.core in
     let t = c.args.run.now in
     let run = c.requires.run in
     let wf = c.modules.ensures.formed in
@@ -148,7 +148,7 @@ returns-clause-found c =
 
 pub returns-clause-within : goal.returns-clause-within
 returns-clause-within c =
-    let g = c.args.g.now in
+    let g = c.args.g.now.core in
     let t = c.args.run.now in
     let run = c.requires.run in
     let wf = c.modules.ensures.formed in
@@ -167,7 +167,7 @@ returns-clause-within c =
 
 pub returns-clause-none : goal.returns-clause-none
 returns-clause-none c =
-    let g = c.args.g.now in
+    let g = c.args.g.now.core in
     let t = c.args.run.now in
     let run = c.requires.run in
     let wf = c.modules.ensures.formed in

@@ -10,26 +10,26 @@ use Rattle.wf_flat.proofs.item.item_at.Goals as goal
 
 pub bounds-modules-x : goal.bounds-modules-x
 bounds-modules-x c =
-    let j = ap (λ (z : Inst). z.module.0) (c.index-instances-k.is ∙ inst_read c.args.g.now c.args.run.now c.requires.run c.modules.ensures.formed c.args.k c.requires.there c.instances.result.now c.index-instances-k.result c.instances.ensures.instances) in
-    module_low c.args.g.now c.args.run.now c.requires.run c.modules.ensures.formed c.args.k c.requires.there c.modules.result.now _ c.modules.ensures.modules j
+    let j = ap (λ (z : Inst). z.module.0) (c.index-instances-k.is ∙ inst_read c.args.g.now.core c.args.run.now c.requires.run c.modules.ensures.formed c.args.k c.requires.there c.instances.result.now c.index-instances-k.result c.instances.ensures.instances) in
+    module_low c.args.g.now.core c.args.run.now c.requires.run c.modules.ensures.formed c.args.k c.requires.there c.modules.result.now _ c.modules.ensures.modules j
 
 pub root_item-requires-clause-few_inputs : goal.root_item-requires-clause-few_inputs
 root_item-requires-clause-few_inputs c =
     let wf = c.modules.ensures.formed in
-    let j = ap (λ (z : Inst). z.module.0) (c.index-instances-k.is ∙ inst_read c.args.g.now c.args.run.now c.requires.run wf c.args.k c.requires.there c.instances.result.now c.index-instances-k.result c.instances.ensures.instances) in
-    let m = module_read c.args.g.now c.args.run.now c.requires.run wf c.args.k c.requires.there c.modules.result.now _ c.index-modules-x.result c.modules.ensures.modules j c.index-modules-x.is in
-    subst (λ (z : Module). length z.inputs ≤ 64) (sym m) (module_formed c.args.g.now c.args.run.now c.requires.run wf c.args.k c.requires.there).few_inputs
+    let j = ap (λ (z : Inst). z.module.0) (c.index-instances-k.is ∙ inst_read c.args.g.now.core c.args.run.now c.requires.run wf c.args.k c.requires.there c.instances.result.now c.index-instances-k.result c.instances.ensures.instances) in
+    let m = module_read c.args.g.now.core c.args.run.now c.requires.run wf c.args.k c.requires.there c.modules.result.now _ c.index-modules-x.result c.modules.ensures.modules j c.index-modules-x.is in
+    subst (λ (z : Module). length z.inputs ≤ 64) (sym m) (module_formed c.args.g.now.core c.args.run.now c.requires.run wf c.args.k c.requires.there).few_inputs
 
 pub root_item-requires-clause-few_outputs : goal.root_item-requires-clause-few_outputs
 root_item-requires-clause-few_outputs c =
     let wf = c.modules.ensures.formed in
-    let j = ap (λ (z : Inst). z.module.0) (c.index-instances-k.is ∙ inst_read c.args.g.now c.args.run.now c.requires.run wf c.args.k c.requires.there c.instances.result.now c.index-instances-k.result c.instances.ensures.instances) in
-    let m = module_read c.args.g.now c.args.run.now c.requires.run wf c.args.k c.requires.there c.modules.result.now _ c.index-modules-x.result c.modules.ensures.modules j c.index-modules-x.is in
-    subst (λ (z : Module). length z.outputs ≤ 64) (sym m) (module_formed c.args.g.now c.args.run.now c.requires.run wf c.args.k c.requires.there).few_outputs
+    let j = ap (λ (z : Inst). z.module.0) (c.index-instances-k.is ∙ inst_read c.args.g.now.core c.args.run.now c.requires.run wf c.args.k c.requires.there c.instances.result.now c.index-instances-k.result c.instances.ensures.instances) in
+    let m = module_read c.args.g.now.core c.args.run.now c.requires.run wf c.args.k c.requires.there c.modules.result.now _ c.index-modules-x.result c.modules.ensures.modules j c.index-modules-x.is in
+    subst (λ (z : Module). length z.outputs ≤ 64) (sym m) (module_formed c.args.g.now.core c.args.run.now c.requires.run wf c.args.k c.requires.there).few_outputs
 
 pub returns-in-None-clause-found : goal.returns-in-None-clause-found
 returns-in-None-clause-found c =
-    let g = c.args.g.now in
+    let g = c.args.g.now.core in
     let t = c.args.run.now in
     let run = c.requires.run in
     let k = c.args.k in
@@ -47,7 +47,7 @@ returns-in-None-clause-found c =
 
 pub returns-in-None-clause-none : goal.returns-in-None-clause-none
 returns-in-None-clause-none c =
-    let g = c.args.g.now in
+    let g = c.args.g.now.core in
     let t = c.args.run.now in
     let run = c.requires.run in
     let k = c.args.k in

@@ -22,7 +22,7 @@ pub returns-then-is_empty-clause-seen : goal.returns-then-is_empty-clause-seen
 returns-then-is_empty-clause-seen c = λ u m.
     let t = c.args.run.now in
     let z = ap length (sym c.instances-instances.ensures.instances) ∙ is_zero (length c.instances-instances.result.now) _ c.is_empty.ensures c.if-is_empty.true in
-    ap (map (inst_at t.instances)) c.new-seen.ensures.items ∙ none_seen c.args.g.now t c.requires u z c.instances-instances.ensures.opened
+    ap (map (inst_at t.instances)) c.new-seen.ensures.items ∙ none_seen c.args.g.now.core t c.requires u z c.instances-instances.ensures.opened
 
 pub see_one-requires-clause-there : goal.see_one-requires-clause-there
 see_one-requires-clause-there c =
@@ -40,7 +40,7 @@ see_one-requires-clause-within c =
 
 pub loop-o-preserved : goal.loop-o-preserved
 loop-o-preserved c =
-    let g = c.args.g.now in
+    let g = c.args.g.now.core in
     let t = c.args.run.now in
     let os = c.order-order.result.now in
     let o = get_or os c.loop-o.o-index no_opened in
@@ -57,4 +57,4 @@ loop-o-preserved c =
 pub returns-clause-seen : goal.returns-clause-seen
 returns-clause-seen c = λ u m.
     let t = c.args.run.now in
-    sym (ap (λ z. see_all c.args.g.now u c.args.g.now.start (map (inst_at t.instances) c.loop-o.seen.items) (map (expansion_of (names_in t.instances)) z)) (drop_all c.loop-o.o-index c.order-order.result.now c.loop-o-test.false)) ∙ c.loop-o.invariant.told u m
+    sym (ap (λ z. see_all c.args.g.now.core u c.args.g.now.core.start (map (inst_at t.instances) c.loop-o.seen.items) (map (expansion_of (names_in t.instances)) z)) (drop_all c.loop-o.o-index c.order-order.result.now c.loop-o-test.false)) ∙ c.loop-o.invariant.told u m

@@ -8,7 +8,7 @@ use Rattle.wf_flat.proofs.seen.seen.Given as goal
 
 abbrev pub invariant-loop-o : goal.invariant-loop-o
 invariant-loop-o l = record {
-  told : (u : View) → Marks l.expanded u → see_all l.g u l.g.start (map (inst_at l.run.instances) l.seen.items) (map (expansion_of (names_in l.run.instances)) (drop l.o-index l.order)) ≡ seen_in l.g u l.g.start (events_of l.run);
+  told : (u : View) → Marks l.expanded u → see_all l.g.core u l.g.core.start (map (inst_at l.run.instances) l.seen.items) (map (expansion_of (names_in l.run.instances)) (drop l.o-index l.order)) ≡ seen_in l.g.core u l.g.core.start (events_of l.run);
   agree : Agree l.flags.items l.seen.items;
   there : (c : ℕ) → IsIn c l.seen.items → c < length l.run.instances;
   count : length l.flags.items ≡ length l.run.instances;

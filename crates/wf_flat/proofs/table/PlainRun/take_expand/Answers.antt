@@ -3,12 +3,12 @@ use Rattle.wf_model.proofs.Taking.{taking_law}
 use Rattle.wf_model.specs.declared.event.Event.TheVariants.{Expand}
 use Rattle.wf_flat.specs.Table.{events_of, IsRunOf}
 use Rattle.wf_flat.proofs.Tests.{its_name}
-use Rattle.wf_flat.proofs.Steps.{run_expanded, kept_of, fresh_names, in_range, same_modules}
+use Rattle.wf_flat.proofs.Steps.{run_expanded, kept_of, fresh_names, same_modules}
 use Rattle.wf_flat.proofs.table.PlainRun.take_expand.Goals as goal
 
 pub expand-requires-clause-fresh : goal.expand-requires-clause-fresh
 expand-requires-clause-fresh c =
-    let g = c.args.g.now in
+    let g = c.args.g.now.core in
     let t = c.args.self.now in
     let p = c.args.production in
     let e = Expand c.args.instance.now p c.args.names.now in
@@ -17,26 +17,26 @@ expand-requires-clause-fresh c =
 
 pub returns-clause-taken : goal.returns-clause-taken
 returns-clause-taken c =
-    let g = c.args.g.now in
+    let g = c.args.g.now.core in
     let t = c.args.self.now in
     let p = c.args.production in
     let e = Expand c.args.instance.now p c.args.names.now in
     let next = (taking_law g t.most (events_of t) e c.requires.accepted).0 c.in_ok-k.ensures.extends in
     let its = its_name g t c.requires c.args.instance.now c.in_ok-k.k c.in_ok-k.ensures.place in
-    let body = same_modules g _ p _ c.positions-body.result.now c.productions.ensures.productions (in_range g t c.args.instance.now p c.args.names.now next) c.index-productions-production.is c.positions-body.ensures in
+    let body = same_modules g p _ c.positions-body.result.now c.positions-body.ensures c.production.ensures.core in
     let kept = kept_of t _ _ _ _ c.self.invariant c.self.view_is in
     let r = run_expanded g t c.requires kept c.in_ok-k.k (record { 0 = p }) c.args.names.now c.positions-body.result.now c.args.instance.now its.0 its.1 body next in
     ap events_of c.in_ok-expand.ensures.opened ∙ r.0
 
 pub returns-clause-run : goal.returns-clause-run
 returns-clause-run c =
-    let g = c.args.g.now in
+    let g = c.args.g.now.core in
     let t = c.args.self.now in
     let p = c.args.production in
     let e = Expand c.args.instance.now p c.args.names.now in
     let next = (taking_law g t.most (events_of t) e c.requires.accepted).0 c.in_ok-k.ensures.extends in
     let its = its_name g t c.requires c.args.instance.now c.in_ok-k.k c.in_ok-k.ensures.place in
-    let body = same_modules g _ p _ c.positions-body.result.now c.productions.ensures.productions (in_range g t c.args.instance.now p c.args.names.now next) c.index-productions-production.is c.positions-body.ensures in
+    let body = same_modules g p _ c.positions-body.result.now c.positions-body.ensures c.production.ensures.core in
     let kept = kept_of t _ _ _ _ c.self.invariant c.self.view_is in
     let r = run_expanded g t c.requires kept c.in_ok-k.k (record { 0 = p }) c.args.names.now c.positions-body.result.now c.args.instance.now its.0 its.1 body next in
     subst (IsRunOf g) (sym c.in_ok-expand.ensures.opened) r.1

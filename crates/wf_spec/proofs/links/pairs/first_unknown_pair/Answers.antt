@@ -1,16 +1,18 @@
 use Rattle.wf_model.specs.declared.parts.DepsPart.{DepsPart}
 use Rattle.wf_spec.specs.Forming.{names_of, place_of, module_in}
 use Rattle.wf_spec.specs.Rules.{HasKnownPairs}
-use Rattle.wf_spec.proofs.Numbering.{holds_to_end, name_read, within_modules}
-use Rattle.wf_spec.proofs.Pairs.{deps_module, pairs_give, pairs_from}
+use Rattle.wf_spec.proofs.Numbering.{holds_to_end, name_read}
+use Rattle.wf_spec.proofs.Pairs.{pairs_give, pairs_from}
+use Rattle.wf_spec.proofs.PairsOf.{read_module}
 use Rattle.wf_spec.proofs.Rules.{holds_more, fails_at}
 use Rattle.wf_spec.proofs.links.pairs.first_unknown_pair.Goals as goal
 use Rattle.wf_spec.proofs.links.pairs.first_unknown_pair.Goals.{After-are_pairs_of}
 use Rattle.std.proofs.Common.{◌≡◌}
 
 the_module : (c : After-are_pairs_of) → c.index-modules-number.result ≡ module_in c.args.modules.now (place_of (names_of c.args.modules.now) c.index-deps-k.result.«module»)
-the_module c = deps_module c.args.modules.now c.args.names.now c.index-deps-k.result c.bytes.result.now c.module_number-number.result.0 c.index-modules-number.result c.requires.names c.bytes.ensures
-    c.module_number-number.ensures.place (within_modules c.args.modules.now c.args.names.now c.module_number-number.result.0 c.requires.names c.module_number-number.ensures.within) c.index-modules-number.is
+the_module c =
+    (read_module c.args.modules.now c.args.names.now c.index-deps-k.result.«module» c.bytes.result.now c.module_number-number.result.0 c.index-modules-number.result c.requires.names c.bytes.ensures
+    c.module_number-number.ensures.place c.module_number-number.ensures.within c.index-modules-number.is).0
 
 pub module_number-number-requires-clause-known : goal.module_number-number-requires-clause-known
 module_number-number-requires-clause-known c =

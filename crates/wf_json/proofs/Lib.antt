@@ -1,0 +1,4 @@
+pub mod Appended
+pub mod Joined
+pub mod Places
+pub mod Seen
