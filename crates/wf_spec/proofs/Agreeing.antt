@@ -32,10 +32,10 @@ through : {A B C D : Type 0} (f : A → C) (g : B → C) (h : C → D) (k : A �
 through f g h k l xs ys before after same = sym (map_after h f k before xs) ∙ (ap (map h) same ∙ map_after h g l after ys)
 
 module _ (modules : List Module) (p : ProdPart) (w : Wiring) (of : IsWiringOf modules p w) where
-  pub head_is : head_of modules w ≡ head_in modules p
+  head_is : head_of modules w ≡ head_in modules p
   head_is = ap (module_in modules) of.head
 
-  pub fed_is : fed_by w ≡ fed modules p
+  fed_is : fed_by w ≡ fed modules p
   fed_is =
       ap (λ l. l ++ map (λ (e : Entry). inner_of e.to) w.entries.items)
       (through edge_of (edge_in modules (body_in modules p)) (λ (e : Edge). e.to) (λ (e : EdgeHeld). inner_of e.to) (λ (e : EdgePart). inner_input modules (body_in modules p) e.to)
@@ -44,7 +44,7 @@ module _ (modules : List Module) (p : ProdPart) (w : Wiring) (of : IsWiringOf mo
       (through entry_of (entry_link modules (body_in modules p) (head_in modules p)) (λ (e : ℕ × Inner). e.1) (λ (e : Entry). inner_of e.to) (λ (e : EntryPart). inner_input modules (body_in modules p) e.to)
       w.entries.items p.entries (λ e. refl) (λ e. refl) of.entries)
 
-  pub used_is : used_by w ≡ used modules p
+  used_is : used_by w ≡ used modules p
   used_is =
       ap (λ l. l ++ map (λ (e : Exit). inner_of e.from) w.exits.items)
       (through edge_of (edge_in modules (body_in modules p)) (λ (e : Edge). e.from) (λ (e : EdgeHeld). inner_of e.from) (λ (e : EdgePart). inner_output modules (body_in modules p) e.from)
@@ -53,13 +53,13 @@ module _ (modules : List Module) (p : ProdPart) (w : Wiring) (of : IsWiringOf mo
       (through exit_of (exit_link modules (body_in modules p) (head_in modules p)) (λ (e : Inner × ℕ). e.0) (λ (e : Exit). inner_of e.from) (λ (e : ExitPart). inner_output modules (body_in modules p) e.from)
       w.exits.items p.exits (λ e. refl) (λ e. refl) of.exits)
 
-  pub entered_is : entered_by w ≡ map (place_of (head_in modules p).inputs) (entered p)
+  entered_is : entered_by w ≡ map (place_of (head_in modules p).inputs) (entered p)
   entered_is =
       through entry_of (entry_link modules (body_in modules p) (head_in modules p)) (λ (e : ℕ × Inner). e.0) (λ (e : Entry). e.port.0) (λ (e : EntryPart). place_of (head_in modules p).inputs e.port)
       w.entries.items p.entries (λ e. refl) (λ e. refl) of.entries
       ∙ sym (map_after (place_of (head_in modules p).inputs) (λ (e : EntryPart). e.port) (λ (e : EntryPart). place_of (head_in modules p).inputs e.port) (λ e. refl) p.entries)
 
-  pub left_is : left_by w ≡ map (place_of (head_in modules p).outputs) (left p)
+  left_is : left_by w ≡ map (place_of (head_in modules p).outputs) (left p)
   left_is =
       through exit_of (exit_link modules (body_in modules p) (head_in modules p)) (λ (e : Inner × ℕ). e.1) (λ (e : Exit). e.port.0) (λ (e : ExitPart). place_of (head_in modules p).outputs e.port)
       w.exits.items p.exits (λ e. refl) (λ e. refl) of.exits

@@ -34,7 +34,7 @@ pub heads_differ : (ks : List ℕ) → AllDiffer (map in_head ks) ↔ AllDiffer 
 heads_differ ks = (differ_before in_head ks, differ_after in_head ks (λ x y i j e. ap (λ (p : Inner). p.port) e))
 
 -- each port of a head is met exactly if its number is
-pub heads_met : (n : ℕ) (ks : List ℕ) → ((i : Inner) → IsPortOf (n ∷ []) i → IsIn i (map in_head ks)) ↔ ((k : ℕ) → k < n → IsIn k ks)
+heads_met : (n : ℕ) (ks : List ℕ) → ((i : Inner) → IsPortOf (n ∷ []) i → IsIn i (map in_head ks)) ↔ ((k : ℕ) → k < n → IsIn k ks)
 heads_met n ks = (
   λ h k l. (let r = in_map_from in_head (in_head k) ks (h (in_head k) l) in subst (λ j. IsIn j ks) (sym (ap (λ (p : Inner). p.port) r.2)) r.1),
   λ h i l. go i.position i.port l h,

@@ -16,7 +16,7 @@ place_small p i h =
     omega arith
 
 -- two ports with small numbers that stand at one place are the same
-pub same_port : (i j : Inner) → i.port < 64 → j.port < 64 → place_of i ≡ place_of j → i ≡ j
+same_port : (i j : Inner) → i.port < 64 → j.port < 64 → place_of i ≡ place_of j → i ≡ j
 same_port i j a b e =
     let p : i.position ≡ j.position = omega arith in
     let q : i.port ≡ j.port = omega arith in
@@ -29,7 +29,7 @@ one_here : (n : ℕ) (j : Inner) → place_of j ≡ n → cond {A = ℕ} (place_
 one_here n j e = ap (λ b. cond {A = ℕ} b 1 0) (eq-eqb (place_of j) n e)
 
 -- an end stands at its place
-pub end_counts : (i : Inner) (ends : List Inner) → IsIn i ends → 1 ≤ ends_at (place_of i) ends
+end_counts : (i : Inner) (ends : List Inner) → IsIn i ends → 1 ≤ ends_at (place_of i) ends
 end_counts i [] h = absurd h
 end_counts i (j ∷ ends) (inl e) =
     let c = cons_count (place_of i) j ends in
@@ -41,7 +41,7 @@ end_counts i (j ∷ ends) (inr h) =
     omega arith
 
 -- where one stands, it is one of the ends
-pub end_there : (n : ℕ) (ends : List Inner) → 1 ≤ ends_at n ends → (j : Inner) × IsIn j ends × (place_of j ≡ n)
+end_there : (n : ℕ) (ends : List Inner) → 1 ≤ ends_at n ends → (j : Inner) × IsIn j ends × (place_of j ≡ n)
 end_there n [] h = absurd (omega arith)
 end_there n (j ∷ ends) h = by (end_there n ends) (place_of j == n) refl
   where
@@ -54,7 +54,7 @@ end_there n (j ∷ ends) h = by (end_there n ends) (place_of j == n) refl
         (r.0, inr r.1, r.2)
 
 -- ends that differ stand at different places
-pub differ_once : (ends : List Inner) → ((i : Inner) → IsIn i ends → i.port < 64) → AllDiffer ends → (n : ℕ) → ends_at n ends ≤ 1
+differ_once : (ends : List Inner) → ((i : Inner) → IsIn i ends → i.port < 64) → AllDiffer ends → (n : ℕ) → ends_at n ends ≤ 1
 differ_once [] small d n = omega arith
 differ_once (j ∷ ends) small d n = by (differ_once ends (λ i h. small i (inr h)) d.1 n) (place_of j == n) refl
   where
@@ -82,7 +82,7 @@ differ_once (j ∷ ends) small d n = by (differ_once ends (λ i h. small i (inr 
         omega arith
 
 -- and the other way
-pub once_differ : (ends : List Inner) → ((n : ℕ) → ends_at n ends ≤ 1) → AllDiffer ends
+once_differ : (ends : List Inner) → ((n : ℕ) → ends_at n ends ≤ 1) → AllDiffer ends
 once_differ [] h = tt
 once_differ (j ∷ ends) h = (
   λ i.
@@ -98,7 +98,7 @@ once_differ (j ∷ ends) h = (
 )
 
 -- an end that stands twice
-pub twice_not : (ends : List Inner) → ((i : Inner) → IsIn i ends → i.port < 64) → IsTwice ends → AllDiffer ends → ⊥
+twice_not : (ends : List Inner) → ((i : Inner) → IsIn i ends → i.port < 64) → IsTwice ends → AllDiffer ends → ⊥
 twice_not ends small t d =
     let l = differ_once ends small d (place_of t.0) in
     let two = t.2 in

@@ -9,7 +9,7 @@ use Rattle.wf_spec.proofs.Picking.{same_name}
 use Rattle.wf_spec.proofs.Tables.{get_in}
 
 -- where names differ, each stands at its place only
-pub place_at : (names : List (List ℕ)) (k : ℕ) → AllDiffer names → k < length names → place_of names (get_or names k []) ≡ k
+place_at : (names : List (List ℕ)) (k : ℕ) → AllDiffer names → k < length names → place_of names (get_or names k []) ≡ k
 place_at [] k d h = absurd (omega arith)
 place_at (n ∷ names) zero d h = ap (λ b. cond {A = ℕ} (not b) (1 + place_of names n) 0) (bytes_same n n refl)
 place_at (n ∷ names) (suc k) d h = by (place_at names k d.1 (omega arith)) (bytes_eq (get_or names k []) n) refl

@@ -118,7 +118,7 @@ wiring_made modules p w body made head edges entries exits kept held at top edge
 }
 
 -- an element of a list and one more is at its place, or is the last
-pub at_push_cases : {A : Type 0} (x : A) (j : ℕ) (old : List A) (a : A) → IsAt x j (old ++ a ∷ []) → IsAt x j old ⊎ ((j ≡ length old) × (x ≡ a))
+at_push_cases : {A : Type 0} (x : A) (j : ℕ) (old : List A) (a : A) → IsAt x j (old ++ a ∷ []) → IsAt x j old ⊎ ((j ≡ length old) × (x ≡ a))
 at_push_cases x zero [] a at = inr (refl, at)
 at_push_cases x (suc j) [] a at = absurd at
 at_push_cases x zero (y ∷ old) a at = inl at
