@@ -86,8 +86,10 @@ module _ (names : List (List ℕ)) (modules : List Module) (productions : List P
         → AllHold (each productions (IsLinkedAtMostOnce modules) PortLinkedTwice ∷ each productions (IsLinkedAtLeastOnce modules) PortUnlinked ∷ each productions (HasNoCycle modules) BodyCycle ∷ [])
     wirings_kept h = (
       all_over IsWiredAtMostOnce (IsLinkedAtMostOnce modules) PortLinkedTwice wirings productions of.as_many most_at h.0,
-      (all_over (IsWiredAtLeastOnce modules) (IsLinkedAtLeastOnce modules) PortUnlinked wirings productions of.as_many least_at h.1.0,
-      (all_over IsWiredForward (HasNoCycle modules) BodyCycle wirings productions of.as_many forward_at h.1.1.0, tt)),
+      (
+        all_over (IsWiredAtLeastOnce modules) (IsLinkedAtLeastOnce modules) PortUnlinked wirings productions of.as_many least_at h.1.0,
+        (all_over IsWiredForward (HasNoCycle modules) BodyCycle wirings productions of.as_many forward_at h.1.1.0, tt),
+      ),
     )
 
     wirings_refused : (last : List Rule) (f : FormFault) → IsFirstFault (wiring_rules modules wirings) f
