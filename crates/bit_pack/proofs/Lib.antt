@@ -1,0 +1,5 @@
+pub mod Fronts
+pub mod Numbers
+pub mod LowBits
+pub mod Codes
+pub mod Packing

@@ -1,0 +1,8 @@
+//! Bits that are written into bytes and read from bytes, one by one and as Elias gamma codes of numbers.
+#![tactic(auto)]
+
+mod law;
+
+pub use law::{
+    binary_law, codes_law, held_law, length_law, packed_law, prefix_free_law, spelling_law,
+};
