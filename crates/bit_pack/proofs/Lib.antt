@@ -3,3 +3,4 @@ pub mod Numbers
 pub mod LowBits
 pub mod Codes
 pub mod Packing
+pub mod Bytes

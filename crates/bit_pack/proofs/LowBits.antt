@@ -1,9 +1,9 @@
 -- The lowest binary digits of a number.
-use Rattle.std.proofs.Common.{◌≡◌, ℕ, zero, suc, ◌+◌, ◌*◌, ◌/◌, ◌%◌, ◌^◌, ◌<◌, ◌≤◌, Bool, true, false, cond, eqb, List, [], ◌∷◌, ◌++◌, length, replicate, refl, sym, ap, ◌∙◌, subst, arith, length-append}
-use Rattle.std.proofs.Math.Nat.{pow-suc, mod-eq_of_lt, mod-mod, div-eq_of_lt, le-div_iff_mul-le, div-lt_iff_lt-mul}
+use Rattle.std.proofs.Common.{◌≡◌, ℕ, zero, suc, ◌+◌, ◌-◌, ◌*◌, ◌/◌, ◌%◌, ◌^◌, ◌<◌, ◌≤◌, Bool, true, false, cond, eqb, List, [], ◌∷◌, ◌++◌, length, replicate, refl, sym, ap, ◌∙◌, subst, ⊎_elim, arith, length-append}
+use Rattle.std.proofs.Math.Nat.{pow-le-pow_right, pow-suc, mod-eq_of_lt, mod-mod, div-eq_of_lt, le-div_iff_mul-le, div-lt_iff_lt-mul}
 use Rattle.std.proofs.lemmas.List.{length-replicate}
 use Rattle.std.proofs.lemmas.Nat.{mod-pow-add, leading_top, pow_pos}
-use Rattle.std.proofs.lemmas.Bool.{eq-eqb}
+use Rattle.std.proofs.lemmas.Bool.{eq-eqb, cases_lt}
 use Rattle.std.specs.Int.Count.{count_leading_zeros}
 use Rattle.bit_pack.specs.Bits.{number, low_bits}
 use Rattle.bit_pack.proofs.Numbers.{number_small, number-append, number-push, number-zeros, same_from_number}
@@ -69,20 +69,26 @@ low_bits-suc w n =
     let e : suc w ≡ 1 + w = omega arith in
     ap (λ k. low_bits k n) e ∙ (low_bits-add 1 w n ∙ ap (λ k. k ++ low_bits w n) (low_bits-one (n / 2 ^ w)))
 
--- the digits of a number that is not 0 begin with its leading zeros and a one
-pub leading_zeros : (w n : ℕ) → 0 < n → n < 2 ^ w → (j : ℕ) × (count_leading_zeros w n + suc j ≡ w) × (low_bits w n ≡ replicate (count_leading_zeros w n) false ++ true ∷ low_bits j n)
-leading_zeros w n h small =
-    let t = leading_top w n h small in
-    let z = count_leading_zeros w n in
-    let none : n / 2 ^ suc t.0 ≡ 0 = div-eq_of_lt t.3 in
-    let one : n / 2 ^ t.0 % 2 ≡ 1 = top n (2 ^ t.0) (2 ^ suc t.0) (pow-suc 2 t.0) t.2 t.3 in (
-      t.0,
+-- The lowest digits of a number that is not 0 and has no more digits begin with zeros and a one.
+-- They are as many as its leading zeros, but for the digits that are left out
+pub leading_zeros : (v w n : ℕ) → 0 < n → n < 2 ^ w → w ≤ v → (j : ℕ) × (count_leading_zeros v n + suc j ≡ v) × (suc j ≤ w) × (low_bits w n ≡ replicate (w - suc j) false ++ true ∷ low_bits j n)
+leading_zeros v w n h small order =
+    let t = leading_top v n h (within n (2 ^ w) (2 ^ v) small (pow-le-pow_right (omega arith) order)) in
+    let j = t.0 in
+    let few : suc j ≤ w = ⊎_elim (λ (l : w < suc j). let p : 2 ^ w ≤ 2 ^ j = pow-le-pow_right (omega arith) (omega arith) in absurd (omega (arith, t.2))) (λ l. l) (cases_lt w (suc j)) in
+    let k : w ≡ (w - suc j) + suc j = omega arith in
+    let none : n / 2 ^ suc j ≡ 0 = div-eq_of_lt t.3 in
+    let one : n / 2 ^ j % 2 ≡ 1 = top n (2 ^ j) (2 ^ suc j) (pow-suc 2 j) t.2 t.3 in (
+      j,
       t.1,
-      ap (λ k. low_bits k n) (sym t.1) ∙ (low_bits-add z (suc t.0) n ∙
-          (ap (λ k. low_bits z k ++ low_bits (suc t.0) n) none ∙ (ap (λ k. k ++ low_bits (suc t.0) n) (low_bits-zero z) ∙ ap (λ k. replicate z false ++ k)
-          (low_bits-suc t.0 n ∙ ap (λ b. b ∷ low_bits t.0 n) (eq-eqb (n / 2 ^ t.0 % 2) 1 one))))),
+      few,
+      ap (λ i. low_bits i n) k ∙ (low_bits-add (w - suc j) (suc j) n ∙ (ap (λ i. low_bits (w - suc j) i ++ low_bits (suc j) n) none ∙
+          (ap (λ i. i ++ low_bits (suc j) n) (low_bits-zero (w - suc j)) ∙ ap (λ i. replicate (w - suc j) false ++ i) (low_bits-suc j n ∙ ap (λ b. b ∷ low_bits j n) (eq-eqb (n / 2 ^ j % 2) 1 one))))),
     )
   where
+    within : (n a b : ℕ) → n < a → a ≤ b → n < b
+    within n a b h k = omega arith
+
     top : (n p q : ℕ) → q ≡ p * 2 → p ≤ n → n < q → n / p % 2 ≡ 1
     top n p q e l m =
         let some : 0 < p = omega arith in

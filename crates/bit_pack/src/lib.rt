@@ -2,6 +2,7 @@
 #![tactic(auto)]
 
 mod law;
+mod scan;
 
 pub use law::{
     binary_law, codes_law, held_law, length_law, packed_law, prefix_free_law, spelling_law,
