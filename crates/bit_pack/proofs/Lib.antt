@@ -4,3 +4,4 @@ pub mod LowBits
 pub mod Codes
 pub mod Packing
 pub mod Bytes
+pub mod Parts

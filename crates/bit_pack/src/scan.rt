@@ -1,5 +1,5 @@
 // Bits of bytes by their places. The first is the most significant bit of the first byte.
-ghost use Rattle.std.specs.Prelude.{◌≡◌, ℕ, ◌+◌, ◌-◌, ◌*◌, ◌^◌, ◌<◌, ◌≤◌, false, ◌∷◌, length, take, drop, replicate, MatchOption};
+ghost use Rattle.std.specs.Prelude.{◌≡◌, ℕ, ◌+◌, ◌-◌, ◌*◌, ◌%◌, ◌^◌, ◌<◌, ◌≤◌, false, ◌∷◌, length, take, drop, replicate, MatchOption};
 ghost use Rattle.bit_pack.specs.Bits.{bits_of, number};
 ghost use Rattle.bit_pack.specs.Reading.{IsNextOne};
 
@@ -44,4 +44,33 @@ pub fn next_one(bytes: &[u8], from: usize) -> Option<usize>
         Some(zeros) => Some(8 * (first + 1) + zeros),
         None => None,
     }
+}
+
+/// The number that some bits of one byte tell.
+fn part_at(bytes: &[u8], from: usize, count: usize) -> u8
+    requires some { 0 < count }
+    requires one_byte { from % 8 + count ≤ 8 }
+    requires inside { from < 8 * length bytes.now }
+    ensures { result ≡ number (take count (drop from (bits_of bytes.now))) }
+{
+    (bytes[from / 8] >> (8 - from % 8 - count)) & (255 >> (8 - count))
+}
+
+/// The number that the bits from a place on tell, so many. It is read byte by byte.
+pub fn number_at(bytes: &[u8], from: usize, count: usize) -> u64
+    requires few { length bytes.now < 2 ^ 60 }
+    requires inside { from + count ≤ 8 * length bytes.now }
+    requires fits { count ≤ 64 }
+    ensures { result ≡ number (take count (drop from (bits_of bytes.now))) }
+{
+    let end = from + count;
+    let mut number: u64 = 0;
+    let mut at = from;
+    while at < end {
+        let taken = (8 - at % 8).min(end - at);
+        let part = part_at(bytes, at, taken);
+        number = (number << taken) + part as u64;
+        at += taken;
+    }
+    number
 }
