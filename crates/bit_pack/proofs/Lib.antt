@@ -5,3 +5,4 @@ pub mod Codes
 pub mod Packing
 pub mod Bytes
 pub mod Parts
+pub mod CodesRead

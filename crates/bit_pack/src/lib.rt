@@ -1,9 +1,12 @@
 //! Bits that are written into bytes and read from bytes, one by one and as Elias gamma codes of numbers.
 #![tactic(auto)]
 
+mod code;
+mod fault;
 mod law;
 mod scan;
 
+pub use fault::BitFault;
 pub use law::{
     binary_law, codes_law, held_law, length_law, packed_law, prefix_free_law, spelling_law,
 };
