@@ -6,7 +6,8 @@ use Rattle.std.proofs.lemmas.Nat.Bits.{ones_shr}
 use Rattle.std.specs.Prelude.{◌≢◌, bit_and}
 use Rattle.std.specs.Int.Count.{count_leading_zeros}
 use Rattle.bit_pack.specs.Bits.{low_bits, bits_of}
-use Rattle.bit_pack.specs.Reading.{IsNextOne}
+use Rattle.bit_pack.specs.Reading.{IsNextOne, IsPadding}
+use Rattle.bit_pack.proofs.Fronts.{no_one}
 use Rattle.bit_pack.proofs.LowBits.{length-low_bits, low_bits-add, low_bits-suc, low_bits-mod, low_bits-zero, leading_zeros}
 use Rattle.bit_pack.proofs.Packing.{length-bits_of, bits_of-append}
 
@@ -127,3 +128,17 @@ zeros_more bytes i h z e =
     let k : 8 * i + 8 ≡ 8 * (i + 1) = omega arith in
     ap bits_of (take_more bytes i 0 h) ∙ (bits_of-append (take i bytes) (get_or bytes i 0 ∷ []) ∙ (ap (λ y. y ++ (low_bits 8 (get_or bytes i 0) ++ [])) z ∙ (ap (λ y. replicate (8 * i) false ++ y)
     (append-nil (low_bits 8 (get_or bytes i 0)) ∙ (ap (low_bits 8) e ∙ low_bits-zero 8)) ∙ (replicate-append-replicate (8 * i) 8 false ∙ ap (λ y. replicate y false) k))))
+
+-- how many bits are left from a place on
+pub length-left : (bytes : List ℕ) (from : ℕ) → length (drop from (bits_of bytes)) ≡ 8 * length bytes - from
+length-left bytes from = omega (arith, length-drop from (bits_of bytes), length-bits_of bytes)
+
+-- bits with a one are no padding
+pub one_is_no_padding : (bits : List Bool) (from at : ℕ) → IsNextOne bits from at → IsPadding (drop from bits) → ⊥
+one_is_no_padding bits from at i p = no_one (at - from) (length (drop from bits)) (drop (at + 1) bits) (sym i.is ∙ p.zeros)
+
+-- fewer than eight zero bits are padding
+pub zeros_are_padding : (bits : List Bool) (n : ℕ) → n < 8 → bits ≡ replicate n false → IsPadding bits
+zeros_are_padding bits n few e =
+    let l : n ≡ length bits = sym (ap length e ∙ length-replicate n false) in
+    record { few = omega arith; zeros = e ∙ ap (λ z. replicate z false) l }

@@ -4,9 +4,11 @@
 mod code;
 mod fault;
 mod law;
+mod reader;
 mod scan;
 
 pub use fault::BitFault;
 pub use law::{
     binary_law, codes_law, held_law, length_law, packed_law, prefix_free_law, spelling_law,
 };
+pub use reader::BitReader;

@@ -1,7 +1,7 @@
 // Bits of bytes by their places. The first is the most significant bit of the first byte.
-ghost use Rattle.std.specs.Prelude.{◌≡◌, ℕ, ◌+◌, ◌-◌, ◌*◌, ◌%◌, ◌^◌, ◌<◌, ◌≤◌, false, ◌∷◌, length, take, drop, replicate, MatchOption};
+ghost use Rattle.std.specs.Prelude.{◌≡◌, ℕ, ◌+◌, ◌-◌, ◌*◌, ◌%◌, ◌^◌, ◌<◌, ◌≤◌, ◌↔◌, false, ◌∷◌, length, take, drop, replicate, MatchOption, IsTrue};
 ghost use Rattle.bit_pack.specs.Bits.{bits_of, number};
-ghost use Rattle.bit_pack.specs.Reading.{IsNextOne};
+ghost use Rattle.bit_pack.specs.Reading.{IsNextOne, IsPadding};
 
 /// The bit at a place.
 pub fn bit_at(bytes: &[u8], at: usize) -> bool
@@ -43,6 +43,21 @@ pub fn next_one(bytes: &[u8], from: usize) -> Option<usize>
     match leading_zeros(&bytes[first + 1..]) {
         Some(zeros) => Some(8 * (first + 1) + zeros),
         None => None,
+    }
+}
+
+/// Whether fewer than eight bits are left from a place on, and all of them are zero.
+pub fn is_padding(bytes: &[u8], from: usize) -> bool
+    requires few { length bytes.now < 2 ^ 60 }
+    requires inside { from ≤ 8 * length bytes.now }
+    ensures { IsTrue result ↔ IsPadding (drop from (bits_of bytes.now)) }
+{
+    if 8 * bytes.len() - from >= 8 {
+        return false;
+    }
+    match next_one(bytes, from) {
+        Some(_) => false,
+        None => true,
     }
 }
 
