@@ -85,6 +85,10 @@ one_behind bits from z a p at e h q =
 pub masked : (x j : ℕ) → j < 8 → bit_and x (255 / 2 ^ j) ≡ x % 2 ^ (8 - j)
 masked x j h = ap (bit_and x) (ones_shr 8 j (omega arith)) ∙ and_mask x (8 - j)
 
+-- what a mask leaves of a number: its lowest digits
+pub low_masked : (n count : ℕ) → 0 < count → count ≤ 8 → bit_and n (255 / 2 ^ (8 - count)) ≡ n % 2 ^ count
+low_masked n count some h = let k : 8 - (8 - count) ≡ count = omega arith in masked n (8 - count) (omega arith) ∙ ap (λ z. n % 2 ^ z) k
+
 module _ (bytes : List ℕ) (from : ℕ) (h : from < 8 * length bytes) where
   abbrev rest : ℕ
   rest = bit_and (get_or bytes (from / 8) 0) (255 / 2 ^ (from % 8))

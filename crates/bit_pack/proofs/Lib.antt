@@ -6,3 +6,4 @@ pub mod Packing
 pub mod Bytes
 pub mod Parts
 pub mod CodesRead
+pub mod Filling

@@ -7,7 +7,7 @@ use Rattle.std.specs.Prelude.{bit_and}
 use Rattle.bit_pack.specs.Bits.{number, low_bits, bits_of}
 use Rattle.bit_pack.proofs.Numbers.{number_small, number-append}
 use Rattle.bit_pack.proofs.LowBits.{length-low_bits, number-low_bits, low_bits-add}
-use Rattle.bit_pack.proofs.Bytes.{bits_from, masked}
+use Rattle.bit_pack.proofs.Bytes.{bits_from, low_masked}
 
 -- some bits of one byte
 part_is : (bytes : List ℕ) (from count : ℕ) → from % 8 + count ≤ 8 → from < 8 * length bytes → take count (drop from (bits_of bytes)) ≡ low_bits count (get_or bytes (from / 8) 0 / 2 ^ (8 - from % 8 - count))
@@ -24,8 +24,7 @@ pub number_of_part : (bytes : List ℕ) (from count : ℕ) → 0 < count → fro
     bit_and (get_or bytes (from / 8) 0 / 2 ^ (8 - from % 8 - count)) (255 / 2 ^ (8 - count)) ≡ number (take count (drop from (bits_of bytes)))
 number_of_part bytes from count some h inside =
     let y = get_or bytes (from / 8) 0 / 2 ^ (8 - from % 8 - count) in
-    let k : 8 - (8 - count) ≡ count = omega arith in
-    masked y (8 - count) (omega arith) ∙ (ap (λ z. y % 2 ^ z) k ∙ (sym (number-low_bits count y) ∙ ap number (sym (part_is bytes from count h inside))))
+    low_masked y count some (omega arith) ∙ (sym (number-low_bits count y) ∙ ap number (sym (part_is bytes from count h inside)))
 
 -- some bits, and those behind them
 pub take-add : {A : Type 0} (a b : ℕ) (xs : List A) → take (a + b) xs ≡ take a xs ++ take b (drop a xs)

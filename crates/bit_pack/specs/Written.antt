@@ -16,6 +16,13 @@ pub record IsFilled (bytes : List ℕ) (n : ℕ) : Type 0 where
   pub free : IsFree bytes n
   pub few : 8 * length bytes < n + 8
 
+-- the bytes have the same first bits, and room for some more
+pub record HasRoom (old new : List ℕ) (n count : ℕ) : Type 0 where
+  pub same : first_bits new n ≡ first_bits old n
+  pub free : IsFree new n
+  pub enough : n + count ≤ 8 * length new
+  pub few : 8 * length new < n + count + 8
+
 -- the bytes have these bits after the first bits, so many, and then only zero bits
 pub record Writes (old new : List ℕ) (n : ℕ) (more : List Bool) : Type 0 where
   pub bits : first_bits new (n + length more) ≡ first_bits old n ++ more

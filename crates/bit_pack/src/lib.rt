@@ -4,6 +4,7 @@
 mod code;
 mod fault;
 mod law;
+mod put;
 mod reader;
 mod scan;
 
