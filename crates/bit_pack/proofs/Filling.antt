@@ -181,3 +181,26 @@ module _ (bytes : List ℕ) (at count part : ℕ) (free : IsFree bytes at) (one_
       (ap bits_of (set_split bytes q raised (omega arith)) ∙ (bits_of-append (take q bytes) (raised ∷ drop (suc q) bytes) ∙
       (ap (λ i. before ++ (low_bits 8 raised ++ bits_of (drop i bytes))) k ∙ (ap (λ i. before ++ (i ++ after)) byte_is ∙ (ap (λ i. before ++ i) inner ∙
       (sym (append_assoc before begun (low ++ replicate (z + far) false)) ∙ ap (λ i. i ++ (low ++ replicate (z + far) false)) (sym first_is)))))))
+
+-- where room was made, digits may follow zero bits
+pub digits_place : (old room slice : List ℕ) (at zeros digits : ℕ) → HasRoom old room at (zeros + digits) → slice ≡ room → IsFree slice (at + zeros)
+digits_place old room slice at zeros digits h e =
+    let f : IsFree room (at + zeros) = subst (λ z. IsFree room (at + z)) (length-replicate zeros false) (zeros_written room at zeros h.free (omega (arith, h.enough))).free in
+    subst (λ z. IsFree z (at + zeros)) (sym e) f
+
+-- zero bits and then digits are written there
+module _ (old room slice new : List ℕ) (at zeros digits number : ℕ) (h : HasRoom old room at (zeros + digits)) (e : slice ≡ room) (w : Writes slice new (at + zeros) (low_bits digits number)) (l : length new ≡ length slice) where
+  all_written : Writes room new at (replicate zeros false ++ low_bits digits number)
+  all_written =
+      let place : at + zeros ≡ at + length (replicate zeros false) = ap (λ z. at + z) (sym (length-replicate zeros false)) in
+      writes_more room room new at (replicate zeros false) (low_bits digits number) (zeros_written room at zeros h.free (omega (arith, h.enough)))
+      (subst (λ z. Writes room new z (low_bits digits number)) place (subst (λ z. Writes z new (at + zeros) (low_bits digits number)) e w))
+
+  long : at + length (replicate zeros false ++ low_bits digits number) ≡ at + (zeros + digits)
+  long = omega (arith, length-append (replicate zeros false) (low_bits digits number), length-replicate zeros false, length-low_bits digits number)
+
+  pub appended_bits : first_bits new (at + (zeros + digits)) ≡ first_bits old at ++ (replicate zeros false ++ low_bits digits number)
+  appended_bits = ap (first_bits new) (sym long) ∙ (all_written.bits ∙ ap (λ z. z ++ (replicate zeros false ++ low_bits digits number)) h.same)
+
+  pub appended_filled : IsFilled new (at + (zeros + digits))
+  appended_filled = record { free = subst (IsFree new) long all_written.free; few = omega (arith, h.few, l, ap length e) }

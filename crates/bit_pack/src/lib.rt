@@ -1,15 +1,19 @@
 //! Bits that are written into bytes and read from bytes, one by one and as Elias gamma codes of numbers.
 #![tactic(auto)]
 
+mod bits;
 mod code;
 mod fault;
 mod law;
 mod put;
 mod reader;
 mod scan;
+mod writer;
 
+pub use bits::Bits;
 pub use fault::BitFault;
 pub use law::{
     binary_law, codes_law, held_law, length_law, packed_law, prefix_free_law, spelling_law,
 };
 pub use reader::BitReader;
+pub use writer::BitWriter;

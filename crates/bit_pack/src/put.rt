@@ -1,7 +1,7 @@
 // Binary digits that are written into bytes. The first bit is the most significant of the first byte.
 ghost use Rattle.std.specs.Prelude.{◌≡◌, ℕ, ◌+◌, ◌*◌, ◌%◌, ◌^◌, ◌<◌, ◌≤◌, false, ◌++◌, length, replicate, IfOk, OnOk, OnErr};
 ghost use Rattle.bit_pack.specs.Bits.{low_bits};
-ghost use Rattle.bit_pack.specs.Written.{HasRoom, IsFilled, IsFree, Writes};
+ghost use Rattle.bit_pack.specs.Written.{first_bits, HasRoom, IsFilled, IsFree, Writes};
 
 use std::alloc::AllocError;
 
@@ -47,4 +47,19 @@ fn put_number(bytes: &mut [u8], from: usize, number: u64, count: usize)
         put_part(bytes, at, digits, part);
         at += part;
     }
+}
+
+/// Writes zero bits and then the lowest digits of a number behind the bits that the bytes are filled with.
+pub fn append(bytes: &mut Vec<u8>, at: u32, zeros: u32, number: u64, digits: u32) -> Result<(), AllocError>
+    requires filled { IsFilled bytes.old.items at }
+    requires few { at < 2 ^ 31 }
+    requires zeros { zeros < 64 }
+    requires digits { digits ≤ 64 }
+    ensures bits { OnOk result (first_bits bytes.new.items (at + (zeros + digits)) ≡ first_bits bytes.old.items at ++ (replicate zeros false ++ low_bits digits number)) }
+    ensures filled { OnOk result (IsFilled bytes.new.items (at + (zeros + digits))) }
+    ensures err { OnErr result (bytes.new.items ≡ bytes.old.items) }
+{
+    make_room(bytes, at, zeros + digits)?;
+    put_number(bytes, (at + zeros) as usize, number, digits as usize);
+    Ok(())
 }

@@ -23,5 +23,5 @@ pub loop-left-preserved : goal.loop-left-preserved
 loop-left-preserved c = record {
   few = omega arith;
   place = omega arith;
-  done = digits_more _ _ _ _ _ _ _ _ _ _ _ c.loop-left.invariant.done (omega arith) (record { bits = c.put_part.ensures.bits; free = c.put_part.ensures.free }) (low_masked _ _ (omega arith) (omega arith)) (omega arith) (omega arith);
+  done = digits_more _ _ _ _ _ _ _ _ _ _ _ c.loop-left.invariant.done (omega arith) c.put_part.ensures (low_masked _ _ (omega arith) (omega arith)) (omega arith) (omega arith);
 }
