@@ -133,3 +133,10 @@ codes_law (m ∷ a) (n ∷ b) p q ha hb e =
     let r = prefix_free_law m n (flat_map gamma a ++ replicate p false) (flat_map gamma b ++ replicate q false) (ha 0 0 (omega arith)) (hb 0 0 (omega arith))
     (sym (append_assoc (gamma m) (flat_map gamma a) (replicate p false)) ∙ (e ∙ append_assoc (gamma n) (flat_map gamma b) (replicate q false))) in
     ap (λ z. z ∷ a) r.0 ∙ ap (λ z. n ∷ z) (codes_law a b p q (λ k d l. ha (suc k) d (omega arith)) (λ k d l. hb (suc k) d (omega arith)) r.1)
+
+-- zeros and digits that make up the code of a number, as its leading zeros tell them
+pub code_parts : (n d : ℕ) → 1 ≤ n → n < 2 ^ 64 → d ≡ 64 - count_leading_zeros 64 n → replicate (d - 1) false ++ low_bits d n ≡ gamma n
+unfolding gamma
+code_parts n d h small e =
+    let k : d ≡ digits n = omega (arith, digits_counted n 64 h small) in
+    ap (λ z. replicate (z - 1) false ++ low_bits z n) k ∙ ap (λ z. replicate (digits n - 1) false ++ z) (binary_is n)

@@ -2,7 +2,7 @@
 use Rattle.std.proofs.Common.{◌≡◌, ℕ, zero, suc, ◌+◌, ◌-◌, ◌*◌, ◌/◌, ◌%◌, ◌^◌, ◌<◌, ◌≤◌, Bool, false, List, [], ◌∷◌, ◌++◌, length, get_or, take, drop, set, replicate, refl, sym, ap, ◌∙◌, subst, arith, append_assoc, length-append}
 use Rattle.std.proofs.lemmas.List.{drop-append-le, drop_at, nil_from_length, take_at, take_all, set_split, take-append-drop, take-append-le, length-take-le, length-replicate, replicate-append-replicate, take-replicate, drop-replicate}
 use Rattle.std.proofs.lemmas.Nat.{shr_split, shr_below, shr-shr}
-use Rattle.bit_pack.specs.Bits.{number, low_bits, bits_of}
+use Rattle.bit_pack.specs.Bits.{number, low_bits, bits_of, Holds}
 use Rattle.bit_pack.specs.Written.{first_bits, IsFree, IsFilled, HasRoom, Writes}
 use Rattle.bit_pack.proofs.Numbers.{number_small, number-append, number-zeros}
 use Rattle.bit_pack.proofs.LowBits.{length-low_bits, number-low_bits, number_of_low_bits, low_bits-number, low_bits-add, low_bits-mod, low_bits-zero}
@@ -204,3 +204,11 @@ module _ (old room slice new : List ℕ) (at zeros digits number : ℕ) (h : Has
 
   pub appended_filled : IsFilled new (at + (zeros + digits))
   appended_filled = record { free = subst (IsFree new) long all_written.free; few = omega (arith, h.few, l, ap length e) }
+
+-- bytes hold the bits that they are filled with
+pub filled_holds : (bytes : List ℕ) (n : ℕ) → IsFilled bytes n → Holds bytes (first_bits bytes n)
+filled_holds bytes n f = record {
+  padding = 8 * length bytes - n;
+  few = omega (arith, f.few, f.free.inside);
+  is = sym (take-append-drop n (bits_of bytes)) ∙ ap (λ z. first_bits bytes n ++ z) f.free.zeros;
+}

@@ -5,6 +5,7 @@ use Rattle.std.proofs.lemmas.List.{length-replicate}
 use Rattle.std.proofs.lemmas.Nat.{mod-pow-add, leading_top, pow_pos}
 use Rattle.std.proofs.lemmas.Bool.{eq-eqb, cases_lt}
 use Rattle.std.specs.Int.Count.{count_leading_zeros}
+use mir.Val.{bool_byte}
 use Rattle.bit_pack.specs.Bits.{number, low_bits}
 use Rattle.bit_pack.proofs.Numbers.{number_small, number-append, number-push, number-zeros, same_from_number}
 
@@ -95,3 +96,9 @@ leading_zeros v w n h small order =
         let low : 1 ≤ n / p = (le-div_iff_mul-le some).1 (omega arith) in
         let high : n / p < 2 = (div-lt_iff_lt-mul some).1 (omega arith) in
         omega arith
+
+-- one bit as a digit
+pub low_bits-bit : (b : Bool) → low_bits 1 (bool_byte b) ≡ b ∷ []
+unfolding low_bits
+low_bits-bit true = refl
+low_bits-bit false = refl

@@ -14,13 +14,14 @@ pub struct Bits {
 
 impl Model for Bits {
     ghost use Rattle.std.specs.Prelude.{Bool, List};
+    ghost use Rattle.bit_pack.specs.Bits.{AreBytes};
     ghost use Rattle.bit_pack.specs.Written.{first_bits, IsFilled};
 
     ghost Value = { List Bool };
 
     ghost view = { λ b. first_bits b.bytes.items b.end };
 
-    ghost invariant = { λ b. IsFilled b.bytes.items b.end };
+    ghost invariant = { λ b. IsFilled b.bytes.items b.end × AreBytes b.bytes.items };
 }
 
 impl Bits {
