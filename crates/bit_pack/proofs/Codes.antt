@@ -1,5 +1,5 @@
 -- Gamma codes.
-use Rattle.std.proofs.Common.{◌≡◌, ℕ, zero, suc, ◌+◌, ◌-◌, ◌*◌, ◌/◌, ◌%◌, ◌^◌, ◌<◌, ◌≤◌, Bool, true, false, cond, eqb, List, [], ◌∷◌, ◌++◌, length, map, get_or, replicate, flat_map, refl, sym, ap, ◌∙◌, subst, ⊎_elim, arith, append_assoc, append-nil, length-append}
+use Rattle.std.proofs.Common.{◌≡◌, ℕ, suc, ◌+◌, ◌-◌, ◌*◌, ◌/◌, ◌%◌, ◌^◌, ◌<◌, ◌≤◌, Bool, true, false, cond, eqb, List, [], ◌∷◌, ◌++◌, length, map, get_or, replicate, flat_map, refl, sym, ap, ◌∙◌, subst, ⊎_elim, arith, append_assoc, append-nil, length-append}
 use Rattle.std.proofs.Math.Nat.{pow-le-pow_right}
 use Rattle.std.proofs.lemmas.Bool.{eq-eqb, cases_lt}
 use Rattle.std.proofs.lemmas.Int.Digits.{all_below_base_digits_of, first_digits_of, number_digits_of, digits_of_step, length-digits_of-le}
@@ -11,13 +11,8 @@ use Rattle.bit_pack.specs.Bits.{number, low_bits}
 use Rattle.bit_pack.specs.Gamma.{digits, binary, gamma}
 use Rattle.bit_pack.specs.Laws.{PrefixFreeLaw, LengthLaw, BinaryLaw, SpellingLaw, CodesLaw}
 use Rattle.bit_pack.proofs.Fronts.{same_front, same_zeros, no_one}
-use Rattle.bit_pack.proofs.Numbers.{number_small}
+use Rattle.bit_pack.proofs.Numbers.{digit_back, number_small}
 use Rattle.bit_pack.proofs.LowBits.{low_bits-number}
-
-digit_back : (d : ℕ) → d < 2 → cond (eqb d 1) 1 0 ≡ d
-digit_back zero h = refl
-digit_back (suc zero) h = refl
-digit_back (suc (suc d)) h = absurd (omega arith)
 
 digits_back : (ds : List ℕ) → AllBelowBase 2 ds → map (λ b. cond b 1 0) (map (λ d. eqb d 1) ds) ≡ ds
 digits_back [] h = refl

@@ -7,27 +7,19 @@ use Rattle.std.proofs.lemmas.Bool.{eq-eqb, cases_lt}
 use Rattle.std.specs.Int.Count.{count_leading_zeros}
 use mir.Val.{bool_byte}
 use Rattle.bit_pack.specs.Bits.{number, low_bits}
-use Rattle.bit_pack.proofs.Numbers.{number_small, number-append, number-push, number-zeros, same_from_number}
+use Rattle.bit_pack.proofs.Numbers.{digit_back, number_small, number-append, number-push, number-zeros, same_from_number}
 
 pub length-low_bits : (w n : ℕ) → length (low_bits w n) ≡ w
 unfolding low_bits
 length-low_bits zero n = refl
 length-low_bits (suc w) n = omega (arith, length-append (low_bits w (n / 2)) (eqb (n % 2) 1 ∷ []), length-low_bits w (n / 2))
 
-last_digit : (n : ℕ) → cond (eqb (n % 2) 1) 1 0 ≡ n % 2
-last_digit n = go (n % 2) (omega arith)
-  where
-    go : (d : ℕ) → d < 2 → cond (eqb d 1) 1 0 ≡ d
-    go zero h = refl
-    go (suc zero) h = refl
-    go (suc (suc d)) h = absurd (omega arith)
-
 pub number-low_bits : (w n : ℕ) → number (low_bits w n) ≡ n % 2 ^ w
 unfolding low_bits
 number-low_bits zero n = omega arith
 number-low_bits (suc w) n =
     number-push (low_bits w (n / 2)) (eqb (n % 2) 1) ∙
-    (ap (λ z. z * 2 + cond (eqb (n % 2) 1) 1 0) (number-low_bits w (n / 2)) ∙ (ap (λ z. n / 2 % 2 ^ w * 2 + z) (last_digit n) ∙ sym (split n w)))
+    (ap (λ z. z * 2 + cond (eqb (n % 2) 1) 1 0) (number-low_bits w (n / 2)) ∙ (ap (λ z. n / 2 % 2 ^ w * 2 + z) (digit_back (n % 2) (omega arith)) ∙ sym (split n w)))
   where
     split : (n w : ℕ) → n % 2 ^ suc w ≡ n / 2 % 2 ^ w * 2 + n % 2
     split n w = let e : suc w ≡ w + 1 = omega arith in ap (λ z. n % 2 ^ z) e ∙ mod-pow-add n w 1

@@ -1,5 +1,5 @@
 -- The number that bits tell.
-use Rattle.std.proofs.Common.{◌≡◌, ℕ, zero, suc, ◌+◌, ◌*◌, ◌^◌, ◌<◌, Bool, true, false, cond, List, [], ◌∷◌, ◌++◌, length, map, replicate, refl, sym, ap, ◌∙◌, subst, arith}
+use Rattle.std.proofs.Common.{◌≡◌, ℕ, zero, suc, ◌+◌, ◌*◌, ◌^◌, ◌<◌, Bool, true, false, cond, eqb, List, [], ◌∷◌, ◌++◌, length, map, replicate, refl, sym, ap, ◌∙◌, subst, arith}
 use Rattle.std.proofs.Math.Nat.{pow-suc}
 use Rattle.std.proofs.lemmas.List.{length-map, map-append}
 use Rattle.std.specs.Int.Digits.{number_from_digits, number_from_digits_after, AllBelowBase}
@@ -8,6 +8,12 @@ use Rattle.bit_pack.specs.Bits.{number}
 
 digit : Bool → ℕ
 digit b = cond b 1 0
+
+-- a binary digit is told by whether it is 1
+pub digit_back : (d : ℕ) → d < 2 → cond (eqb d 1) 1 0 ≡ d
+digit_back zero h = refl
+digit_back (suc zero) h = refl
+digit_back (suc (suc d)) h = absurd (omega arith)
 
 below_two : (bits : List Bool) → AllBelowBase 2 (map digit bits)
 unfolding digit

@@ -17,3 +17,6 @@ pub use law::{
 };
 pub use reader::BitReader;
 pub use writer::BitWriter;
+
+#[cfg(test)]
+mod tests;

@@ -50,7 +50,13 @@ fn put_number(bytes: &mut [u8], from: usize, number: u64, count: usize)
 }
 
 /// Writes zero bits and then the lowest digits of a number behind the bits that the bytes are filled with.
-pub fn append(bytes: &mut Vec<u8>, at: u32, zeros: u32, number: u64, digits: u32) -> Result<(), AllocError>
+pub fn append(
+    bytes: &mut Vec<u8>,
+    at: u32,
+    zeros: u32,
+    number: u64,
+    digits: u32,
+) -> Result<(), AllocError>
     requires filled { IsFilled bytes.old.items at }
     requires few { at < 2 ^ 31 }
     requires zeros { zeros < 64 }

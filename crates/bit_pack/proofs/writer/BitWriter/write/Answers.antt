@@ -1,4 +1,4 @@
-use Rattle.std.proofs.Common.{rules, ◌≡◌, ◌+◌, ◌<◌, ◌^◌, length, ap, sym, ◌∙◌, arith}
+use Rattle.std.proofs.Common.{rules, ◌+◌, ◌<◌, ◌^◌, length, ap, arith}
 use Rattle.bit_pack.proofs.Filling.{length-first_bits}
 use Rattle.bit_pack.proofs.writer.BitWriter.write.Goals as goal
 
