@@ -1,6 +1,6 @@
 -- Bytes that are written bit by bit from the front.
-use Rattle.std.specs.Prelude.{◌≡◌, ℕ, ◌+◌, ◌-◌, ◌*◌, ◌<◌, ◌≤◌, Bool, false, List, ◌++◌, length, take, drop, replicate}
-use Rattle.bit_pack.specs.Bits.{bits_of}
+use Rattle.std.specs.Prelude.{◌≡◌, ℕ, ◌+◌, ◌-◌, ◌*◌, ◌^◌, ◌<◌, ◌≤◌, Bool, false, List, ◌++◌, length, take, drop, replicate}
+use Rattle.bit_pack.specs.Bits.{bits_of, AreBytes}
 
 -- the first bits of bytes, so many
 abbrev pub first_bits : List ℕ → ℕ → List Bool
@@ -15,6 +15,12 @@ pub record IsFree (bytes : List ℕ) (n : ℕ) : Type 0 where
 pub record IsFilled (bytes : List ℕ) (n : ℕ) : Type 0 where
   pub free : IsFree bytes n
   pub few : 8 * length bytes < n + 8
+
+-- the bytes are filled with so many bits, fewer than 2^32
+pub record IsWhole (bytes : List ℕ) (n : ℕ) : Type 0 where
+  pub filled : IsFilled bytes n
+  pub are_bytes : AreBytes bytes
+  pub few : n < 2 ^ 32
 
 -- the bytes have the same first bits, and room for some more
 pub record HasRoom (old new : List ℕ) (n count : ℕ) : Type 0 where

@@ -1,5 +1,5 @@
 // Bits that are held by bytes.
-ghost use Rattle.std.specs.Prelude.{◌≡◌, length};
+ghost use Rattle.std.specs.Prelude.{◌≡◌, ◌^◌, ◌≤◌, length};
 ghost use Rattle.bit_pack.specs.Bits.{packed, Holds};
 ghost use Rattle.bit_pack.specs.Written.{first_bits, IsFilled};
 
@@ -14,14 +14,13 @@ pub struct Bits {
 
 impl Model for Bits {
     ghost use Rattle.std.specs.Prelude.{Bool, List};
-    ghost use Rattle.bit_pack.specs.Bits.{AreBytes};
-    ghost use Rattle.bit_pack.specs.Written.{first_bits, IsFilled};
+    ghost use Rattle.bit_pack.specs.Written.{first_bits, IsWhole};
 
     ghost Value = { List Bool };
 
     ghost view = { λ b. first_bits b.bytes.items b.end };
 
-    ghost invariant = { λ b. IsFilled b.bytes.items b.end × AreBytes b.bytes.items };
+    ghost invariant = { λ b. IsWhole b.bytes.items b.end };
 }
 
 impl Bits {
@@ -33,10 +32,13 @@ impl Bits {
         Bits { bytes, end }
     }
 
-    /// The bytes that hold the bits: the first bit is the most significant of the first byte, and zero bits fill the last byte.
+    /// The bytes that hold the bits.
+    ///
+    /// The first bit is the most significant of the first byte, and zero bits fill the last byte.
     pub fn bytes(&self) -> &[u8]
         ensures holds { Holds result.now self.now }
         ensures packed { result.now ≡ packed self.now }
+        ensures few { length result.now ≤ 2 ^ 29 }
     {
         &self.bytes
     }

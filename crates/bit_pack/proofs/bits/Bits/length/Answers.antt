@@ -3,4 +3,4 @@ use Rattle.bit_pack.proofs.Filling.{length-first_bits}
 use Rattle.bit_pack.proofs.bits.Bits.length.Goals as goal
 
 pub returns : goal.returns
-returns c = sym (length-first_bits c.self.inside.bytes.items c.self.inside.end c.self.invariant.0.free.inside) ∙ ap length c.self.view_is
+returns c = sym (length-first_bits c.self.inside.bytes.items c.self.inside.end c.self.invariant.filled.free.inside) ∙ ap length c.self.view_is
