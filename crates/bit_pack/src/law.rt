@@ -6,7 +6,7 @@ pub fn prefix_free_law()
     ensures { PrefixFreeLaw }
 {}
 
-/// The code of a number with k binary digits has 2k - 1 bits.
+/// The gamma code of a number with k binary digits has 2k - 1 bits.
 pub fn length_law()
     ensures { LengthLaw }
 {}
@@ -16,12 +16,13 @@ pub fn binary_law()
     ensures { BinaryLaw }
 {}
 
-/// Zero bits, a one and as many bits as there were zero bits are the code of the number that the one and these bits tell.
+/// Zero bits, a one and as many bits as there were zero bits are the gamma code of the number whose
+/// binary digits are the one and the bits behind it.
 pub fn spelling_law()
     ensures { SpellingLaw }
 {}
 
-/// The codes of a list of numbers, one after another and then zero bits, tell the list.
+/// The gamma codes of a list of numbers, one after another and then zero bits, tell the list.
 pub fn codes_law()
     ensures { CodesLaw }
 {}
@@ -31,7 +32,8 @@ pub fn packed_law()
     ensures { PackedLaw }
 {}
 
-/// The bits that bytes hold are read from them again, and bytes hold one list of bits up to zero bits at the end.
+/// The bits that bytes hold are read from them again, and bytes hold one list of bits up to zero
+/// bits at the end.
 pub fn held_law()
     ensures { HeldLaw }
 {}

@@ -1,4 +1,8 @@
-//! Bits that are written into bytes and read from bytes, one by one and as Elias gamma codes of numbers.
+//! Bits that are written into bytes and read from bytes, one by one and as Elias gamma codes.
+//!
+//! The gamma code of a number from 1 on, with k binary digits, is k - 1 zero bits and then these
+//! digits (P. Elias, "Universal codeword sets and representations of the integers", IEEE
+//! Transactions on Information Theory 21(2), 1975). No code begins another.
 #![tactic(auto)]
 
 mod bits;

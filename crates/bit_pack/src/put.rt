@@ -1,5 +1,5 @@
 // Binary digits that are written into bytes. The first bit is the most significant of the first byte.
-ghost use Rattle.std.specs.Prelude.{◌≡◌, ℕ, ◌+◌, ◌*◌, ◌%◌, ◌^◌, ◌<◌, ◌≤◌, false, ◌++◌, length, replicate, IfOk, OnOk, OnErr};
+ghost use Rattle.std.specs.Prelude.{◌≡◌, ◌+◌, ◌*◌, ◌%◌, ◌^◌, ◌<◌, ◌≤◌, false, ◌++◌, length, replicate, OnOk, OnErr};
 ghost use Rattle.bit_pack.specs.Bits.{low_bits};
 ghost use Rattle.bit_pack.specs.Written.{first_bits, HasRoom, IsFilled, IsFree, Writes};
 
@@ -30,7 +30,7 @@ fn put_part(bytes: &mut [u8], at: usize, part: u8, count: usize)
     bytes[at / 8] = byte + (part << (8 - at % 8 - count));
 }
 
-/// Writes the lowest digits of a number, so many, where the bytes have zero bits. It is done byte by byte.
+/// Writes the lowest digits of a number, so many, byte by byte. The bytes have zero bits there.
 fn put_number(bytes: &mut [u8], from: usize, number: u64, count: usize)
     requires free { IsFree bytes.old from }
     requires few { length bytes.old < 2 ^ 60 }
@@ -49,7 +49,7 @@ fn put_number(bytes: &mut [u8], from: usize, number: u64, count: usize)
     }
 }
 
-/// Writes zero bits and then the lowest digits of a number behind the bits that the bytes are filled with.
+/// Writes zero bits and then the lowest digits of a number behind the bits that are there.
 pub fn append(
     bytes: &mut Vec<u8>,
     at: u32,
@@ -61,7 +61,9 @@ pub fn append(
     requires few { at < 2 ^ 31 }
     requires zeros { zeros < 64 }
     requires digits { digits ≤ 64 }
-    ensures bits { OnOk result (first_bits bytes.new.items (at + (zeros + digits)) ≡ first_bits bytes.old.items at ++ (replicate zeros false ++ low_bits digits number)) }
+    ensures bits { OnOk result
+        (first_bits bytes.new.items (at + (zeros + digits))
+        ≡ first_bits bytes.old.items at ++ (replicate zeros false ++ low_bits digits number)) }
     ensures filled { OnOk result (IsFilled bytes.new.items (at + (zeros + digits))) }
     ensures err { OnErr result (bytes.new.items ≡ bytes.old.items) }
 {

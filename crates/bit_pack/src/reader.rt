@@ -31,7 +31,7 @@ impl<'a> Model for BitReader<'a> {
 }
 
 impl<'a> BitReader<'a> {
-    /// Opens a reader of the bits of `bytes`.
+    /// Opens a reader of the bits of `bytes`. It reads nothing yet.
     pub fn new(bytes: &'a [u8]) -> BitReader<'a>
         requires { length bytes.now < 2 ^ 60 }
         ensures { result ≡ record { at = 0; left = bits_of bytes.now } }
@@ -62,10 +62,10 @@ impl<'a> BitReader<'a> {
         Ok(bit)
     }
 
-    /// Reads the gamma code of a number that is at most `most`.
+    /// Reads the Elias gamma code of a number from 1 to `most`.
     ///
-    /// A code of a larger number is told as `TooLarge`, also where the number has more than 64 binary digits; a code that
-    /// is cut off is told as `Ended`. The zeros and the digits are read byte by byte.
+    /// A whole code of a larger number is a `TooLarge`, also where the number has more than 64 binary
+    /// digits. A code that is cut off is an `Ended`. Zeros and digits are read byte by byte.
     pub fn gamma(&mut self, most: u64) -> Result<u64, BitFault>
         requires { most < 2 ^ 63 }
         ensures number { IfOk result (λ n. n ≤ most) }

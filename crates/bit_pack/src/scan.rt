@@ -1,5 +1,5 @@
 // Bits of bytes by their places. The first is the most significant bit of the first byte.
-ghost use Rattle.std.specs.Prelude.{◌≡◌, ℕ, ◌+◌, ◌-◌, ◌*◌, ◌%◌, ◌^◌, ◌<◌, ◌≤◌, ◌↔◌, false, ◌∷◌, length, take, drop, replicate, MatchOption, IsTrue};
+ghost use Rattle.std.specs.Prelude.{◌≡◌, ◌+◌, ◌-◌, ◌*◌, ◌%◌, ◌^◌, ◌<◌, ◌≤◌, ◌↔◌, false, ◌∷◌, length, take, drop, replicate, MatchOption, IsTrue};
 ghost use Rattle.bit_pack.specs.Bits.{bits_of, number};
 ghost use Rattle.bit_pack.specs.Reading.{IsNextOne, IsPadding};
 
@@ -14,7 +14,9 @@ pub fn bit_at(bytes: &[u8], at: usize) -> bool
 /// How many zero bits stand before the first one in bytes.
 fn leading_zeros(bytes: &[u8]) -> Option<usize>
     requires { length bytes.now < 2 ^ 60 }
-    ensures { MatchOption result (bits_of bytes.now ≡ replicate (8 * length bytes.now) false) (IsNextOne (bits_of bytes.now) 0) }
+    ensures { MatchOption result
+        (bits_of bytes.now ≡ replicate (8 * length bytes.now) false)
+        (IsNextOne (bits_of bytes.now) 0) }
 {
     let mut zeros = 0;
     for byte in bytes {
@@ -30,7 +32,9 @@ fn leading_zeros(bytes: &[u8]) -> Option<usize>
 pub fn next_one(bytes: &[u8], from: usize) -> Option<usize>
     requires few { length bytes.now < 2 ^ 60 }
     requires inside { from ≤ 8 * length bytes.now }
-    ensures { MatchOption result (drop from (bits_of bytes.now) ≡ replicate (8 * length bytes.now - from) false) (IsNextOne (bits_of bytes.now) from) }
+    ensures { MatchOption result
+        (drop from (bits_of bytes.now) ≡ replicate (8 * length bytes.now - from) false)
+        (IsNextOne (bits_of bytes.now) from) }
 {
     let first = from / 8;
     if first == bytes.len() {

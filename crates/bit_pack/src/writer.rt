@@ -1,16 +1,16 @@
 // A writer of bits and gamma codes.
-ghost use Rattle.std.specs.Prelude.{◌≡◌, ℕ, ◌+◌, ◌^◌, ◌<◌, ◌≤◌, false, [], ◌∷◌, ◌++◌, length, replicate, OnOk, OnErr};
+ghost use Rattle.std.specs.Prelude.{◌≡◌, ◌+◌, ◌^◌, ◌<◌, ◌≤◌, false, [], ◌∷◌, ◌++◌, length, replicate, OnOk, OnErr};
 ghost use Rattle.bit_pack.specs.Bits.{low_bits};
-ghost use Rattle.bit_pack.specs.Gamma.{digits, gamma};
+ghost use Rattle.bit_pack.specs.Gamma.{gamma};
 
 use crate::bits::Bits;
 use crate::put::append;
 use std::alloc::{AllocError, Global};
 use std::marker::Model;
 
-/// Bits that are written one after another. A caller sees it as the list of the bits that are written.
+/// A writer of bits, one after another. A caller sees it as the list of the bits that it has written.
 ///
-/// Where memory is refused, nothing is written.
+/// It takes a byte for each eight bits. Before a bit or a code, fewer than 2^31 bits have been written.
 #[derive(Drop)]
 pub struct BitWriter {
     bytes: Vec<u8>,
@@ -39,7 +39,7 @@ impl BitWriter {
         }
     }
 
-    /// Writes one bit.
+    /// Writes one bit. The only error is that memory is refused.
     pub fn bit(&mut self, b: bool) -> Result<(), AllocError>
         requires { length self.old < 2 ^ 31 }
         ensures ok { OnOk result (self.new ≡ self.old ++ b ∷ []) }
@@ -49,7 +49,10 @@ impl BitWriter {
         self.write(0, b as u64, 1)
     }
 
-    /// Writes the gamma code of a number. It reserves its room once, and puts the digits byte by byte.
+    /// Writes the Elias gamma code of a number from 1 on: with k binary digits, 2k - 1 bits.
+    ///
+    /// The only error is that memory is refused, and then none of the code is written: its room is
+    /// reserved once. Zeros and digits are put byte by byte.
     pub fn gamma(&mut self, n: u64) -> Result<(), AllocError>
         requires from_one { 1 ≤ n }
         requires room { length self.old < 2 ^ 31 }
