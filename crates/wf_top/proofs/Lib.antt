@@ -3,6 +3,7 @@ pub mod Stages
 pub mod OneOutcome
 pub mod OneFault
 pub mod OneText
+pub mod CompositeLines
 pub mod SpecSteps
 pub mod LeadsDown
 pub mod Answering

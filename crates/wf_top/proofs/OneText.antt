@@ -27,7 +27,7 @@ one_choice : (g : Grammar) (m j k : ℕ) → IsChoice g m j → IsChoice g m k �
 one_choice g m j k p q = let a = p.1 k q.0 in let b = q.1 j p.0 in omega arith
 
 -- a head is composite
-composite_from : (g : Grammar) (m : ℕ) → is_composite g m ≡ true → IsComposite g m
+pub composite_from : (g : Grammar) (m : ℕ) → is_composite g m ≡ true → IsComposite g m
 composite_from g m t =
     let r = some_gives (λ (r : Production). r.head == m) g.productions t in
     let k = in_rule g r.0 r.1 in

@@ -102,7 +102,7 @@ fn put_form<E: Sink>(err: &mut E, fault: FormFault) -> Result<(), Failed>
 }
 
 /// The name of a module, and none past the end.
-fn module_name(g: &Grammar, m: ModNo) -> &[u8]
+pub fn module_name(g: &Grammar, m: ModNo) -> &[u8]
     ensures { result.now ≡ (module_at g.now.core m.0).name }
 {
     match g.modules().get(m.0 as usize) {
