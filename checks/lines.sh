@@ -10,8 +10,8 @@ lines() {
 
 for crate in $(sed -e 's/#.*//' crates.txt | awk -F: 'NF > 1 { print $1 }'); do
     folder=crates/$crate
-    code=$(lines "$folder/src" -name '*.rt' ! -name 'tests*.rt')
-    tests=$(lines "$folder/src" -name 'tests*.rt')
+    code=$(lines "$folder/src" -name '*.rt' ! -name '*tests.rt')
+    tests=$(lines "$folder/src" -name '*tests.rt')
     specs=$(lines "$folder/specs" -name '*.antt') || specs=0
     proofs=$(lines "$folder/proofs" -name '*.antt') || proofs=0
     edits=$(find "$folder/must-fail" -name '*.edit' 2>/dev/null | wc -l) || edits=0

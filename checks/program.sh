@@ -59,6 +59,29 @@ check "an unknown command is a usage" \
 check "a word that is not UTF-8 is a usage" \
     says 1 'usage: wfprov COMMAND WORDS\n' trace $'\xff' $line/view $line/events $line/queries
 
+# Whether a specification is accepted with the text that stands beside it.
+checks() {
+    run check "examples/$1/spec" && ended 0 "examples/$1/check" "$nothing"
+}
+
+check "the line specification is accepted" checks line
+check "the phylogeny of one step is accepted" checks phylogeny-once
+check "a command with a word too many is a usage" says 1 'usage: wfprov COMMAND WORDS\n' check $line/spec more
+check "an absent specification is a fault of reading" says 3 'fault: reading spec\n' check "$work/absent"
+
+# The line specification with one text in place of another.
+line_but() {
+    sed "s/$2/$3/" $line/spec >"$work/$1"
+    echo "$work/$1"
+}
+
+check "a form is told by its member" says 2 'refused: spec: WrongShape modules\n' check "$(line_but shape '\["y"\]' '"y"')"
+check "a name is told by its place" says 2 'refused: spec: NameBad module 1\n' check "$(line_but name '"name":"P"' '"name":"P!"')"
+check "an unknown port is told by its production" \
+    says 2 'refused: spec: UnknownPort production 0\n' check "$(line_but port '"u.y","v.x"' '"u.z","v.x"')"
+check "a module that is not reached is told by its name" says 2 'refused: spec: Unreachable R\n' \
+    check "$(text reach '{"start":"S","modules":[{"name":"S"},{"name":"R"},{"name":"W"}],"productions":[{"head":"S","body":[["q","W"]]},{"head":"R","body":[["q","W"]]}]}')"
+
 for place in spec view events queries; do
     files=()
     for file in spec view events queries; do
@@ -72,7 +95,7 @@ for place in spec view events queries; do
 done
 check "a folder is a fault of reading" says 3 'fault: reading spec\n' trace $line $line/view $line/events $line/queries
 check "a refused file comes before an absent one" \
-    says 2 'refused: spec: NotBuilt\n' trace "$(text cut '{"start"')" "$work/absent" $line/events $line/queries
+    says 2 'refused: spec: NotJson\n' trace "$(text cut '{"start"')" "$work/absent" $line/events $line/queries
 
 check "a view that is not the default one is refused" \
     says 2 'refused: view: NotBuilt\n' trace $line/spec "$(text shut '{"expand":[]}')" $line/events $line/queries
@@ -108,7 +131,7 @@ spaces() {
 }
 
 check "a specification that is too long is refused" \
-    says 2 'refused: spec: NotBuilt\n' trace "$(spaces long 16777217)" $line/view $line/events $line/queries
+    says 2 'refused: spec: TooLong\n' trace "$(spaces long 16777217)" $line/view $line/events $line/queries
 
 # The program starts within this limit, and has no room for the file.
 wanting() {

@@ -1,16 +1,15 @@
 -- Wirings and the parts that they are of: what they say of links is the same.
-use Rattle.std.proofs.Common.{◌≡◌, ◌↔◌, ℕ, ◌<◌, ◌≤◌, List, [], ◌∷◌, ◌++◌, length, get_or, map, bytes_eq, refl, sym, ap, subst, ◌∙◌, inl, inr, ⊎_elim, arith}
+use Rattle.std.proofs.Common.{◌≡◌, ◌↔◌, ℕ, ◌<◌, ◌≤◌, List, [], ◌∷◌, ◌++◌, length, map, refl, sym, ap, subst, ◌∙◌, ⊎_elim}
 use Rattle.std.proofs.lemmas.List.{length-map}
 use Rattle.wf_model.specs.declared.body.Edge.{Edge as EdgeHeld}
 use Rattle.wf_model.specs.declared.parts.ProdPart.{ProdPart}
-use Rattle.wf_model.specs.declared.parts.PosPart.{PosPart}
 use Rattle.wf_model.specs.declared.parts.EdgePart.{EdgePart}
 use Rattle.wf_model.specs.declared.parts.EntryPart.{EntryPart}
 use Rattle.wf_model.specs.declared.parts.ExitPart.{ExitPart}
 use Rattle.wf_model.specs.Lists.{IsIn, AllDiffer}
 use Rattle.wf_model.specs.Grammar.{Module, Position, Inner, Edge}
 use Rattle.wf_model.specs.Meaning.{position_of, inner_of, edge_of}
-use Rattle.wf_model.proofs.Lists.{in_append_left, in_append_right, in_append_cases, in_map, in_map_from}
+use Rattle.wf_model.proofs.Lists.{in_append_cases, in_map_from}
 use Rattle.wf_spec.specs.declared.wiring.Entry.{Entry}
 use Rattle.wf_spec.specs.declared.wiring.Exit.{Exit}
 use Rattle.wf_spec.specs.declared.wiring.Wiring.{Wiring}
@@ -18,7 +17,7 @@ use Rattle.wf_spec.specs.Forming.{place_of, names_of, module_in, placed, body_in
 use Rattle.wf_spec.specs.Graphs.{IsAcyclic}
 use Rattle.wf_spec.specs.Resolving.{AreOfModules, IsInputIn, IsOutputIn}
 use Rattle.wf_spec.specs.Rules.{fed, used, entered, left, HasKnownModules, HasKnownPorts, IsLinkedAtMostOnce, IsLinkedAtLeastOnce, HasNoCycle}
-use Rattle.wf_spec.specs.Wiring.{entry_of, exit_of, entry_link, exit_link, IsWiringOf, body_of, head_of, fed_by, used_by, entered_by, left_by, IsWithin, IsWiredAtMostOnce, IsWiredAtLeastOnce, IsWiredForward}
+use Rattle.wf_spec.specs.Wiring.{entry_of, exit_of, entry_link, exit_link, IsWiringOf, head_of, fed_by, used_by, entered_by, left_by, IsWithin, IsWiredAtMostOnce, IsWiredAtLeastOnce, IsWiredForward}
 use Rattle.wf_spec.proofs.Finding.{place_within}
 use Rattle.wf_spec.proofs.Lawful.{number_below}
 use Rattle.wf_spec.proofs.Numbered.{numbers_differ, numbers_all}
@@ -33,10 +32,10 @@ through : {A B C D : Type 0} (f : A → C) (g : B → C) (h : C → D) (k : A �
 through f g h k l xs ys before after same = sym (map_after h f k before xs) ∙ (ap (map h) same ∙ map_after h g l after ys)
 
 module _ (modules : List Module) (p : ProdPart) (w : Wiring) (of : IsWiringOf modules p w) where
-  pub head_is : head_of modules w ≡ head_in modules p
+  head_is : head_of modules w ≡ head_in modules p
   head_is = ap (module_in modules) of.head
 
-  pub fed_is : fed_by w ≡ fed modules p
+  fed_is : fed_by w ≡ fed modules p
   fed_is =
       ap (λ l. l ++ map (λ (e : Entry). inner_of e.to) w.entries.items)
       (through edge_of (edge_in modules (body_in modules p)) (λ (e : Edge). e.to) (λ (e : EdgeHeld). inner_of e.to) (λ (e : EdgePart). inner_input modules (body_in modules p) e.to)
@@ -45,7 +44,7 @@ module _ (modules : List Module) (p : ProdPart) (w : Wiring) (of : IsWiringOf mo
       (through entry_of (entry_link modules (body_in modules p) (head_in modules p)) (λ (e : ℕ × Inner). e.1) (λ (e : Entry). inner_of e.to) (λ (e : EntryPart). inner_input modules (body_in modules p) e.to)
       w.entries.items p.entries (λ e. refl) (λ e. refl) of.entries)
 
-  pub used_is : used_by w ≡ used modules p
+  used_is : used_by w ≡ used modules p
   used_is =
       ap (λ l. l ++ map (λ (e : Exit). inner_of e.from) w.exits.items)
       (through edge_of (edge_in modules (body_in modules p)) (λ (e : Edge). e.from) (λ (e : EdgeHeld). inner_of e.from) (λ (e : EdgePart). inner_output modules (body_in modules p) e.from)
@@ -54,13 +53,13 @@ module _ (modules : List Module) (p : ProdPart) (w : Wiring) (of : IsWiringOf mo
       (through exit_of (exit_link modules (body_in modules p) (head_in modules p)) (λ (e : Inner × ℕ). e.0) (λ (e : Exit). inner_of e.from) (λ (e : ExitPart). inner_output modules (body_in modules p) e.from)
       w.exits.items p.exits (λ e. refl) (λ e. refl) of.exits)
 
-  pub entered_is : entered_by w ≡ map (place_of (head_in modules p).inputs) (entered p)
+  entered_is : entered_by w ≡ map (place_of (head_in modules p).inputs) (entered p)
   entered_is =
       through entry_of (entry_link modules (body_in modules p) (head_in modules p)) (λ (e : ℕ × Inner). e.0) (λ (e : Entry). e.port.0) (λ (e : EntryPart). place_of (head_in modules p).inputs e.port)
       w.entries.items p.entries (λ e. refl) (λ e. refl) of.entries
       ∙ sym (map_after (place_of (head_in modules p).inputs) (λ (e : EntryPart). e.port) (λ (e : EntryPart). place_of (head_in modules p).inputs e.port) (λ e. refl) p.entries)
 
-  pub left_is : left_by w ≡ map (place_of (head_in modules p).outputs) (left p)
+  left_is : left_by w ≡ map (place_of (head_in modules p).outputs) (left p)
   left_is =
       through exit_of (exit_link modules (body_in modules p) (head_in modules p)) (λ (e : Inner × ℕ). e.1) (λ (e : Exit). e.port.0) (λ (e : ExitPart). place_of (head_in modules p).outputs e.port)
       w.exits.items p.exits (λ e. refl) (λ e. refl) of.exits

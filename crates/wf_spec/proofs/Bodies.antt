@@ -1,69 +1,17 @@
 -- The body of a production by itself, and in a grammar.
-use Rattle.std.proofs.Common.{◌≡◌, ℕ, zero, suc, ◌<◌, ◌≤◌, ◌==◌, Bool, true, false, not, List, [], ◌∷◌, ◌++◌, length, get_or, map, refl, sym, ◌∙◌, subst, inl, inr, ⊎_elim, arith, true≢false}
-use Rattle.std.specs.Prelude.{nat_lt}
-use Rattle.std.specs.List.{list_all}
-use Rattle.std.proofs.lemmas.Bool.Decides.{nat_tests}
+use Rattle.std.proofs.Common.{ℕ, zero, suc, ◌<◌, ◌≤◌, List, [], ◌∷◌, get_or, map, refl, sym, subst, inl, inr, ⊎_elim, arith}
 use Rattle.std.proofs.lemmas.List.{length-map}
 use Rattle.wf_model.specs.Lists.{IsIn, IsAt}
-use Rattle.wf_model.specs.Grammar.{Grammar, Module, Position, Inner, Edge, production_at, inputs_of, outputs_of, body_of}
-use Rattle.wf_model.specs.Faults.{is_short_name, some_twice}
-use Rattle.wf_model.specs.WellFormed.{IsShortName, IsWellFormedModule, IsInnerInput, IsInnerOutput, IsWellFormedBody}
-use Rattle.wf_model.proofs.Lists.{in_append_left, in_append_right, in_append_cases, in_map, in_map_from, at_in, is_at}
-use Rattle.wf_spec.specs.Ends.{IsPortOf, HaveFew, AreMetOnce}
-use Rattle.wf_spec.specs.Forming.{module_in}
-use Rattle.wf_spec.specs.Bodies.{names_at, modules_at, inputs_in, outputs_in, HasPlaces, IsBody}
-use Rattle.wf_spec.proofs.Ends.{all_gives, all_from, position_below}
-use Rattle.wf_spec.proofs.Sides.{short_name, name_short, differ_gives}
-
-below_gives : (n m : ℕ) → nat_lt m n ≡ true → m < n
-below_gives n m h = grind (arith, nat_tests)
-
-below_from : (n m : ℕ) → m < n → nat_lt m n ≡ true
-below_from n m h = grind (arith, nat_tests)
-
-pub modules_below : (n : ℕ) (ms : List ℕ) → list_all (λ m. nat_lt m n) ms ≡ true → (m : ℕ) → IsIn m ms → m < n
-modules_below n ms h m i = below_gives n m (all_gives (λ k. nat_lt k n) ms h m i)
-
-pub below_modules : (n : ℕ) (ms : List ℕ) → ((m : ℕ) → IsIn m ms → m < n) → list_all (λ m. nat_lt m n) ms ≡ true
-below_modules n ms h = all_from (λ k. nat_lt k n) ms (λ m i. below_from n m (h m i))
-
--- the tests of positions
-pub places_give : (modules : ℕ) (qs : List Position) (b : Bool) → 0 < length qs → list_all (λ m. nat_lt m modules) (modules_at qs) ≡ true → list_all is_short_name (names_at qs) ≡ true → b ≡ not (some_twice [] (names_at qs)) → b ≡ true → HasPlaces modules qs
-places_give modules qs b some w s e t = record {
-  some_position = some;
-  within = modules_below modules (modules_at qs) w;
-  names = λ q i. short_name q.name (all_gives is_short_name (names_at qs) s q.name (in_map (λ (p : Position). p.name) q qs i));
-  names_differ = differ_gives (names_at qs) b e t;
-}
-
-pub short_places : (modules : ℕ) (qs : List Position) → HasPlaces modules qs → list_all is_short_name (names_at qs) ≡ true
-short_places modules qs h =
-    all_from is_short_name (names_at qs) (λ n i. (let r = in_map_from (λ (p : Position). p.name) n qs i in name_short n (subst IsShortName (sym r.2) (h.names r.0 r.1))))
-
-few_in : (ms : List Module) → ((m : Module) → IsIn m ms → IsWellFormedModule m) → (m : ℕ) → m < length ms → IsWellFormedModule (module_in ms m)
-few_in ms h m l = let d : Module = record { name = []; inputs = []; outputs = [] } in h (module_in ms m) (at_in (get_or ms m d) m ms (is_at m ms d l))
+use Rattle.wf_model.specs.Grammar.{Grammar, Position, Inner, Edge, production_at, inputs_of, outputs_of, body_of}
+use Rattle.wf_model.specs.WellFormed.{IsInnerInput, IsInnerOutput, IsWellFormedBody}
+use Rattle.wf_model.proofs.Lists.{in_append_left, in_append_right, in_append_cases, in_map, in_map_from}
+use Rattle.wf_spec.specs.Ends.{IsPortOf, HaveFew}
+use Rattle.wf_spec.specs.Bodies.{inputs_in, outputs_in, IsBody}
 
 pub few_of : (f : ℕ → ℕ) (ms : List ℕ) → ((m : ℕ) → IsIn m ms → f m ≤ 64) → HaveFew (map f ms)
 few_of f [] h k = omega arith
 few_of f (m ∷ ms) h zero = h m (inl refl)
 few_of f (m ∷ ms) h (suc k) = few_of f ms (λ x i. h x (inr i)) k
-
-pub few_inputs_at : (ms : List Module) (body : List ℕ) → ((m : Module) → IsIn m ms → IsWellFormedModule m) → ((m : ℕ) → IsIn m body → m < length ms) → HaveFew (map (inputs_in ms) body)
-few_inputs_at ms body h w = few_of (inputs_in ms) body (λ m i. (let r = few_in ms h m (w m i) in r.few_inputs))
-
-pub few_outputs_at : (ms : List Module) (body : List ℕ) → ((m : Module) → IsIn m ms → IsWellFormedModule m) → ((m : ℕ) → IsIn m body → m < length ms) → HaveFew (map (outputs_in ms) body)
-few_outputs_at ms body h w = few_of (outputs_in ms) body (λ m i. (let r = few_in ms h m (w m i) in r.few_outputs))
-
--- ends of edges stand at positions
-pub to_below : (f : ℕ → ℕ) (qs : List Position) (edges : List Edge) (others : List Inner) → AreMetOnce (map f (modules_at qs)) (map (λ (e : Edge). e.to) edges ++ others) → (e : Edge) → IsIn e edges → e.to.position < length qs
-to_below f qs edges others m e i =
-    let h = m.within e.to (in_append_left e.to (map (λ (x : Edge). x.to) edges) others (in_map (λ (x : Edge). x.to) e edges i)) in
-    subst (λ n. e.to.position < n) (length-map (modules_at qs) f ∙ length-map qs (λ (q : Position). q.module_no)) (position_below (map f (modules_at qs)) e.to h)
-
-pub from_below : (f : ℕ → ℕ) (qs : List Position) (edges : List Edge) (others : List Inner) → AreMetOnce (map f (modules_at qs)) (map (λ (e : Edge). e.from) edges ++ others) → (e : Edge) → IsIn e edges → e.from.position < length qs
-from_below f qs edges others m e i =
-    let h = m.within e.from (in_append_left e.from (map (λ (x : Edge). x.from) edges) others (in_map (λ (x : Edge). x.from) e edges i)) in
-    subst (λ n. e.from.position < n) (length-map (modules_at qs) f ∙ length-map qs (λ (q : Position). q.module_no)) (position_below (map f (modules_at qs)) e.from h)
 
 port_at : (f : ℕ → ℕ) (body : List ℕ) (k p : ℕ) → p < get_or (map f body) k 0 → (m : ℕ) × IsAt m k body × (p < f m)
 port_at f [] k p h = absurd (omega arith)
@@ -132,7 +80,3 @@ body_gives g p b = record {
 
     out : (i : Inner) → IsInnerOutput g p i → IsPortOf (map (outputs_in g.modules) (body_of g p)) i
     out i h = at_port (outputs_of g) (body_of g p) i.position i.port h.0 h.1 h.2
-
-pub some_there : {A B : Type 0} (f : A → B) (xs : List A) (b : Bool) → b ≡ (length xs == 0) → b ≡ false → 0 < length (map f xs)
-some_there f [] b e n = absurd (true≢false (sym e ∙ n))
-some_there f (x ∷ xs) b e n = omega arith

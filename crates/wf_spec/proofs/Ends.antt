@@ -1,17 +1,16 @@
 -- Ends of links at the ports of positions.
-use Rattle.std.proofs.Common.{◌≡◌, ℕ, zero, suc, ◌+◌, ◌*◌, ◌<◌, ◌≤◌, ◌⊎◌, Bool, true, false, cond, ◌&&◌, List, [], ◌∷◌, ◌++◌, take, map, length, get_or, set, refl, sym, ap, ◌∙◌, inl, inr, ⊎_elim, arith, true≢false}
-use Rattle.std.specs.Prelude.{◌==◌, count_by}
+use Rattle.std.proofs.Common.{◌≡◌, ℕ, zero, suc, ◌+◌, ◌<◌, ◌≤◌, ◌⊎◌, Bool, true, false, cond, ◌&&◌, List, [], ◌∷◌, ◌++◌, take, map, length, get_or, set, refl, sym, ap, ◌∙◌, inl, inr, ⊎_elim, arith, true≢false}
+use Rattle.std.specs.Prelude.{◌==◌}
 use Rattle.std.specs.List.{list_all}
 use Rattle.std.proofs.lemmas.Bool.Decides.{nat_tests}
 use Rattle.std.proofs.lemmas.List.{get_or-set_same, get_or-set_other, length-set, take_more, take-map, map-append}
-use Rattle.std.proofs.lemmas.List.Sums.{sum_by-cons, sum_by_push, sum_by-take-le}
+use Rattle.std.proofs.lemmas.List.Sums.{sum_by_push, sum_by-take-le}
 use Rattle.wf_model.specs.Lists.{IsIn}
 use Rattle.wf_model.specs.Grammar.{Inner}
-use Rattle.wf_model.specs.WellFormed.{same_inner}
 use Rattle.wf_model.specs.Meaning.{inner_of}
 use Rattle.wf_model.specs.declared.body.Inner.{Inner as InnerHeld}
 use Rattle.wf_model.proofs.Lists.{in_map, at_in, is_at}
-use Rattle.wf_spec.specs.Ends.{IsPortOf, is_port_of, HaveFew, AreMetOnce, place_of, ends_at, IsTable, IsTwice}
+use Rattle.wf_spec.specs.Ends.{IsPortOf, HaveFew, place_of, ends_at, IsTable, IsTwice}
 
 pub all_gives : {A : Type 0} (p : A → Bool) (xs : List A) → list_all p xs ≡ true → (x : A) → IsIn x xs → p x ≡ true
 all_gives p [] h x i = absurd i
@@ -33,12 +32,6 @@ same_or_not a b = go (a == b) refl
     go true e = inl (grind (arith, nat_tests))
     go false e = inr (λ (d : a ≡ b). (let z : a == b ≡ true = grind (arith, nat_tests) in true≢false (sym z ∙ e)))
 
-pub port_gives : (counts : List ℕ) (i : Inner) → is_port_of counts i ≡ true → IsPortOf counts i
-port_gives counts i h = grind (arith, nat_tests)
-
-pub port_from : (counts : List ℕ) (i : Inner) → IsPortOf counts i → is_port_of counts i ≡ true
-port_from counts i h = grind (arith, nat_tests)
-
 -- a position with a port is in range
 pub position_below : (counts : List ℕ) (i : Inner) → IsPortOf counts i → i.position < length counts
 position_below counts i h = go counts i.position i.port h
@@ -47,9 +40,6 @@ position_below counts i h = go counts i.position i.port h
     go [] k p h = absurd (omega arith)
     go (n ∷ counts) zero p h = omega arith
     go (n ∷ counts) (suc k) p h = let r = go counts k p h in omega arith
-
-pub place_below : (counts : List ℕ) → HaveFew counts → (i : Inner) → IsPortOf counts i → place_of i < length counts * 64
-place_below counts few i h = let r = position_below counts i h in let f = few i.position in omega arith
 
 test_same : (a b : ℕ) → a ≡ b → (a == b) ≡ true
 test_same a b e = grind (arith, nat_tests)
@@ -60,38 +50,6 @@ test_other a b e = go (a == b) refl
     go : (t : Bool) → a == b ≡ t → a == b ≡ false
     go true d = absurd (e (grind (arith, nat_tests)))
     go false d = d
-
--- two ports are the same if their places are
-pub same_place : (i j : Inner) → i.port < 64 → j.port < 64 → same_inner i j ≡ (place_of j == place_of i)
-same_place i j a b =
-    ⊎_elim
-    (λ (e : i.position ≡ j.position). ⊎_elim
-    (λ (f : i.port ≡ j.port). both (test_same i.position j.position e) (test_same i.port j.port f) (test_same (place_of j) (place_of i) (omega arith)))
-    (λ f. by_port (test_other i.port j.port f) (test_other (place_of j) (place_of i) (λ (d : place_of j ≡ place_of i). f (omega arith))))
-    (same_or_not i.port j.port))
-    (λ e. by_position (test_other i.position j.position e) (test_other (place_of j) (place_of i) (λ (d : place_of j ≡ place_of i). e (omega arith))))
-    (same_or_not i.position j.position)
-  where
-    both : (i.position == j.position) ≡ true → (i.port == j.port) ≡ true → (place_of j == place_of i) ≡ true → same_inner i j ≡ (place_of j == place_of i)
-    both e f g = ap (λ x. x && (i.port == j.port)) e ∙ (f ∙ sym g)
-
-    by_position : (i.position == j.position) ≡ false → (place_of j == place_of i) ≡ false → same_inner i j ≡ (place_of j == place_of i)
-    by_position e g = ap (λ x. x && (i.port == j.port)) e ∙ sym g
-
-    by_port : (i.port == j.port) ≡ false → (place_of j == place_of i) ≡ false → same_inner i j ≡ (place_of j == place_of i)
-    by_port f g = last (i.position == j.position) (i.port == j.port) f ∙ sym g
-      where
-        last : (x y : Bool) → y ≡ false → (x && y) ≡ false
-        last true y e = e
-        last false y e = refl
-
-pub same_count : (i : Inner) (ends : List Inner) → i.port < 64 → ((j : Inner) → IsIn j ends → j.port < 64) → count_by (same_inner i) ends ≡ ends_at (place_of i) ends
-same_count i [] a b = refl
-same_count i (j ∷ ends) a b =
-    let p : count_by (same_inner i) (j ∷ ends) ≡ cond {A = ℕ} (same_inner i j) 1 0 + count_by (same_inner i) ends = sum_by-cons _ j ends in
-    let q : ends_at (place_of i) (j ∷ ends) ≡ cond {A = ℕ} (place_of j == place_of i) 1 0 + ends_at (place_of i) ends = sum_by-cons _ j ends in
-    p ∙ (ap (λ t. cond {A = ℕ} t 1 0 + count_by (same_inner i) ends) (same_place i j a (b j (inl refl)))
-    ∙ (ap (λ n. cond {A = ℕ} (place_of j == place_of i) 1 0 + n) (same_count i ends a (λ k h. b k (inr h))) ∙ sym q))
 
 push_count : (n : ℕ) (ends : List Inner) (i : Inner) → ends_at n (ends ++ i ∷ []) ≡ ends_at n ends + cond {A = ℕ} (place_of i == n) 1 0
 push_count n ends i = sum_by_push (λ (j : Inner). cond {A = ℕ} (place_of j == n) 1 0) ends i
@@ -127,31 +85,6 @@ table_twice p marks ends all i k t on e h =
 
 pub few_port : (counts : List ℕ) → HaveFew counts → (i : Inner) → IsPortOf counts i → i.port < 64
 few_port counts few i h = let f = few i.position in omega arith
-
--- an end that stands twice at a port breaks the rule
-pub once_not_twice : (counts : List ℕ) (ends : List Inner) → HaveFew counts → AreMetOnce counts ends → IsTwice ends → ⊥
-once_not_twice counts ends few m t =
-    let i = t.0 in
-    let c = same_count i ends (few_port counts few i (m.within i t.1)) (λ j h. few_port counts few j (m.within j h)) in
-    let o = m.once i (m.within i t.1) in
-    let two = t.2 in
-    omega arith
-
-pub met_from : (p : ℕ) (counts : List ℕ) (ends : List Inner) (marks : List Bool) → HaveFew counts → ((i : Inner) → IsIn i ends → IsPortOf counts i) → IsTable p marks ends → ((i : Inner) → IsPortOf counts i → get_or marks (place_of i) false ≡ true) → AreMetOnce counts ends
-met_from p counts ends marks few w t s = record {
-  within = w;
-  once = λ i h. same_count i ends (few_port counts few i h) (λ j k. few_port counts few j (w j k)) ∙ (t.each (place_of i) ∙ ap (λ b. cond {A = ℕ} b 1 0) (s i h));
-}
-
-pub met_gives : (p : ℕ) (counts : List ℕ) (ends : List Inner) (marks : List Bool) → HaveFew counts → IsTable p marks ends → AreMetOnce counts ends → (i : Inner) → IsPortOf counts i → get_or marks (place_of i) false ≡ true
-met_gives p counts ends marks few t m i h = go (get_or marks (place_of i) false) refl
-  where
-    one : ends_at (place_of i) ends ≡ 1
-    one = sym (same_count i ends (few_port counts few i h) (λ j k. few_port counts few j (m.within j k))) ∙ m.once i h
-
-    go : (b : Bool) → get_or marks (place_of i) false ≡ b → get_or marks (place_of i) false ≡ true
-    go true e = e
-    go false e = absurd (let z : ends_at (place_of i) ends ≡ 0 = t.each (place_of i) ∙ ap (λ c. cond {A = ℕ} c 1 0) e in let o = one in omega arith)
 
 pub there : (xs : List InnerHeld) (k : ℕ) (d : InnerHeld) → k < length xs → IsIn (inner_of (get_or xs k d)) (map inner_of xs)
 there xs k d h = in_map inner_of (get_or xs k d) xs (at_in (get_or xs k d) k xs (is_at k xs d h))

@@ -1,5 +1,5 @@
 -- The fault of parts, by the group of rules in which it is found.
-use Rattle.std.proofs.Common.{◌≡◌, ◌⊎◌, List, ℕ, sym, ap, ◌∙◌, subst, inl, inr, ⊎_elim}
+use Rattle.std.proofs.Common.{◌≡◌, ◌⊎◌, List, ℕ, sym, ap, ◌∙◌, inl, inr, ⊎_elim}
 use Rattle.wf_model.specs.declared.parts.Parts.{Parts}
 use Rattle.wf_model.specs.Grammar.{Module}
 use Rattle.wf_spec.specs.declared.fault.FormFault.{FormFault}

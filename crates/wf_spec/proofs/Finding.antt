@@ -1,8 +1,8 @@
 -- Places of names.
-use Rattle.std.proofs.Common.{◌≡◌, ℕ, suc, ◌+◌, ◌<◌, ◌≤◌, Bool, true, false, cond, nat_lt, not, List, [], ◌∷◌, get_or, map, length, Option, Some, None, bytes_eq, refl, sym, ap, ◌∙◌, subst, inl, inr, arith}
+use Rattle.std.proofs.Common.{◌≡◌, ℕ, suc, ◌+◌, ◌<◌, ◌≤◌, Bool, true, false, cond, nat_lt, not, List, [], ◌∷◌, map, length, Option, Some, None, bytes_eq, refl, sym, ◌∙◌, subst, inl, inr, arith}
 use Rattle.std.specs.Prelude.{MatchOption, position}
 use Rattle.std.proofs.lemmas.Bool.{ltb-true, ltb-false}
-use Rattle.std.proofs.lemmas.List.{length-map, get_or-map}
+use Rattle.std.proofs.lemmas.List.{length-map}
 use Rattle.wf_names.proofs.Found.{position_through}
 use Rattle.wf_model.specs.Lists.{IsIn}
 use Rattle.wf_model.proofs.Lists.{same_bytes, bytes_same}
@@ -59,21 +59,3 @@ place_within (n ∷ names) name (inr h) = by (bytes_eq name n) (place_within nam
     by : (b : Bool) → place_of names name < length names → cond (not b) (1 + place_of names name) 0 < suc (length names)
     by true r = omega arith
     by false r = omega arith
-
--- a name without a place is not there
-pub not_in : {A : Type 0} (f : A → List ℕ) (xs : List A) (name : List ℕ) (answer : Option ℕ) → answer ≡ position (λ x. bytes_eq name (f x)) xs → answer ≡ None
-    → IsIn name (map f xs) → ⊥
-not_in f xs name answer is none here =
-    let a = place_within (map f xs) name here in
-    let b = absent_in f xs name answer is none in
-    absurd (omega (arith, length-map xs f))
-
--- what the thing of this name gives
-pub first_gives : {A B : Type 0} (f : A → B) (g : A → List ℕ) (xs : List A) (name : List ℕ) (k : ℕ) (x : A) (d : B) → k ≡ place_of (map g xs) name → k < length xs → x ≡ get_or xs k x
-    → get_or (map f xs) (place_of (map g xs) name) d ≡ f x
-first_gives f g xs name k x d place inside was =
-    ap (λ j. get_or (map f xs) j d) (sym place) ∙ get_or-map f xs k x d inside ∙ ap f (sym was)
-
--- a thing of this name is there
-pub place_there : {A : Type 0} (g : A → List ℕ) (xs : List A) (name : List ℕ) (k : ℕ) → k ≡ place_of (map g xs) name → k < length xs → IsIn name (map g xs)
-place_there g xs name k place inside = is_in_place (map g xs) name (omega (arith, length-map xs g))

@@ -1,38 +1,12 @@
 -- What well-formed parts give to each production.
-use Rattle.std.proofs.Common.{◌≡◌, ℕ, ◌<◌, List, map, length, get_or, sym, ap, ◌∙◌, subst}
+use Rattle.std.proofs.Common.{◌≡◌, ℕ, ◌<◌, List, map, length, get_or, ap, ◌∙◌, subst}
 use Rattle.std.proofs.lemmas.List.{length-map, get_or_default}
 use Rattle.wf_model.specs.declared.body.Position.{Position as PositionHeld}
-use Rattle.wf_model.specs.declared.parts.Parts.{Parts}
 use Rattle.wf_model.specs.declared.parts.PosPart.{PosPart}
 use Rattle.wf_model.specs.Meaning.{position_of}
 use Rattle.wf_model.specs.declared.parts.ProdPart.{ProdPart}
-use Rattle.wf_model.specs.declared.parts.EdgePart.{EdgePart}
-use Rattle.wf_model.specs.declared.parts.EntryPart.{EntryPart}
-use Rattle.wf_model.specs.declared.parts.ExitPart.{ExitPart}
-use Rattle.wf_model.specs.Lists.{IsIn}
 use Rattle.wf_model.specs.Grammar.{Module, Position, Production}
-use Rattle.wf_spec.specs.Forming.{place_of, names_of, modules_of, placed, module_in, body_in, head_in, edge_in, entry_in, exit_in, production_in, NamesEach, HasItsLinks}
-use Rattle.wf_spec.specs.Resolving.{IsInputIn, IsOutputIn, IsEdgeIn, AreLinksIn, IsFit, AreFound}
-
-pub edges_of : (modules : List Module) (body : List Position) (head : Module) (p : ProdPart) (parts : List EdgePart) → parts ≡ p.edges → AreLinksIn modules body head p
-    → (e : EdgePart) → IsIn e parts → IsEdgeIn modules body e
-edges_of modules body head p parts is fit = subst (λ (es : List EdgePart). (e : EdgePart) → IsIn e es → IsEdgeIn modules body e) (sym is) fit.edges
-
-pub entries_of : (modules : List Module) (body : List Position) (head : Module) (p : ProdPart) (ports : List (List ℕ)) (parts : List EntryPart) → ports ≡ head.inputs → parts ≡ p.entries
-    → AreLinksIn modules body head p
-    → NamesEach ports (map (λ (e : EntryPart). e.port) parts) × ((n : List ℕ) → IsIn n ports → IsInputIn modules body (entry_in modules body parts n))
-entries_of modules body head p ports parts same is fit =
-    subst (λ (ns : List (List ℕ)). NamesEach ns (map (λ (e : EntryPart). e.port) parts) × ((n : List ℕ) → IsIn n ns → IsInputIn modules body (entry_in modules body parts n))) (sym same)
-    (subst (λ (es : List EntryPart). NamesEach head.inputs (map (λ (e : EntryPart). e.port) es) × ((n : List ℕ) → IsIn n head.inputs → IsInputIn modules body (entry_in modules body es n))) (sym is)
-    (fit.entries_named, fit.entries))
-
-pub exits_of : (modules : List Module) (body : List Position) (head : Module) (p : ProdPart) (ports : List (List ℕ)) (parts : List ExitPart) → ports ≡ head.outputs → parts ≡ p.exits
-    → AreLinksIn modules body head p
-    → NamesEach ports (map (λ (e : ExitPart). e.port) parts) × ((n : List ℕ) → IsIn n ports → IsOutputIn modules body (exit_in modules body parts n))
-exits_of modules body head p ports parts same is fit =
-    subst (λ (ns : List (List ℕ)). NamesEach ns (map (λ (e : ExitPart). e.port) parts) × ((n : List ℕ) → IsIn n ns → IsOutputIn modules body (exit_in modules body parts n))) (sym same)
-    (subst (λ (es : List ExitPart). NamesEach head.outputs (map (λ (e : ExitPart). e.port) es) × ((n : List ℕ) → IsIn n head.outputs → IsOutputIn modules body (exit_in modules body es n))) (sym is)
-    (fit.exits_named, fit.exits))
+use Rattle.wf_spec.specs.Forming.{place_of, names_of, placed, module_in, body_in, head_in, edge_in, entry_in, exit_in, production_in}
 
 same_production : (p q : Production) → p.head ≡ q.head → p.positions ≡ q.positions → p.edges ≡ q.edges → p.entries ≡ q.entries → p.exits ≡ q.exits → p ≡ q
 same_production p q head positions edges entries exits =
@@ -69,18 +43,3 @@ read_head modules names part name k m numbered is place inside was =
 
     below : k < length modules
     below = subst (λ n. k < n) (ap length numbered ∙ length-map modules (λ (r : Module). r.name)) inside
-
--- what a production part has
-pub has_links : (modules : List Module) (part : ProdPart) (head : Module) → head ≡ head_in modules part → NamesEach head.inputs (map (λ (e : EntryPart). e.port) part.entries)
-    → NamesEach head.outputs (map (λ (e : ExitPart). e.port) part.exits) → HasItsLinks modules part
-has_links modules part head at entries exits = record {
-  entries = subst (λ (m : Module). NamesEach m.inputs (map (λ (e : EntryPart). e.port) part.entries)) at entries;
-  exits = subst (λ (m : Module). NamesEach m.outputs (map (λ (e : ExitPart). e.port) part.exits)) at exits;
-}
-
--- the productions of parts whose names are found, as they are read
-pub productions_of : (parts : Parts) (modules : List Module) (list : List ProdPart) → modules ≡ modules_of parts → list ≡ parts.productions → AreFound parts
-    → (p : ProdPart) → IsIn p list → IsFit modules p
-productions_of parts modules list same is found =
-    subst (λ (ps : List ProdPart). (p : ProdPart) → IsIn p ps → IsFit modules p) (sym is)
-    (subst (λ (ms : List Module). (p : ProdPart) → IsIn p parts.productions → IsFit ms p) (sym same) found.productions)

@@ -7,7 +7,6 @@ pub mod Ends
 pub mod Faults
 pub mod Finding
 pub mod Fitting
-pub mod Formed
 pub mod Graphs
 pub mod Heads
 pub mod Kept

@@ -1,10 +1,10 @@
 -- Links of a body and its head: ends as they are read, and the head as a single position.
-use Rattle.std.proofs.Common.{◌≡◌, ◌↔◌, ℕ, zero, suc, ◌<◌, ◌≤◌, Bool, true, false, IsTrue, List, [], ◌∷◌, length, get_or, map, refl, sym, ap, subst, ◌∙◌, inl, inr, arith, true≢false}
+use Rattle.std.proofs.Common.{◌≡◌, ◌↔◌, ℕ, zero, suc, ◌<◌, ◌≤◌, Bool, true, false, IsTrue, List, [], ◌∷◌, get_or, map, refl, sym, ap, subst, ◌∙◌, inl, inr, arith, true≢false}
 use Rattle.wf_model.specs.declared.body.Inner.{Inner as InnerHeld}
 use Rattle.wf_model.specs.Lists.{IsIn, AllDiffer}
 use Rattle.wf_model.specs.Grammar.{Inner}
 use Rattle.wf_model.specs.Meaning.{inner_of}
-use Rattle.wf_model.proofs.Lists.{in_map, in_map_from, at_in, is_at, in_at, at_is, at_below}
+use Rattle.wf_model.proofs.Lists.{in_map, in_map_from}
 use Rattle.wf_spec.specs.Ends.{IsPortOf}
 use Rattle.wf_spec.specs.Wiring.{in_head, AreSmall}
 
@@ -34,7 +34,7 @@ pub heads_differ : (ks : List ℕ) → AllDiffer (map in_head ks) ↔ AllDiffer 
 heads_differ ks = (differ_before in_head ks, differ_after in_head ks (λ x y i j e. ap (λ (p : Inner). p.port) e))
 
 -- each port of a head is met exactly if its number is
-pub heads_met : (n : ℕ) (ks : List ℕ) → ((i : Inner) → IsPortOf (n ∷ []) i → IsIn i (map in_head ks)) ↔ ((k : ℕ) → k < n → IsIn k ks)
+heads_met : (n : ℕ) (ks : List ℕ) → ((i : Inner) → IsPortOf (n ∷ []) i → IsIn i (map in_head ks)) ↔ ((k : ℕ) → k < n → IsIn k ks)
 heads_met n ks = (
   λ h k l. (let r = in_map_from in_head (in_head k) ks (h (in_head k) l) in subst (λ j. IsIn j ks) (sym (ap (λ (p : Inner). p.port) r.2)) r.1),
   λ h i l. go i.position i.port l h,

@@ -1,8 +1,7 @@
 -- The rules on links, over parts and over their wirings.
-use Rattle.std.proofs.Common.{◌≡◌, ◌↔◌, ◌⊎◌, ℕ, zero, suc, ◌<◌, ◌≤◌, List, [], ◌∷◌, ◌++◌, length, map, refl, sym, ap, subst, ◌∙◌, inl, inr, arith}
+use Rattle.std.proofs.Common.{◌≡◌, ◌↔◌, ◌⊎◌, ℕ, zero, suc, ◌<◌, ◌≤◌, List, [], ◌∷◌, ◌++◌, length, refl, sym, subst, inl, inr, arith}
 use Rattle.std.proofs.lemmas.List.{length-map}
 use Rattle.wf_model.specs.declared.parts.Parts.{Parts}
-use Rattle.wf_model.specs.declared.parts.ModulePart.{ModulePart}
 use Rattle.wf_model.specs.declared.parts.ProdPart.{ProdPart}
 use Rattle.wf_model.specs.declared.parts.DepsPart.{DepsPart}
 use Rattle.wf_model.specs.Lists.{IsIn, IsAt, AllDiffer}
@@ -12,10 +11,10 @@ use Rattle.wf_spec.specs.declared.fault.FormFault.{FormFault}
 use Rattle.wf_spec.specs.declared.fault.FormFault.TheVariants.{NoMemory, TooManyPorts, PortTwice, UnknownModule, BodyTooLong, UnknownPort, PortLinkedTwice, PortUnlinked, BodyCycle, DepsOnComposite}
 use Rattle.wf_spec.specs.declared.fault.Spot.TheVariants.{Production as AtProduction, DepsAt}
 use Rattle.wf_spec.specs.declared.wiring.Wiring.{Wiring}
-use Rattle.wf_spec.specs.Forming.{place_of, names_of, module_of, module_in, modules_of, head_in}
-use Rattle.wf_spec.specs.Resolving.{HaveFewPorts, HasFewPorts as HasFewPortsOf}
-use Rattle.wf_spec.specs.Rules.{Rule, each, AllHold, FailsFirstAt, HoldsThroughout, IsFirstFailing, IsFirstFault, first_rules, body_rules, link_rules, module_names, HasDifferentPorts, HasFewPorts, HasKnownModules, HasKnownPorts, HasKnownPairs, IsLinkedAtMostOnce, IsLinkedAtLeastOnce, HasNoCycle, IsOfAtomic}
-use Rattle.wf_spec.specs.Wiring.{AreReady, AreWiringsOf, IsWithin, IsWiredAtMostOnce, IsWiredAtLeastOnce, IsWiredForward, wiring_rules, rules_on}
+use Rattle.wf_spec.specs.Forming.{names_of, module_of, modules_of, head_in}
+use Rattle.wf_spec.specs.Resolving.{HasFewPorts as HasFewPortsOf}
+use Rattle.wf_spec.specs.Rules.{Rule, each, AllHold, FailsFirstAt, HoldsThroughout, IsFirstFault, first_rules, body_rules, link_rules_of, module_names, HasDifferentPorts, HasFewPorts, HasKnownModules, HasKnownPorts, HasKnownPairs, IsLinkedAtMostOnce, IsLinkedAtLeastOnce, HasNoCycle, IsOfAtomic}
+use Rattle.wf_spec.specs.Wiring.{AreReady, AreWiringsOf, IsWithin, IsWiredAtMostOnce, IsWiredAtLeastOnce, IsWiredForward, wiring_rules}
 use Rattle.wf_spec.proofs.Agreeing.{most_same, least_same, forward_same, within_parts}
 use Rattle.wf_spec.proofs.Lawful.{same_names, number_below, differ_left, differ_right, head_ports}
 use Rattle.wf_spec.proofs.Rules.{holds_of}
@@ -87,8 +86,10 @@ module _ (names : List (List ℕ)) (modules : List Module) (productions : List P
         → AllHold (each productions (IsLinkedAtMostOnce modules) PortLinkedTwice ∷ each productions (IsLinkedAtLeastOnce modules) PortUnlinked ∷ each productions (HasNoCycle modules) BodyCycle ∷ [])
     wirings_kept h = (
       all_over IsWiredAtMostOnce (IsLinkedAtMostOnce modules) PortLinkedTwice wirings productions of.as_many most_at h.0,
-      (all_over (IsWiredAtLeastOnce modules) (IsLinkedAtLeastOnce modules) PortUnlinked wirings productions of.as_many least_at h.1.0,
-      (all_over IsWiredForward (HasNoCycle modules) BodyCycle wirings productions of.as_many forward_at h.1.1.0, tt)),
+      (
+        all_over (IsWiredAtLeastOnce modules) (IsLinkedAtLeastOnce modules) PortUnlinked wirings productions of.as_many least_at h.1.0,
+        (all_over IsWiredForward (HasNoCycle modules) BodyCycle wirings productions of.as_many forward_at h.1.1.0, tt),
+      ),
     )
 
     wirings_refused : (last : List Rule) (f : FormFault) → IsFirstFault (wiring_rules modules wirings) f
@@ -104,20 +105,20 @@ module _ (names : List (List ℕ)) (modules : List Module) (productions : List P
 
     -- where the rules before them hold, a fault of the rules on wirings is the first of all
     pub refused_by_wirings : HoldsThroughout (each deps (HasKnownPairs modules) (λ k. UnknownPort (DepsAt k))) → (f : FormFault) → (f ≡ NoMemory) ⊎ IsFirstFault (wiring_rules modules wirings) f
-        → (f ≡ NoMemory) ⊎ IsFirstFault (rules_on modules productions deps) f
+        → (f ≡ NoMemory) ⊎ IsFirstFault (link_rules_of modules productions deps) f
     refused_by_wirings pairs f (inl e) = inl e
     refused_by_wirings pairs f (inr h) = inr (inr (ports, inr (pairs, wirings_refused (each deps (IsOfAtomic productions) DepsOnComposite ∷ []) f h)))
 
     -- and so is a deps part on a composite module
     pub refused_by_deps : HoldsThroughout (each deps (HasKnownPairs modules) (λ k. UnknownPort (DepsAt k))) → AllHold (wiring_rules modules wirings)
-        → (k : ℕ) → FailsFirstAt (length deps) (each deps (IsOfAtomic productions) DepsOnComposite).holds k → IsFirstFault (rules_on modules productions deps) (DepsOnComposite k)
+        → (k : ℕ) → FailsFirstAt (length deps) (each deps (IsOfAtomic productions) DepsOnComposite).holds k → IsFirstFault (link_rules_of modules productions deps) (DepsOnComposite k)
     refused_by_deps pairs all k fails =
         let h = wirings_kept all in
         inr (ports, inr (pairs, inr (h.0, inr (h.1.0, inr (h.1.1.0, inl (k, fails, refl))))))
 
     -- all rules hold
     pub all_kept : HoldsThroughout (each deps (HasKnownPairs modules) (λ k. UnknownPort (DepsAt k))) → AllHold (wiring_rules modules wirings)
-        → HoldsThroughout (each deps (IsOfAtomic productions) DepsOnComposite) → AllHold (rules_on modules productions deps)
+        → HoldsThroughout (each deps (IsOfAtomic productions) DepsOnComposite) → AllHold (link_rules_of modules productions deps)
     all_kept pairs all atomic = let h = wirings_kept all in (ports, (pairs, (h.0, (h.1.0, (h.1.1.0, (atomic, tt))))))
 
 -- what holds over parts holds over them as they are read

@@ -29,12 +29,6 @@ all_take_more P xs i x all next was inside n here = ⊎_elim (all n) (λ e. subs
 pub read_in : {A : Type 0} (xs : List A) (i : ℕ) (x : A) → x ≡ get_or xs i x → i < length xs → IsIn x xs
 read_in xs i x was inside = subst (λ y. IsIn y xs) (sym was) (get_in i xs x inside)
 
--- the same where the elements are kept as they are
-pub kept_more : {A B : Type 0} (g : B → A) (old new : List A) (a : A) (bs : List B) (i : ℕ) (b : B) → old ≡ map g (take i bs) → a ≡ g b
-    → b ≡ get_or bs i b → i < length bs → new ≡ old ++ a ∷ [] → new ≡ map g (take (i + 1) bs)
-kept_more g old new a bs i b so_far same was inside is =
-    is ∙ ap (λ cs. cs ++ a ∷ []) so_far ∙ ap (λ c. map g (take i bs) ++ c ∷ []) (same ∙ ap g was) ∙ sym (map_more g bs i b inside)
-
 -- what holds of each element and of one more holds of each of the longer list
 pub all_push : {A : Type 0} (P : A → Type 0) (old new : List A) (a : A) → ((x : A) → IsIn x old → P x) → P a → new ≡ old ++ a ∷ [] → (x : A) → IsIn x new → P x
 all_push P old new a all last is x here =

@@ -1,6 +1,6 @@
 -- Ends of links that differ, and ports that are met.
-use Rattle.std.proofs.Common.{◌≡◌, ◌↔◌, ◌⊎◌, ℕ, zero, suc, ◌+◌, ◌*◌, ◌<◌, ◌≤◌, Bool, true, false, cond, List, [], ◌∷◌, length, get_or, map, Vec, Global, Option, Some, None, refl, sym, ap, subst, ◌∙◌, inl, inr, ⊎_elim, arith, true≢false}
-use Rattle.std.specs.Prelude.{◌==◌, count_by, MatchOption, IsSome}
+use Rattle.std.proofs.Common.{◌≡◌, ◌↔◌, ℕ, zero, suc, ◌+◌, ◌*◌, ◌<◌, ◌≤◌, Bool, true, false, cond, List, [], ◌∷◌, get_or, Vec, Global, Option, Some, None, refl, sym, ap, subst, ◌∙◌, inl, inr, arith, true≢false}
+use Rattle.std.specs.Prelude.{◌==◌, MatchOption, IsSome, is_some, IsTrue}
 use Rattle.std.proofs.lemmas.Bool.{eqb-true, eq-eqb}
 use Rattle.std.proofs.lemmas.List.Sums.{sum_by-cons}
 use Rattle.wf_model.specs.Lists.{IsIn, AllDiffer}
@@ -16,7 +16,7 @@ place_small p i h =
     omega arith
 
 -- two ports with small numbers that stand at one place are the same
-pub same_port : (i j : Inner) → i.port < 64 → j.port < 64 → place_of i ≡ place_of j → i ≡ j
+same_port : (i j : Inner) → i.port < 64 → j.port < 64 → place_of i ≡ place_of j → i ≡ j
 same_port i j a b e =
     let p : i.position ≡ j.position = omega arith in
     let q : i.port ≡ j.port = omega arith in
@@ -29,7 +29,7 @@ one_here : (n : ℕ) (j : Inner) → place_of j ≡ n → cond {A = ℕ} (place_
 one_here n j e = ap (λ b. cond {A = ℕ} b 1 0) (eq-eqb (place_of j) n e)
 
 -- an end stands at its place
-pub end_counts : (i : Inner) (ends : List Inner) → IsIn i ends → 1 ≤ ends_at (place_of i) ends
+end_counts : (i : Inner) (ends : List Inner) → IsIn i ends → 1 ≤ ends_at (place_of i) ends
 end_counts i [] h = absurd h
 end_counts i (j ∷ ends) (inl e) =
     let c = cons_count (place_of i) j ends in
@@ -41,7 +41,7 @@ end_counts i (j ∷ ends) (inr h) =
     omega arith
 
 -- where one stands, it is one of the ends
-pub end_there : (n : ℕ) (ends : List Inner) → 1 ≤ ends_at n ends → (j : Inner) × IsIn j ends × (place_of j ≡ n)
+end_there : (n : ℕ) (ends : List Inner) → 1 ≤ ends_at n ends → (j : Inner) × IsIn j ends × (place_of j ≡ n)
 end_there n [] h = absurd (omega arith)
 end_there n (j ∷ ends) h = by (end_there n ends) (place_of j == n) refl
   where
@@ -54,7 +54,7 @@ end_there n (j ∷ ends) h = by (end_there n ends) (place_of j == n) refl
         (r.0, inr r.1, r.2)
 
 -- ends that differ stand at different places
-pub differ_once : (ends : List Inner) → ((i : Inner) → IsIn i ends → i.port < 64) → AllDiffer ends → (n : ℕ) → ends_at n ends ≤ 1
+differ_once : (ends : List Inner) → ((i : Inner) → IsIn i ends → i.port < 64) → AllDiffer ends → (n : ℕ) → ends_at n ends ≤ 1
 differ_once [] small d n = omega arith
 differ_once (j ∷ ends) small d n = by (differ_once ends (λ i h. small i (inr h)) d.1 n) (place_of j == n) refl
   where
@@ -82,7 +82,7 @@ differ_once (j ∷ ends) small d n = by (differ_once ends (λ i h. small i (inr 
         omega arith
 
 -- and the other way
-pub once_differ : (ends : List Inner) → ((n : ℕ) → ends_at n ends ≤ 1) → AllDiffer ends
+once_differ : (ends : List Inner) → ((n : ℕ) → ends_at n ends ≤ 1) → AllDiffer ends
 once_differ [] h = tt
 once_differ (j ∷ ends) h = (
   λ i.
@@ -98,21 +98,26 @@ once_differ (j ∷ ends) h = (
 )
 
 -- an end that stands twice
-pub twice_not : (ends : List Inner) → ((i : Inner) → IsIn i ends → i.port < 64) → IsTwice ends → AllDiffer ends → ⊥
+twice_not : (ends : List Inner) → ((i : Inner) → IsIn i ends → i.port < 64) → IsTwice ends → AllDiffer ends → ⊥
 twice_not ends small t d =
     let l = differ_once ends small d (place_of t.0) in
     let two = t.2 in
     omega arith
 
 -- a table of ends has each at most once
-pub table_differ : (p : ℕ) (marks : List Bool) (ends : List Inner) → IsTable p marks ends → AllDiffer ends
+table_differ : (p : ℕ) (marks : List Bool) (ends : List Inner) → IsTable p marks ends → AllDiffer ends
 table_differ p marks ends t = once_differ ends (λ n. by n (get_or marks n false) refl)
   where
     by : (n : ℕ) (b : Bool) → get_or marks n false ≡ b → ends_at n ends ≤ 1
     by n true e = let s = t.each n ∙ ap (λ b. cond {A = ℕ} b 1 0) e in omega arith
     by n false e = let s = t.each n ∙ ap (λ b. cond {A = ℕ} b 1 0) e in omega arith
 
--- there is a table of ends that differ
+-- there is a table of ends exactly if they differ
+pub table_told : (p : ℕ) (ends : List Inner) (t : Option (Vec Bool Global)) (b : Bool) → ((i : Inner) → IsIn i ends → i.port < 64) → b ≡ is_some t
+    → MatchOption t (IsTwice ends) (λ (marks : Vec Bool Global). IsTable p marks.items ends) → IsTrue b ↔ AllDiffer ends
+table_told p ends None b small is h = (λ t. absurd (true≢false (sym t ∙ is)), λ d. absurd (twice_not ends small h d))
+table_told p ends (Some marks) b small is h = (λ _. table_differ p marks.items ends h, λ _. is)
+
 pub some_table : (p : ℕ) (ends : List Inner) (t : Option (Vec Bool Global)) → ((i : Inner) → IsIn i ends → i.port < 64) → AllDiffer ends
     → MatchOption t (IsTwice ends) (λ (marks : Vec Bool Global). IsTable p marks.items ends) → IsSome t
 some_table p ends None small d h = absurd (twice_not ends small h d)

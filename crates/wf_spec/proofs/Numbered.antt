@@ -1,5 +1,5 @@
 -- Names and their places among names.
-use Rattle.std.proofs.Common.{◌≡◌, ◌↔◌, ℕ, zero, suc, ◌+◌, ◌<◌, Bool, true, false, cond, not, List, [], ◌∷◌, length, get_or, map, bytes_eq, refl, sym, ap, subst, ◌∙◌, inl, inr, arith}
+use Rattle.std.proofs.Common.{◌≡◌, ◌↔◌, ℕ, zero, suc, ◌+◌, ◌<◌, Bool, true, false, cond, not, List, [], ◌∷◌, length, get_or, map, bytes_eq, refl, sym, ap, subst, arith}
 use Rattle.wf_model.specs.Lists.{IsIn, AllDiffer}
 use Rattle.wf_model.proofs.Lists.{in_map, in_map_from, same_bytes, bytes_same}
 use Rattle.wf_spec.specs.Forming.{place_of}
@@ -9,7 +9,7 @@ use Rattle.wf_spec.proofs.Picking.{same_name}
 use Rattle.wf_spec.proofs.Tables.{get_in}
 
 -- where names differ, each stands at its place only
-pub place_at : (names : List (List ℕ)) (k : ℕ) → AllDiffer names → k < length names → place_of names (get_or names k []) ≡ k
+place_at : (names : List (List ℕ)) (k : ℕ) → AllDiffer names → k < length names → place_of names (get_or names k []) ≡ k
 place_at [] k d h = absurd (omega arith)
 place_at (n ∷ names) zero d h = ap (λ b. cond {A = ℕ} (not b) (1 + place_of names n) 0) (bytes_same n n refl)
 place_at (n ∷ names) (suc k) d h = by (place_at names k d.1 (omega arith)) (bytes_eq (get_or names k []) n) refl

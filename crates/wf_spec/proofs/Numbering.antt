@@ -3,7 +3,6 @@ use Rattle.std.proofs.Common.{◌≡◌, ◌⊎◌, ℕ, zero, suc, ◌<◌, ◌
 use Rattle.std.specs.Prelude.{position, IsSome}
 use Rattle.std.proofs.lemmas.List.{take_all, length-map}
 use Rattle.wf_model.specs.declared.body.Position.{Position as PositionHeld}
-use Rattle.wf_model.specs.declared.body.Edge.{Edge as EdgeHeld}
 use Rattle.wf_model.specs.declared.parts.ProdPart.{ProdPart}
 use Rattle.wf_model.specs.declared.parts.EdgePart.{EdgePart}
 use Rattle.wf_model.specs.declared.parts.EntryPart.{EntryPart}
@@ -35,12 +34,11 @@ found_there names name answer k is some =
     let r = present names name answer k is some in
     (r.0, is_in_place names name (subst (λ j. j < length names) r.0 r.1))
 
--- a loop over all of a list has made all
-pub all_made : {A B C : Type 0} (f : A → C) (g : B → C) (P : B → Type 0) (made : List A) (bs : List B) (i : ℕ) → map f made ≡ map g (take i bs) → ((b : B) → IsIn b (take i bs) → P b) → length bs ≤ i
-    → (map f made ≡ map g bs) × ((b : B) → IsIn b bs → P b)
-all_made {A} {B} {C} f g P made bs i same all past =
-    subst (λ (l : List B). (map f made ≡ map g l) × ((b : B) → IsIn b l → P b)) (take_all i bs past) (same, all)
+-- what holds of each element that a loop has read holds of all, once it has read all
+pub all_read : {A : Type 0} (P : A → Type 0) (xs : List A) (i : ℕ) → ((x : A) → IsIn x (take i xs) → P x) → length xs ≤ i → (x : A) → IsIn x xs → P x
+all_read {A} P xs i all past = subst (λ (l : List A). (x : A) → IsIn x l → P x) (take_all i xs past) all
 
+-- a name that is there is found
 pub is_found : (names : List (List ℕ)) (name : List ℕ) (answer : Option ℕ) → answer ≡ position (bytes_eq name) names → IsIn name names → IsSome answer
 is_found names name answer is here = by answer is
   where
@@ -120,7 +118,7 @@ wiring_made modules p w body made head edges entries exits kept held at top edge
 }
 
 -- an element of a list and one more is at its place, or is the last
-pub at_push_cases : {A : Type 0} (x : A) (j : ℕ) (old : List A) (a : A) → IsAt x j (old ++ a ∷ []) → IsAt x j old ⊎ ((j ≡ length old) × (x ≡ a))
+at_push_cases : {A : Type 0} (x : A) (j : ℕ) (old : List A) (a : A) → IsAt x j (old ++ a ∷ []) → IsAt x j old ⊎ ((j ≡ length old) × (x ≡ a))
 at_push_cases x zero [] a at = inr (refl, at)
 at_push_cases x (suc j) [] a at = absurd at
 at_push_cases x zero (y ∷ old) a at = inl at

@@ -1,5 +1,5 @@
 -- Pairs of ports that deps parts name.
-use Rattle.std.proofs.Common.{◌≡◌, ◌<◌, ◌&&◌, ℕ, Bool, true, false, List, [], ◌∷◌, length, get_or, bytes_eq, refl, sym, ap, subst, ◌∙◌, true≢false}
+use Rattle.std.proofs.Common.{◌≡◌, ◌&&◌, ℕ, Bool, true, false, List, bytes_eq, refl, sym, ap, subst, ◌∙◌, true≢false}
 use Rattle.std.specs.List.{list_all, list_any}
 use Rattle.wf_names.proofs.Found.{some_any}
 use Rattle.wf_model.specs.declared.parts.DepsPart.{DepsPart}
@@ -12,7 +12,7 @@ use Rattle.wf_spec.specs.Rules.{HasKnownPairs}
 use Rattle.wf_spec.proofs.Ends.{all_gives, all_from}
 
 -- the test of a pair
-abbrev pub is_pair_of : Module → PairPart → Bool
+abbrev is_pair_of : Module → PairPart → Bool
 is_pair_of m e = list_any (bytes_eq e.input) m.inputs && list_any (bytes_eq e.output) m.outputs
 
 listed : (n : List ℕ) (ns : List (List ℕ)) → list_any (bytes_eq n) ns ≡ true → IsIn n ns

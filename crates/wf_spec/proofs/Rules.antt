@@ -5,7 +5,7 @@ use Rattle.std.specs.List.{position_or_len}
 use Rattle.std.proofs.lemmas.Bool.{ltb-true, ltb-false}
 use Rattle.wf_model.specs.Lists.{IsIn, IsAt}
 use Rattle.wf_spec.specs.declared.fault.FormFault.{FormFault}
-use Rattle.wf_model.proofs.Lists.{at_below, at_in, at_is, in_at, is_at}
+use Rattle.wf_model.proofs.Lists.{at_below, at_is, in_at, is_at}
 use Rattle.wf_spec.specs.declared.fault.FormFault.TheVariants.{NoMemory}
 use Rattle.wf_spec.specs.Rules.{Rule, each, AllHold, FailsFirstAt, HoldsThroughout, IsFirstFailing, IsFirstFault}
 
@@ -85,27 +85,6 @@ fails_at Good list i x before never was inside = record {
 -- a rule holds of each element that is in the list
 pub holds_of : {A : Type 0} (Good : A → Type 0) (told : ℕ → FormFault) (list : List A) → HoldsThroughout (each list Good told) → (x : A) → IsIn x list → Good x
 holds_of Good told list all x here = let k = in_at x list here in all k.0 (at_below x k.0 list k.1) x k.1
-
--- a rule holds where it holds of each element
-pub each_holds : {A : Type 0} (Good : A → Type 0) (told : ℕ → FormFault) (list : List A) → ((x : A) → IsIn x list → Good x) → HoldsThroughout (each list Good told)
-each_holds Good told list all k below x at = all x (at_in x k list at)
-
--- the first n rules and those after them are all rules
-pub all_parts : (n : ℕ) (rs : List Rule) → AllHold (take n rs) → AllHold (drop n rs) → AllHold rs
-all_parts zero rs first rest = rest
-all_parts (suc n) [] first rest = tt
-all_parts (suc n) (r ∷ rs) first rest = (first.0, all_parts n rs first.1 rest)
-
--- a fault of the first n rules is the fault of all
-pub fault_of_first : (n : ℕ) (rs : List Rule) (f : FormFault) → (f ≡ NoMemory) ⊎ IsFirstFault (take n rs) f → (f ≡ NoMemory) ⊎ IsFirstFault rs f
-fault_of_first n rs f (inl e) = inl e
-fault_of_first n rs f (inr h) = inr (go n rs h)
-  where
-    go : (n : ℕ) (rs : List Rule) → IsFirstFault (take n rs) f → IsFirstFault rs f
-    go zero rs h = absurd h
-    go (suc n) [] h = absurd h
-    go (suc n) (r ∷ rs) (inl h) = inl h
-    go (suc n) (r ∷ rs) (inr h) = inr (h.0, go n rs h.1)
 
 -- where the first n rules hold, a fault of those after them is the fault of all
 pub fault_of_rest : (n : ℕ) (rs : List Rule) (f : FormFault) → AllHold (take n rs) → (f ≡ NoMemory) ⊎ IsFirstFault (drop n rs) f → (f ≡ NoMemory) ⊎ IsFirstFault rs f

@@ -1,5 +1,5 @@
 -- The ports of the positions of a body, on one side.
-use Rattle.std.proofs.Common.{◌≡◌, ◌↔◌, ℕ, ◌<◌, ◌≤◌, Bool, IsTrue, List, length, get_or, map, sym, ap, subst, ◌∙◌, arith}
+use Rattle.std.proofs.Common.{◌≡◌, ◌↔◌, ℕ, ◌<◌, Bool, IsTrue, List, length, get_or, map, sym, ap, subst, ◌∙◌, arith}
 use Rattle.std.proofs.lemmas.List.{length-map, get_or-map}
 use Rattle.wf_model.specs.declared.body.Position.{Position as PositionHeld}
 use Rattle.wf_model.specs.declared.body.Inner.{Inner as InnerHeld}
@@ -20,7 +20,7 @@ use Rattle.wf_spec.proofs.LinkEnds.{read_as, seen_as, small_heads}
 use Rattle.wf_spec.proofs.Tables.{get_in}
 
 -- how many ports of a side each position has
-abbrev pub counts_of : (Module → ℕ) → List Module → List Position → List ℕ
+abbrev counts_of : (Module → ℕ) → List Module → List Position → List ℕ
 counts_of count modules body = map (λ m. count (module_in modules m)) (modules_at body)
 
 length_counts : (count : Module → ℕ) (modules : List Module) (body : List Position) → length (counts_of count modules body) ≡ length body

@@ -1,18 +1,16 @@
 -- Modules, their names, and how many ports stand at positions.
-use Rattle.std.proofs.Common.{◌≡◌, ℕ, ◌+◌, ◌<◌, ◌≤◌, ◌⊎◌, Bool, true, false, not, List, [], ◌∷◌, ◌++◌, length, get_or, map, take, refl, sym, ap, ◌∙◌, subst, inl, inr, ⊎_elim}
-use Rattle.std.specs.List.{list_all}
+use Rattle.std.proofs.Common.{◌≡◌, ℕ, ◌+◌, ◌<◌, Bool, true, false, not, List, [], ◌∷◌, ◌++◌, length, get_or, map, take, refl, sym, ap, ◌∙◌, subst}
 use Rattle.std.proofs.lemmas.List.{take_more, get_or_default}
 use Rattle.wf_model.specs.Lists.{IsIn, AllDiffer}
 use Rattle.wf_model.specs.Grammar.{Module}
 use Rattle.wf_model.specs.Faults.{is_short_name, some_twice}
 use Rattle.wf_model.specs.Meaning.{position_of}
-use Rattle.wf_model.specs.WellFormed.{IsShortName, IsWellFormedModule}
+use Rattle.wf_model.specs.WellFormed.{IsShortName}
 use Rattle.wf_model.specs.declared.body.Position.{Position as PositionHeld}
-use Rattle.wf_model.proofs.Lists.{in_append_left, in_append_right, in_append_cases, in_map, at_in, is_at}
+use Rattle.wf_model.proofs.Lists.{in_map, at_in, is_at}
 use Rattle.wf_model.proofs.Taking.{short_gives, short_from, twice_gives, twice_from}
 use Rattle.wf_spec.specs.Bodies.{modules_at}
 use Rattle.wf_spec.specs.Forming.{module_in}
-use Rattle.wf_spec.proofs.Ends.{all_gives, all_from}
 
 pub short_name : (n : List ℕ) → is_short_name n ≡ true → IsShortName n
 short_name n h = short_gives n h
@@ -29,28 +27,6 @@ differ_gives ns b e t = (twice_gives [] ns (go (some_twice [] ns) (sym e ∙ t))
 
 pub differ_from : (ns : List (List ℕ)) (b : Bool) → b ≡ not (some_twice [] ns) → AllDiffer ns → b ≡ true
 differ_from ns b e d = e ∙ ap not (twice_from [] ns d (λ n i k. k))
-
--- the tests of a module
-pub module_gives : (m : Module) (b : Bool) → length m.inputs ≤ 64 → length m.outputs ≤ 64 → is_short_name m.name ≡ true → list_all is_short_name m.inputs ≡ true → list_all is_short_name m.outputs ≡ true
-    → b ≡ not (some_twice [] (m.inputs ++ m.outputs)) → b ≡ true → IsWellFormedModule m
-module_gives m b few_i few_o name i o e t = record {
-  name = short_name m.name name;
-  ports = λ n h. short_name n (⊎_elim (λ a. all_gives is_short_name m.inputs i n a) (λ a. all_gives is_short_name m.outputs o n a) (in_append_cases n m.inputs m.outputs h));
-  ports_differ = differ_gives (m.inputs ++ m.outputs) b e t;
-  few_inputs = few_i;
-  few_outputs = few_o;
-}
-
-pub inputs_short : (m : Module) → IsWellFormedModule m → list_all is_short_name m.inputs ≡ true
-inputs_short m h = all_from is_short_name m.inputs (λ n i. name_short n (h.ports n (in_append_left n m.inputs m.outputs i)))
-
-pub outputs_short : (m : Module) → IsWellFormedModule m → list_all is_short_name m.outputs ≡ true
-outputs_short m h = all_from is_short_name m.outputs (λ n i. name_short n (h.ports n (in_append_right n m.inputs m.outputs i)))
-
--- of the elements so far and the next
-pub in_take_more : {A : Type 0} (x : A) (xs : List A) (k : ℕ) (y : A) → k < length xs → y ≡ get_or xs k y → IsIn x (take (k + 1) xs) → IsIn x (take k xs) ⊎ (x ≡ y)
-in_take_more x xs k y h e i =
-    ⊎_elim (λ a. inl a) (λ a. inr (⊎_elim (λ d. d ∙ sym e) (λ z. absurd z) a)) (in_append_cases x (take k xs) (get_or xs k y ∷ []) (subst (IsIn x) (take_more xs k y h) i))
 
 pub in_there : {A : Type 0} (xs : List A) (k : ℕ) (y : A) → k < length xs → y ≡ get_or xs k y → IsIn y xs
 in_there xs k y h e = subst (λ z. IsIn z xs) (sym e) (at_in (get_or xs k y) k xs (is_at k xs y h))

@@ -1,18 +1,15 @@
 -- The tables of a grammar.
-use Rattle.std.proofs.Common.{◌≡◌, ◌≢◌, ℕ, zero, suc, ◌+◌, ◌-◌, ◌^◌, ◌<◌, ◌≤◌, nat_lt, Bool, true, false, cond, ◌==◌, add-one, zero-add, List, [], ◌∷◌, ◌++◌, Vec, Global, map, length, get_or, set, take, filter, count_by, refl, sym, ap, subst, ◌∙◌, arith}
+use Rattle.std.proofs.Common.{◌≡◌, ◌≢◌, ℕ, zero, suc, ◌+◌, ◌<◌, ◌≤◌, Bool, true, false, cond, ◌==◌, add-one, zero-add, List, [], ◌∷◌, ◌++◌, Vec, Global, map, length, get_or, set, take, filter, count_by, refl, sym, ap, subst, ◌∙◌, arith}
 use Rattle.std.proofs.lemmas.Bool.{eqb-true, eqb-false, eq-eqb}
-use Rattle.std.proofs.lemmas.List.{length-set, length-append, length-take-le, get_or-set_same, get_or-set_other, append-nil, length-map, map-set, map-append, get_or-map, get_or_past, get_or-replicate, length-replicate}
+use Rattle.std.proofs.lemmas.List.{length-set, length-append, length-take-le, get_or-set_same, get_or-set_other, append-nil, length-map, map-set, map-append, get_or-map}
 use Rattle.std.proofs.lemmas.List.Elements.{filter-append}
 use Rattle.wf_model.specs.declared.numbers.ProdNo.{ProdNo}
 use Rattle.wf_model.specs.Lists.{IsIn, numbers_from}
-use Rattle.std.proofs.lemmas.Nat.Bits.{bit_at_ones, bit_at_ones_above, bit_at-zero}
 use Rattle.std.proofs.lemmas.List.Sums.{count_by-le-length, count_by_more_yes, count_by_more_no}
-use Rattle.std.specs.Int.{bit_at}
-use borrow.Author.Tests.{ltb-true, ltb-false}
-use Rattle.wf_model.specs.Grammar.{Grammar, Module, Production, inputs_of, outputs_of, module_at, is_given, alternative_of, head_of, IsAtomic}
+use Rattle.wf_model.specs.Grammar.{Grammar, Production, alternative_of, head_of, IsAtomic}
 use Rattle.wf_model.specs.WellFormed.{IsWellFormed}
 use Rattle.wf_model.proofs.Lists.{in_filter, at_in, is_at, in_at, at_is, at_below}
-use Rattle.wf_spec.specs.Tables.{productions_of, head_at, headed, places, AreByHead, AreRows, AreRowsOf, full_rows, numbers_in}
+use Rattle.wf_spec.specs.Tables.{productions_of, head_at, headed, places, AreByHead, AreRows, AreRowsOf, numbers_in}
 use Rattle.wf_spec.specs.Held.{HeldProduction}
 
 pub get_in : {A : Type 0} (k : ℕ) (xs : List A) (d : A) → k < length xs → IsIn (get_or xs k d) xs
@@ -60,10 +57,6 @@ by_head_more modules ps n h lists list known head is = record {
         let ne : m ≢ h = λ e. eqb-false h m same (sym e) in
         get_or-set_other lists h m list [] ne ∙ known.each m within
         ∙ sym (step m ∙ ap (λ b. headed ps n m ++ cond b (n ∷ []) []) same ∙ append-nil (headed ps n m))
-
--- a module with no ports
-abbrev pub no_module : Module
-no_module = record { name = []; inputs = []; outputs = [] }
 
 -- the numbers in a list as it is kept
 abbrev pub numbers : Vec ProdNo Global → List ℕ
@@ -125,29 +118,6 @@ alternative_is g p held r known same below was =
     inside : p < length held
     inside = omega (arith, length-map held (λ (q : HeldProduction). q.core), ap length same)
 
--- full rows are those of a module to which no pairs are given
-pub full_are : (g : Grammar) (m : ℕ) → g.given ≡ [] → outputs_of g m ≤ 64 → AreRowsOf g m (full_rows (module_at g m))
-full_are g m none few = record {
-  one_each = length-replicate (inputs_of g m) (2 ^ outputs_of g m - 1);
-  bits = λ i o a b.
-      ap (λ r. bit_at r o == 1) (get_or-replicate (inputs_of g m) i (2 ^ outputs_of g m - 1) 0 a)
-      ∙ ap (λ k. k == 1) (bit_at_ones (outputs_of g m) o b)
-      ∙ sym (ap (λ given. is_given given m i o) none);
-  no_more = λ i o above. past i o above (nat_lt i (inputs_of g m)) refl;
-}
-  where
-    past : (i o : ℕ) → outputs_of g m ≤ o → (b : Bool) → nat_lt i (inputs_of g m) ≡ b → bit_at (get_or (full_rows (module_at g m)) i 0) o ≡ 0
-    past i o above true is =
-        let a : i < inputs_of g m = ltb-true i (inputs_of g m) is in
-        ap (λ r. bit_at r o) (get_or-replicate (inputs_of g m) i (2 ^ outputs_of g m - 1) 0 a) ∙ bit_at_ones_above (outputs_of g m) o above
-    past i o above false is =
-        let a : inputs_of g m ≤ i = ltb-false i (inputs_of g m) is in
-        let l : length (full_rows (module_at g m)) ≤ i = omega (arith, length-replicate (inputs_of g m) (2 ^ outputs_of g m - 1)) in
-        ap (λ r. bit_at r o) (get_or_past (full_rows (module_at g m)) i 0 l) ∙ bit_at-zero o
-
-pub outputs_within : (g : Grammar) (m : ℕ) → IsWellFormed g → m < length g.modules → outputs_of g m ≤ 64
-outputs_within g m formed below = (formed.modules (module_at g m) (get_in m g.modules no_module below)).few_outputs
-
 -- one place more
 pub placed_more : (ps : List Production) (n k : ℕ) (old new : List ℕ) → old ≡ places ps n → k ≡ length (headed ps n (head_at ps n)) → new ≡ old ++ k ∷ [] → new ≡ places ps (n + 1)
 placed_more ps n k old new so_far here is =
@@ -183,18 +153,6 @@ pub headed_few : (ps : List Production) (n m : ℕ) → n ≤ length ps → leng
 headed_few ps n m h =
     subst (λ k. k ≤ n) (sym (headed_count ps n m h))
     (omega (arith, count_by-le-length (λ (r : Production). r.head == m) (take n ps), length-take-le n ps h))
-
--- the place of a production, as it is kept, is its alternative number
-pub place_is : (ps : List Production) (p : ℕ) (kept : List ℕ) → kept ≡ places ps (length ps) → p < length ps
-    → get_or kept p 0 ≡ count_by (λ (r : Production). r.head == head_at ps p) (take p ps)
-place_is ps p kept known below =
-    ap (λ ks. get_or ks p 0) known
-    ∙ get_or-map place (numbers_from 0 (length ps)) p 0 0 (subst (λ n. p < n) (sym (length-numbers 0 (length ps))) below)
-    ∙ ap place (number_at 0 (length ps) p below ∙ zero-add p)
-    ∙ headed_count ps p (head_at ps p) (omega arith)
-  where
-    place : ℕ → ℕ
-    place q = length (headed ps q (head_at ps q))
 
 -- how long the list of a production's head is
 pub list_length : (modules : ℕ) (ps : List Production) (n h : ℕ) (lists : List (Vec ProdNo Global)) (v : Vec ProdNo Global) → AreByHead modules ps n (numbers_in lists)

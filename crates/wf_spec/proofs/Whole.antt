@@ -1,24 +1,20 @@
 -- What kept parts give to the tables of their grammar.
-use Rattle.std.proofs.Common.{◌≡◌, ℕ, zero, suc, ◌+◌, ◌<◌, ◌≤◌, ◌==◌, List, [], ◌∷◌, map, length, take, refl, sym, ap, ◌∙◌, subst, inl, inr, arith}
-use Rattle.std.specs.Prelude.{count_by}
+use Rattle.std.proofs.Common.{◌≡◌, ℕ, zero, suc, ◌+◌, ◌<◌, ◌≤◌, List, map, length, sym, ap, ◌∙◌, subst, inl, inr, arith}
 use Rattle.std.proofs.lemmas.List.{length-map}
 use Rattle.wf_model.specs.declared.parts.Parts.{Parts}
 use Rattle.wf_model.specs.declared.parts.DepsPart.{DepsPart}
-use Rattle.wf_model.specs.declared.parts.ProdPart.{ProdPart}
 use Rattle.wf_model.specs.Lists.{IsIn, numbers_from}
 use Rattle.wf_model.specs.Grammar.{Grammar, Module, Production, Given, alternative_of}
 use Rattle.wf_model.specs.WellFormed.{IsWellFormed}
-use Rattle.wf_model.proofs.Lists.{in_map, in_map_from}
-use Rattle.wf_spec.specs.Forming.{place_of, names_of, module_of, modules_of, production_in, given_in, grammar_of, IsFormed}
+use Rattle.wf_spec.specs.Forming.{place_of, names_of, modules_of, production_in, given_in, grammar_of}
 use Rattle.wf_spec.specs.Held.{HeldProduction}
 use Rattle.wf_spec.specs.Resolving.{HaveFewPorts}
 use Rattle.wf_spec.specs.Rows.{AreGivenIn}
 use Rattle.wf_spec.specs.Rules.{HasKnownPairs, AreKept}
 use Rattle.wf_spec.specs.Tables.{head_at, headed, places, AreByHead, AreRows, IsKept}
 use Rattle.wf_spec.proofs.Kept.{AreAllKept, kept_gives}
-use Rattle.wf_spec.proofs.Lawful.{same_names, number_below, kept_formed}
+use Rattle.wf_spec.proofs.Lawful.{same_names, kept_formed}
 use Rattle.wf_spec.proofs.Picking.{map_same}
-use Rattle.wf_spec.proofs.Sizes.{rule_in}
 use Rattle.wf_spec.proofs.Tables.{headed_count, heads_within}
 
 -- what the tables of a grammar need of modules and their names

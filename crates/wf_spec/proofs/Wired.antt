@@ -1,5 +1,5 @@
 -- The productions that are made from the wirings of parts are those of the parts.
-use Rattle.std.proofs.Common.{◌≡◌, ℕ, zero, suc, ◌+◌, ◌<◌, List, [], ◌∷◌, ◌++◌, map, length, get_or, refl, sym, ap, ◌∙◌, subst, inl, inr, ⊎_elim, arith}
+use Rattle.std.proofs.Common.{◌≡◌, ℕ, zero, suc, ◌<◌, List, [], ◌∷◌, ◌++◌, map, length, get_or, refl, sym, ap, ◌∙◌, subst, inl, inr, arith}
 use Rattle.std.proofs.lemmas.List.{length-map, get_or-map, ext_get_or, same_lists}
 use Rattle.wf_model.specs.declared.parts.Parts.{Parts}
 use Rattle.wf_model.specs.declared.parts.ProdPart.{ProdPart}
@@ -7,13 +7,10 @@ use Rattle.wf_model.specs.declared.parts.EntryPart.{EntryPart}
 use Rattle.wf_model.specs.declared.parts.ExitPart.{ExitPart}
 use Rattle.wf_model.specs.Lists.{IsIn, IsAt, AllDiffer}
 use Rattle.wf_model.specs.Grammar.{Module, Inner, Production}
-use Rattle.wf_model.specs.Meaning.{inner_of}
 use Rattle.wf_model.proofs.Lists.{in_map, in_map_from, in_at, at_in, at_is, is_at, at_below, differ_at}
-use Rattle.wf_spec.specs.declared.wiring.Entry.{Entry}
-use Rattle.wf_spec.specs.declared.wiring.Exit.{Exit}
 use Rattle.wf_spec.specs.declared.wiring.Wiring.{Wiring}
 use Rattle.wf_spec.specs.Assembling.{origin, exit_at, AreByPort, IsSound, IsRuleOf, AreRulesOf}
-use Rattle.wf_spec.specs.Forming.{place_of, names_of, module_in, module_of, modules_of, body_in, head_in, inner_input, inner_output, entry_in, exit_in, production_in}
+use Rattle.wf_spec.specs.Forming.{place_of, names_of, module_in, module_of, modules_of, body_in, head_in, inner_input, inner_output, production_in}
 use Rattle.wf_spec.specs.Wiring.{entry_of, exit_of, entry_link, exit_link, IsWiringOf, AreWiringsOf, entered_by, left_by, head_of}
 use Rattle.wf_spec.proofs.Finding.{place_within}
 use Rattle.wf_spec.proofs.Fitting.{made_production}

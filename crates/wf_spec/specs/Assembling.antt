@@ -3,7 +3,6 @@ use Rattle.std.specs.Prelude.{◌≡◌, ℕ, ◌<◌, List, map, length, get_or
 use Rattle.wf_model.specs.Lists.{IsIn, IsAt, AllDiffer}
 use Rattle.wf_model.specs.Grammar.{Module, Inner, Production}
 use Rattle.wf_model.specs.Meaning.{position_of, inner_of, edge_of}
-use Rattle.wf_spec.specs.declared.wiring.Entry.{Entry}
 use Rattle.wf_spec.specs.declared.wiring.Exit.{Exit}
 use Rattle.wf_spec.specs.declared.wiring.Wiring.{Wiring}
 use Rattle.wf_spec.specs.Wiring.{entry_of, head_of, entered_by, left_by}

@@ -1,7 +1,7 @@
 -- The parts of what makes a body well-formed, for a production by itself.
-use Rattle.std.specs.Prelude.{◌≡◌, ℕ, ◌*◌, ◌<◌, ◌≤◌, Bool, ◌&&◌, nat_lt, nat_le, List, map, length, ◌++◌, sum_by}
+use Rattle.std.specs.Prelude.{◌≡◌, ℕ, ◌*◌, ◌<◌, List, map, length, ◌++◌}
 use Rattle.wf_model.specs.Lists.{IsIn, AllDiffer}
-use Rattle.wf_model.specs.Grammar.{Grammar, Module, Position, Edge, Production}
+use Rattle.wf_model.specs.Grammar.{Module, Position, Edge, Production}
 use Rattle.wf_model.specs.WellFormed.{IsShortName}
 use Rattle.wf_spec.specs.Forming.{module_in}
 use Rattle.wf_spec.specs.Ends.{AreMetOnce}
@@ -49,18 +49,3 @@ pub record IsBody (modules : List Module) (r : Production) : Type 0 where
 -- the square of a body's length
 abbrev pub square_of : Production → ℕ
 square_of r = length r.positions * length r.positions
-
--- the head is one of so many modules, and the body is not long
-abbrev pub Fits : ℕ → Production → Type 0
-Fits modules r = (r.head < modules) × (length r.positions ≤ 64)
-
-abbrev pub fits : ℕ → Production → Bool
-fits modules r = nat_lt r.head modules && nat_le (length r.positions) 64
-
--- the sizes and the numbers of heads in a grammar
-pub record HasSizes (g : Grammar) : Type 0 where
-  pub start : g.start < length g.modules
-  pub few_modules : length g.modules ≤ 1024
-  pub few_productions : length g.productions ≤ 1024
-  pub rules : (r : Production) → IsIn r g.productions → Fits (length g.modules) r
-  pub small : sum_by square_of g.productions ≤ 65536

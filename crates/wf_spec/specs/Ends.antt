@@ -1,5 +1,5 @@
 -- Ports of positions, given how many each position has, and the ends of links at them.
-use Rattle.std.specs.Prelude.{◌≡◌, ℕ, ◌<◌, ◌≤◌, ◌+◌, ◌*◌, ◌==◌, Bool, false, cond, nat_lt, List, length, get_or, count_by}
+use Rattle.std.specs.Prelude.{◌≡◌, ℕ, ◌<◌, ◌≤◌, ◌+◌, ◌*◌, ◌==◌, Bool, false, cond, List, length, get_or, count_by}
 use Rattle.wf_model.specs.Lists.{IsIn}
 use Rattle.wf_model.specs.Grammar.{Inner}
 use Rattle.wf_model.specs.WellFormed.{same_inner}
@@ -7,9 +7,6 @@ use Rattle.wf_model.specs.WellFormed.{same_inner}
 -- a position has a port of this number; one past the end has none
 abbrev pub IsPortOf : List ℕ → Inner → Type 0
 IsPortOf counts i = i.port < get_or counts i.position 0
-
-abbrev pub is_port_of : List ℕ → Inner → Bool
-is_port_of counts i = nat_lt i.port (get_or counts i.position 0)
 
 -- at most 64 ports each
 abbrev pub HaveFew : List ℕ → Type 0

@@ -1,5 +1,5 @@
 -- The grammar of parts: names turned into numbers, and when parts form a grammar.
-use Rattle.std.specs.Prelude.{◌≡◌, ℕ, ◌<◌, List, [], map, length, get_or, bytes_eq}
+use Rattle.std.specs.Prelude.{◌≡◌, ℕ, List, [], map, length, get_or, bytes_eq}
 use Rattle.std.specs.List.{position_or_len}
 use Rattle.wf_model.specs.declared.parts.Parts.{Parts}
 use Rattle.wf_model.specs.declared.parts.ModulePart.{ModulePart}

@@ -154,16 +154,18 @@ body_rules parts =
     once (squares parts.productions ≤ 65536) BodiesTooLarge ∷
     each parts.productions (λ p. AllDiffer (position_names p)) PositionTwice ∷ []
 
--- the rules on links, and on the pairs of modules
+-- the rules on links, and on the pairs of modules, for modules, productions and deps parts
+abbrev pub link_rules_of : List Module → List ProdPart → List DepsPart → List Rule
+link_rules_of modules productions deps =
+    each productions (HasKnownPorts modules) (λ k. UnknownPort (AtProduction k)) ∷
+    each deps (HasKnownPairs modules) (λ k. UnknownPort (DepsAt k)) ∷
+    each productions (IsLinkedAtMostOnce modules) PortLinkedTwice ∷
+    each productions (IsLinkedAtLeastOnce modules) PortUnlinked ∷
+    each productions (HasNoCycle modules) BodyCycle ∷
+    each deps (IsOfAtomic productions) DepsOnComposite ∷ []
+
 abbrev pub link_rules : Parts → List Rule
-link_rules parts =
-    let modules = modules_of parts in
-    each parts.productions (HasKnownPorts modules) (λ k. UnknownPort (AtProduction k)) ∷
-    each parts.deps (HasKnownPairs modules) (λ k. UnknownPort (DepsAt k)) ∷
-    each parts.productions (IsLinkedAtMostOnce modules) PortLinkedTwice ∷
-    each parts.productions (IsLinkedAtLeastOnce modules) PortUnlinked ∷
-    each parts.productions (HasNoCycle modules) BodyCycle ∷
-    each parts.deps (IsOfAtomic parts.productions) DepsOnComposite ∷ []
+link_rules parts = link_rules_of (modules_of parts) parts.productions parts.deps
 
 -- a rule holds at each of its places
 abbrev pub HoldsThroughout : Rule → Type 0

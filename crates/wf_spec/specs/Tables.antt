@@ -1,5 +1,5 @@
 -- What a grammar keeps for its readers: names, the productions of each module, and rows of bits.
-use Rattle.std.specs.Prelude.{◌≡◌, ℕ, ◌^◌, ◌-◌, ◌<◌, ◌≤◌, ◌==◌, List, [], map, length, get_or, replicate, Vec}
+use Rattle.std.specs.Prelude.{◌≡◌, ℕ, ◌<◌, ◌≤◌, ◌==◌, List, [], map, length, get_or, Vec}
 use Rattle.std.specs.List.{filter}
 use Rattle.std.specs.Int.{bit_at}
 use Rattle.std.specs.declared.alloc.Global.{Global}
@@ -38,10 +38,6 @@ pub record AreByHead (modules : ℕ) (productions : List Production) (n : ℕ) (
 -- for each of the first n productions, how many before it have its head
 abbrev pub places : List Production → ℕ → List ℕ
 places productions n = map (λ p. length (headed productions p (head_at productions p))) (numbers_from 0 n)
-
--- all rows of a module, with a bit for each output
-abbrev pub full_rows : Module → List ℕ
-full_rows m = replicate (length m.inputs) (2 ^ length m.outputs - 1)
 
 -- rows for each of so many modules
 abbrev pub AreRows : Grammar → List (List ℕ) → Type 0

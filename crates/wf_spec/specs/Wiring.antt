@@ -11,12 +11,11 @@ use Rattle.wf_model.specs.Meaning.{position_of, inner_of, edge_of}
 use Rattle.wf_spec.specs.declared.wiring.Entry.{Entry}
 use Rattle.wf_spec.specs.declared.wiring.Exit.{Exit}
 use Rattle.wf_spec.specs.declared.wiring.Wiring.{Wiring}
-use Rattle.wf_spec.specs.declared.fault.FormFault.TheVariants.{UnknownPort, PortLinkedTwice, PortUnlinked, BodyCycle, DepsOnComposite}
-use Rattle.wf_spec.specs.declared.fault.Spot.TheVariants.{Production as AtProduction, DepsAt}
+use Rattle.wf_spec.specs.declared.fault.FormFault.TheVariants.{PortLinkedTwice, PortUnlinked, BodyCycle}
 use Rattle.wf_spec.specs.Forming.{place_of, names_of, module_in, body_in, head_in, inner_input, inner_output, edge_in}
 use Rattle.wf_spec.specs.Graphs.{IsAcyclic}
 use Rattle.wf_spec.specs.Resolving.{AreOfModules, HaveFewPorts, IsInputIn, IsOutputIn}
-use Rattle.wf_spec.specs.Rules.{Rule, each, HasKnownModules, HasKnownPorts, HasKnownPairs, IsLinkedAtMostOnce, IsLinkedAtLeastOnce, HasNoCycle, IsOfAtomic}
+use Rattle.wf_spec.specs.Rules.{Rule, each, HasKnownModules}
 
 -- an entry as it is held: an input of the head, and the input of a position to which it leads
 abbrev pub entry_of : Entry → ℕ × Inner
@@ -131,17 +130,7 @@ wiring_rules modules wirings =
     each wirings (IsWiredAtLeastOnce modules) PortUnlinked ∷
     each wirings IsWiredForward BodyCycle ∷ []
 
--- the rules on links and pairs, for given modules, productions and deps parts
-abbrev pub rules_on : List Module → List ProdPart → List DepsPart → List Rule
-rules_on modules productions deps =
-    each productions (HasKnownPorts modules) (λ k. UnknownPort (AtProduction k)) ∷
-    each deps (HasKnownPairs modules) (λ k. UnknownPort (DepsAt k)) ∷
-    each productions (IsLinkedAtMostOnce modules) PortLinkedTwice ∷
-    each productions (IsLinkedAtLeastOnce modules) PortUnlinked ∷
-    each productions (HasNoCycle modules) BodyCycle ∷
-    each deps (IsOfAtomic productions) DepsOnComposite ∷ []
-
--- what the rules before these give
+-- what the rules on modules and bodies give to those on links
 pub record AreReady (names : List (List ℕ)) (modules : List Module) (productions : List ProdPart) (deps : List DepsPart) : Type 0 where
   pub numbered : names ≡ names_of modules
   pub few_modules : length modules ≤ 1024

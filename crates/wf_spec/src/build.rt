@@ -4,10 +4,26 @@ ghost use Rattle.wf_spec.specs.Forming.{grammar_of, IsFormed};
 ghost use Rattle.wf_spec.specs.Rules.{IsFaultOf};
 ghost use Rattle.wf_spec.specs.declared.fault.FormFault.TheVariants.{NoMemory};
 
+use crate::assemble::assemble;
+use crate::assemble::modules::modules_from;
+use crate::checks::{check_bodies, check_modules};
 use crate::fault::FormFault;
 use crate::grammar::Grammar;
+use crate::links::wired;
 use std::alloc::Global;
 use wf_model::Parts;
+
+fn built(alloc: Global, parts: &Parts) -> Result<Grammar, FormFault>
+    ensures accepted { IfOk result (λ g. (g.core ≡ grammar_of parts.now) × IsFormed parts.now) }
+    ensures refused { IfErr result (λ f. (f ≡ NoMemory) ⊎ IsFaultOf parts.now f) }
+{
+    let names = check_modules(alloc, parts)?;
+    check_bodies(alloc, &names, parts)?;
+    let modules = modules_from(alloc, parts.modules.items())?;
+    let wirings = wired(alloc, &names, &modules, parts)?;
+    let grammar = assemble(alloc, parts, names, modules, wirings)?;
+    Ok(grammar)
+}
 
 impl Grammar {
     /// The grammar that parts describe: each name is turned into the number of the module, position or port that has it, and every list keeps its order.
@@ -19,6 +35,6 @@ impl Grammar {
         ensures accepted { IfOk result (λ g. (g.core ≡ grammar_of parts) × IsFormed parts) }
         ensures refused { IfErr result (λ f. (f ≡ NoMemory) ⊎ IsFaultOf parts f) }
     {
-        Err(FormFault::NoMemory)
+        built(alloc, &parts)
     }
 }

@@ -14,8 +14,8 @@ mod wirings;
 
 ghost use Rattle.std.specs.Prelude.{◌≡◌, ◌⊎◌, IfOk, IfErr, OnOk};
 ghost use Rattle.wf_spec.specs.Forming.{modules_of, names_of};
-ghost use Rattle.wf_spec.specs.Rules.{first_rules, body_rules, link_rules, AllHold, IsFirstFault};
-ghost use Rattle.wf_spec.specs.Wiring.{rules_on, AreReady, AreWiringsOf};
+ghost use Rattle.wf_spec.specs.Rules.{first_rules, body_rules, link_rules, link_rules_of, AllHold, IsFirstFault};
+ghost use Rattle.wf_spec.specs.Wiring.{AreReady, AreWiringsOf};
 ghost use Rattle.wf_spec.specs.declared.fault.FormFault.TheVariants.{NoMemory};
 
 use crate::fault::{FormFault, Spot};
@@ -37,9 +37,9 @@ fn wired_from(
     deps: &[DepsPart],
 ) -> Result<Vec<Wiring>, FormFault>
     requires { AreReady names.now modules.now productions.now deps.now }
-    ensures kept { OnOk result (AllHold (rules_on modules.now productions.now deps.now)) }
+    ensures kept { OnOk result (AllHold (link_rules_of modules.now productions.now deps.now)) }
     ensures wirings { IfOk result (λ ws. AreWiringsOf modules.now productions.now ws.items) }
-    ensures refused { IfErr result (λ f. (f ≡ NoMemory) ⊎ IsFirstFault (rules_on modules.now productions.now deps.now) f) }
+    ensures refused { IfErr result (λ f. (f ≡ NoMemory) ⊎ IsFirstFault (link_rules_of modules.now productions.now deps.now) f) }
 {
     let wirings = wirings_from(alloc, names, modules, productions)?;
     if let Some(k) = first_unknown_pair(names, modules, deps) {

@@ -1,5 +1,5 @@
 // Edges, entries and exits, by number.
-ghost use Rattle.std.specs.Prelude.{◌≡◌, ◌<◌, ◌≤◌, map, length, IfOk, MatchOption};
+ghost use Rattle.std.specs.Prelude.{◌≡◌, ◌<◌, ◌≤◌, map, length, IfOk, IfNone, IfSome, MatchOption};
 ghost use Rattle.wf_model.specs.Lists.{IsIn};
 ghost use Rattle.wf_model.specs.Meaning.{position_of, edge_of};
 ghost use Rattle.wf_spec.specs.Forming.{edge_in};
@@ -68,7 +68,9 @@ pub fn edge_numbers(
     requires few_ports { HaveFewPorts modules.now }
     requires few_positions { length body.now ≤ 64 }
     requires known { AreOfModules modules.now (map position_of body.now) }
-    ensures { IfOk result (λ o. MatchOption o (¬ ((e : EdgePart) → IsIn e parts.now → IsEdgeIn modules.now (map position_of body.now) e)) (λ es. (map edge_of es.items ≡ map (edge_in modules.now (map position_of body.now)) parts.now) × ((e : EdgePart) → IsIn e parts.now → IsEdgeIn modules.now (map position_of body.now) e))) }
+    ensures unknown { IfOk result (λ o. IfNone o (¬ ((e : EdgePart) → IsIn e parts.now → IsEdgeIn modules.now (map position_of body.now) e))) }
+    ensures known { IfOk result (λ o. IfSome o (λ _. (e : EdgePart) → IsIn e parts.now → IsEdgeIn modules.now (map position_of body.now) e)) }
+    ensures edges { IfOk result (λ o. IfSome o (λ es. map edge_of es.items ≡ map (edge_in modules.now (map position_of body.now)) parts.now)) }
 {
     let mut list = Vec::new(alloc);
     for part in parts {
@@ -92,7 +94,9 @@ pub fn entry_numbers(
     requires few_positions { length body.now ≤ 64 }
     requires known { AreOfModules modules.now (map position_of body.now) }
     requires few_inputs { HasFewPorts head.now }
-    ensures { IfOk result (λ o. MatchOption o (¬ ((e : EntryPart) → IsIn e parts.now → IsEntryIn modules.now (map position_of body.now) head.now e)) (λ es. (map entry_of es.items ≡ map (entry_link modules.now (map position_of body.now) head.now) parts.now) × ((e : EntryPart) → IsIn e parts.now → IsEntryIn modules.now (map position_of body.now) head.now e))) }
+    ensures unknown { IfOk result (λ o. IfNone o (¬ ((e : EntryPart) → IsIn e parts.now → IsEntryIn modules.now (map position_of body.now) head.now e))) }
+    ensures known { IfOk result (λ o. IfSome o (λ _. (e : EntryPart) → IsIn e parts.now → IsEntryIn modules.now (map position_of body.now) head.now e)) }
+    ensures entries { IfOk result (λ o. IfSome o (λ es. map entry_of es.items ≡ map (entry_link modules.now (map position_of body.now) head.now) parts.now)) }
 {
     let mut list = Vec::new(alloc);
     for part in parts {
@@ -116,7 +120,9 @@ pub fn exit_numbers(
     requires few_positions { length body.now ≤ 64 }
     requires known { AreOfModules modules.now (map position_of body.now) }
     requires few_outputs { HasFewPorts head.now }
-    ensures { IfOk result (λ o. MatchOption o (¬ ((e : ExitPart) → IsIn e parts.now → IsExitIn modules.now (map position_of body.now) head.now e)) (λ es. (map exit_of es.items ≡ map (exit_link modules.now (map position_of body.now) head.now) parts.now) × ((e : ExitPart) → IsIn e parts.now → IsExitIn modules.now (map position_of body.now) head.now e))) }
+    ensures unknown { IfOk result (λ o. IfNone o (¬ ((e : ExitPart) → IsIn e parts.now → IsExitIn modules.now (map position_of body.now) head.now e))) }
+    ensures known { IfOk result (λ o. IfSome o (λ _. (e : ExitPart) → IsIn e parts.now → IsExitIn modules.now (map position_of body.now) head.now e)) }
+    ensures exits { IfOk result (λ o. IfSome o (λ es. map exit_of es.items ≡ map (exit_link modules.now (map position_of body.now) head.now) parts.now)) }
 {
     let mut list = Vec::new(alloc);
     for part in parts {

@@ -19,9 +19,7 @@ fn are_pairs_of(one: &Module, pairs: &[PairPart]) -> bool
 {
     let inputs = one.inputs();
     let outputs = one.outputs();
-    pairs
-        .iter()
-        .all(|e| has_port(inputs, e.input.bytes()) && has_port(outputs, e.output.bytes()))
+    pairs.iter().all(|e| has_port(inputs, e.input.bytes()) && has_port(outputs, e.output.bytes()))
 }
 
 /// The first deps part of which a pair names a port that is not there.

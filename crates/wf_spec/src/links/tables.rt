@@ -61,10 +61,8 @@ pub fn differ(alloc: Global, positions: usize, ends: &[Inner]) -> Result<bool, A
     requires small { AreSmall positions (map inner_of ends.now) }
     ensures { IfOk result (λ b. IsTrue b ↔ AllDiffer (map inner_of ends.now)) }
 {
-    match table(alloc, positions, ends)? {
-        None => Ok(false),
-        Some(_marks) => Ok(true),
-    }
+    let marks = table(alloc, positions, ends)?;
+    Ok(marks.is_some())
 }
 
 /// Whether each port is met, where no port is met twice and the positions have so many ports each.

@@ -66,11 +66,7 @@ fn first_cycle(alloc: Global, wirings: &[Wiring]) -> Result<Option<usize>, Alloc
 /// Errors: the fault of the first rule that is broken, at the first production, of `PortLinkedTwice`, `PortUnlinked` and `BodyCycle` in this order; `NoMemory` may come at any time.
 ///
 /// Cost: for each production a few looks at each port and link, and, once each port has one link, for each position two at each edge.
-pub fn check_wirings(
-    alloc: Global,
-    modules: &[Module],
-    wirings: &[Wiring],
-) -> Result<(), FormFault>
+pub fn check_wirings(alloc: Global, modules: &[Module], wirings: &[Wiring]) -> Result<(), FormFault>
     requires few_ports { HaveFewPorts modules.now }
     requires within { (w : Wiring) → IsIn w wirings.now → IsWithin modules.now w }
     ensures kept { OnOk result (AllHold (wiring_rules modules.now wirings.now)) }

@@ -1,11 +1,8 @@
-use Rattle.std.proofs.Common.{◌≡◌, ◌∙◌, ◌<◌, ◌≤◌, List, ℕ, map, length, ap, sym, subst}
-use Rattle.std.proofs.lemmas.List.{length-map}
-use Rattle.wf_model.specs.declared.parts.DepsPart.{DepsPart}
+use Rattle.std.proofs.Common.{◌∙◌, ◌<◌, ◌≤◌, List, map, length, ap, sym, subst}
 use Rattle.wf_model.specs.Lists.{IsIn}
-use Rattle.wf_model.specs.Grammar.{Module, Production, Given}
+use Rattle.wf_model.specs.Grammar.{Module, Production}
 use Rattle.wf_spec.specs.Assembling.{IsSound}
-use Rattle.wf_spec.specs.Forming.{given_in, production_in, modules_of, names_of, place_of}
-use Rattle.wf_spec.specs.Held.{HeldProduction}
+use Rattle.wf_spec.specs.Forming.{given_in, production_in}
 use Rattle.wf_spec.specs.Resolving.{HaveFewPorts}
 use Rattle.wf_spec.specs.Rows.{table_of, AreGivenIn}
 use Rattle.wf_spec.specs.Tables.{numbers_in}

@@ -1,5 +1,4 @@
 use Rattle.wf_spec.proofs.Lawful.{law}
-use Rattle.wf_spec.proofs.Wired.{rules_read}
 use Rattle.wf_spec.proofs.law.forming_law.Goals as goal
 
 pub returns : goal.returns

@@ -1,8 +1,8 @@
 use Rattle.std.proofs.Common.{◌≡◌, ◌⊎◌, List, ℕ, OnOk, IfErr, subst, sym}
 use Rattle.wf_spec.specs.declared.fault.FormFault.TheVariants.{NoMemory}
 use Rattle.wf_spec.specs.Forming.{names_of}
-use Rattle.wf_spec.specs.Rules.{AllHold, IsFirstFault}
-use Rattle.wf_spec.specs.Wiring.{AreReady, rules_on}
+use Rattle.wf_spec.specs.Rules.{link_rules_of, AllHold, IsFirstFault}
+use Rattle.wf_spec.specs.Wiring.{AreReady}
 use Rattle.wf_spec.proofs.LinkRules.{on_read, ready_of}
 use Rattle.wf_spec.proofs.links.wired.Goals as goal
 
@@ -14,9 +14,9 @@ wired_from-requires c =
 
 pub returns-clause-kept : goal.returns-clause-kept
 returns-clause-kept c =
-    on_read (λ ms ps ds. OnOk c.wired_from.result (AllHold (rules_on ms ps ds))) _ c.args.modules.now _ c.items.result.now _ c.items-2.result.now (sym c.requires.modules) (sym c.items.ensures) (sym c.items-2.ensures) c.wired_from.ensures.kept
+    on_read (λ ms ps ds. OnOk c.wired_from.result (AllHold (link_rules_of ms ps ds))) _ c.args.modules.now _ c.items.result.now _ c.items-2.result.now (sym c.requires.modules) (sym c.items.ensures) (sym c.items-2.ensures) c.wired_from.ensures.kept
 
 pub returns-clause-refused : goal.returns-clause-refused
 returns-clause-refused c =
-    on_read (λ ms ps ds. IfErr c.wired_from.result (λ f. (f ≡ NoMemory) ⊎ IsFirstFault (rules_on ms ps ds) f)) _ c.args.modules.now _ c.items.result.now _ c.items-2.result.now
+    on_read (λ ms ps ds. IfErr c.wired_from.result (λ f. (f ≡ NoMemory) ⊎ IsFirstFault (link_rules_of ms ps ds) f)) _ c.args.modules.now _ c.items.result.now _ c.items-2.result.now
     (sym c.requires.modules) (sym c.items.ensures) (sym c.items-2.ensures) c.wired_from.ensures.refused

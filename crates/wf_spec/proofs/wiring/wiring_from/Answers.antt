@@ -1,6 +1,5 @@
-use Rattle.std.proofs.Common.{◌≡◌, ◌<◌, ◌∙◌, List, refl, subst, sym, ap, map, length}
+use Rattle.std.proofs.Common.{◌≡◌, List, refl, subst, sym, map}
 use Rattle.wf_model.specs.declared.parts.PosPart.{PosPart}
-use Rattle.wf_model.specs.Grammar.{Module}
 use Rattle.wf_model.specs.Lists.{IsIn}
 use Rattle.wf_model.specs.Meaning.{position_of}
 use Rattle.wf_spec.specs.Forming.{names_of, place_of, body_in, head_in}
@@ -43,30 +42,29 @@ exit_numbers-requires-clause-few_outputs c = few_in_head (goal.at.exit_numbers-r
 
 pub returns-in_default : goal.returns-in_default
 returns-in_default c = λ h.
-    (rw c.in_default.is at c.in_ok-edges.ensures) (edges_known c.args.modules.now c.args.part.now (map position_of c.as_slice-body.result.now) c.items-2.result.now
+    (rw c.in_default.is at c.in_ok-edges.ensures.unknown) (edges_known c.args.modules.now c.args.part.now (map position_of c.as_slice-body.result.now) c.items-2.result.now
     (the_body (goal.at.returns-in_default c).After-as_slice-body) c.items-2.ensures h)
 
 pub returns-in_default-2 : goal.returns-in_default-2
 returns-in_default-2 c = λ h.
     let s = (goal.at.returns-in_default-2 c).After-as_slice-body in
-    (rw c.in_default-2.is at c.in_ok-entries.ensures) (entries_known c.args.modules.now c.args.part.now (map position_of c.as_slice-body.result.now) c.index-modules-head.result c.items-3.result.now
+    (rw c.in_default-2.is at c.in_ok-entries.ensures.unknown) (entries_known c.args.modules.now c.args.part.now (map position_of c.as_slice-body.result.now) c.index-modules-head.result c.items-3.result.now
     (the_body s) (the_head s).0 c.items-3.ensures h)
 
 pub returns-in_default-3 : goal.returns-in_default-3
 returns-in_default-3 c = λ h.
     let s = (goal.at.returns-in_default-3 c).After-as_slice-body in
-    (rw c.in_default-3.is at c.in_ok-exits.ensures) (exits_known c.args.modules.now c.args.part.now (map position_of c.as_slice-body.result.now) c.index-modules-head.result c.items-4.result.now
+    (rw c.in_default-3.is at c.in_ok-exits.ensures.unknown) (exits_known c.args.modules.now c.args.part.now (map position_of c.as_slice-body.result.now) c.index-modules-head.result c.items-4.result.now
     (the_body s) (the_head s).0 c.items-4.ensures h)
 
 pub returns : goal.returns
 returns c =
     let s = (goal.at.returns c).After-as_slice-body in
-    let body = map position_of c.as_slice-body.result.now in
-    let es = rw c.in-Some.is at c.in_ok-edges.ensures in
-    let ns = rw c.in-Some-2.is at c.in_ok-entries.ensures in
-    let xs = rw c.in-Some-3.is at c.in_ok-exits.ensures in (
+    let body = map position_of c.as_slice-body.result.now in (
       ports_known c.args.modules.now c.args.part.now body c.index-modules-head.result c.items-2.result.now c.items-3.result.now c.items-4.result.now
-          (the_body s) (the_head s).0 c.items-2.ensures c.items-3.ensures c.items-4.ensures es.1 ns.1 xs.1,
+          (the_body s) (the_head s).0 c.items-2.ensures c.items-3.ensures c.items-4.ensures
+          (rw c.in-Some.is at c.in_ok-edges.ensures.known) (rw c.in-Some-2.is at c.in_ok-entries.ensures.known) (rw c.in-Some-3.is at c.in_ok-exits.ensures.known),
       wiring_made c.args.modules.now c.args.part.now _ c.as_slice-body.result.now c.in_ok-positions.positions.items c.index-modules-head.result c.items-2.result.now c.items-3.result.now c.items-4.result.now
-          c.as_slice-body.ensures.value refl (the_body s) (the_head s).0 c.items-2.ensures c.items-3.ensures c.items-4.ensures (the_head s).1 es.0 ns.0 xs.0,
+          c.as_slice-body.ensures.value refl (the_body s) (the_head s).0 c.items-2.ensures c.items-3.ensures c.items-4.ensures (the_head s).1
+          (rw c.in-Some.is at c.in_ok-edges.ensures.edges) (rw c.in-Some-2.is at c.in_ok-entries.ensures.entries) (rw c.in-Some-3.is at c.in_ok-exits.ensures.exits),
     )

@@ -1,5 +1,4 @@
-use Rattle.std.proofs.Common.{◌<◌, ◌∙◌, sym, length, get_or, arith}
-use Rattle.wf_model.proofs.Lists.{in_map}
+use Rattle.std.proofs.Common.{◌∙◌, sym}
 use Rattle.wf_spec.specs.declared.wiring.Entry.{Entry}
 use Rattle.wf_spec.proofs.Assembling.{by_port_first, by_port_more, end_below}
 use Rattle.wf_spec.proofs.assemble.ends.entries_by_port.Goals as goal

@@ -1,4 +1,4 @@
-use Rattle.std.proofs.Common.{◌<◌, length, get_or, subst, sym}
+use Rattle.std.proofs.Common.{◌<◌, get_or, subst, sym}
 use Rattle.wf_spec.specs.declared.given.Pair.{Pair}
 use Rattle.wf_spec.proofs.Tables.{get_in}
 use Rattle.wf_spec.proofs.assemble.rows.add_pairs.Goals as goal

@@ -1,4 +1,4 @@
-use Rattle.std.proofs.Common.{◌≡◌, ◌<◌, ◌∙◌, sym, subst, refl, length, List, get_or}
+use Rattle.std.proofs.Common.{◌≡◌, ◌<◌, sym, subst, refl, length, List, get_or}
 use Rattle.wf_model.specs.Grammar.{alternative_of}
 use Rattle.wf_spec.specs.Held.{HeldGrammar, HeldProduction}
 use Rattle.wf_spec.specs.contracts.grammar.Grammar.{the_view}

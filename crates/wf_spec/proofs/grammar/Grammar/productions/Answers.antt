@@ -1,4 +1,4 @@
-use Rattle.std.proofs.Common.{◌≡◌, ◌∙◌, sym, subst, ap, map, length}
+use Rattle.std.proofs.Common.{◌≡◌, ◌∙◌, subst, ap, map, length}
 use Rattle.wf_model.specs.Grammar.{alternative_of}
 use Rattle.wf_model.specs.Lists.{numbers_from}
 use Rattle.wf_spec.specs.Held.{HeldGrammar, HeldProduction}

@@ -1,4 +1,4 @@
-use Rattle.std.proofs.Common.{◌<◌, ◌∙◌, sym, subst, length}
+use Rattle.std.proofs.Common.{◌<◌, sym, subst, length}
 use Rattle.wf_spec.specs.Held.{HeldGrammar}
 use Rattle.wf_spec.specs.Tables.{AreRowsOf}
 use Rattle.wf_spec.proofs.Tables.{rowed}

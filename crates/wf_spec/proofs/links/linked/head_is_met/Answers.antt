@@ -1,4 +1,4 @@
-use Rattle.std.proofs.Common.{◌≡◌, ◌↔◌, ◌<◌, ℕ, IsTrue, ap, length, map}
+use Rattle.std.proofs.Common.{◌↔◌, ◌<◌, ℕ, IsTrue, ap, length, map}
 use Rattle.wf_model.specs.Lists.{IsIn, AllDiffer}
 use Rattle.wf_spec.specs.Wiring.{AreSmall, entered_by, left_by, in_head}
 use Rattle.wf_spec.proofs.LinkEnds.{read_as, heads_differ, head_side, small_heads, not_both, and_then_both}

@@ -1,7 +1,7 @@
-use Rattle.std.proofs.Common.{◌≡◌, ◌↔◌, ◌<◌, ℕ, IsTrue, length, subst, sym}
-use Rattle.wf_model.specs.Grammar.{Module, Inner}
+use Rattle.std.proofs.Common.{◌<◌, ℕ, length, subst, sym}
+use Rattle.wf_model.specs.Grammar.{Module}
 use Rattle.wf_model.specs.Lists.{IsIn}
-use Rattle.wf_spec.specs.Wiring.{head_of, entered_by, left_by}
+use Rattle.wf_spec.specs.Wiring.{entered_by, left_by}
 use Rattle.wf_spec.proofs.Placing.{few_there}
 use Rattle.wf_spec.proofs.Sides.{module_read}
 use Rattle.wf_spec.proofs.links.linked.is_linked_at_least_once.Goals as goal

@@ -1,14 +1,13 @@
-use Rattle.std.proofs.Common.{◌≡◌, ◌↔◌, ℕ, IsTrue, List, length, map, subst, sym, ap, ◌∙◌}
-use Rattle.std.proofs.lemmas.List.{length-map}
+use Rattle.std.proofs.Common.{◌≡◌, List, length, map, subst, sym, ap}
 use Rattle.wf_model.specs.declared.body.Position.{Position as PositionHeld}
-use Rattle.wf_model.specs.Lists.{IsIn, AllDiffer}
-use Rattle.wf_model.specs.Grammar.{Inner, Position}
+use Rattle.wf_model.specs.Lists.{IsIn}
+use Rattle.wf_model.specs.Grammar.{Inner}
 use Rattle.wf_model.specs.Meaning.{position_of}
 use Rattle.wf_spec.specs.Bodies.{modules_at, inputs_in, outputs_in}
 use Rattle.wf_spec.specs.Ends.{HaveFew}
 use Rattle.wf_spec.specs.Resolving.{IsInputIn, IsOutputIn}
 use Rattle.wf_spec.specs.Wiring.{AreSmall, fed_by, used_by, body_of}
-use Rattle.wf_spec.proofs.LinkEnds.{read_as, not_both, and_then_both}
+use Rattle.wf_spec.proofs.LinkEnds.{read_as, and_then_both}
 use Rattle.wf_spec.proofs.Sided.{input_port, output_port, modules_there, few_inputs, few_outputs, small_ports, body_side, counts_read}
 use Rattle.wf_spec.proofs.links.linked.positions_are_met.Goals as goal
 use Rattle.wf_spec.proofs.links.linked.positions_are_met.Goals.{After-deref-3, After-deref-6}

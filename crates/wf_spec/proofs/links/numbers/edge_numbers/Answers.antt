@@ -5,8 +5,8 @@ use Rattle.wf_spec.specs.Resolving.{IsEdgeIn}
 use Rattle.wf_spec.proofs.Listing.{made_more, all_take_more, read_in}
 use Rattle.wf_spec.proofs.links.numbers.edge_numbers.Goals as goal
 
-pub returns-in_default : goal.returns-in_default
-returns-in_default c = λ all. c.in_default.ensures (all c.part-item.result (read_in c.args.parts.now c.loop-part.part-index c.part-item.result c.part-item.is c.loop-part-test.true))
+pub returns-in_default-clause-unknown : goal.returns-in_default-clause-unknown
+returns-in_default-clause-unknown c = λ all. c.in_default.ensures (all c.part-item.result (read_in c.args.parts.now c.loop-part.part-index c.part-item.result c.part-item.is c.loop-part-test.true))
 
 pub loop-part-preserved : goal.loop-part-preserved
 loop-part-preserved c = record {

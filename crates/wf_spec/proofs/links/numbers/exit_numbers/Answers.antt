@@ -2,11 +2,11 @@ use Rattle.std.proofs.Common.{map}
 use Rattle.wf_model.specs.Meaning.{position_of}
 use Rattle.wf_spec.specs.Wiring.{exit_of, exit_link, IsExitIn}
 use Rattle.wf_spec.proofs.Listing.{made_more, all_take_more, read_in}
-use Rattle.wf_spec.proofs.Numbering.{all_made}
+use Rattle.wf_spec.proofs.Numbering.{all_read}
 use Rattle.wf_spec.proofs.links.numbers.exit_numbers.Goals as goal
 
-pub returns-in_default : goal.returns-in_default
-returns-in_default c = λ all. c.in_default.ensures (all c.part-item.result (read_in c.args.parts.now c.loop-part.part-index c.part-item.result c.part-item.is c.loop-part-test.true))
+pub returns-in_default-clause-unknown : goal.returns-in_default-clause-unknown
+returns-in_default-clause-unknown c = λ all. c.in_default.ensures (all c.part-item.result (read_in c.args.parts.now c.loop-part.part-index c.part-item.result c.part-item.is c.loop-part-test.true))
 
 pub loop-part-preserved : goal.loop-part-preserved
 loop-part-preserved c = record {
@@ -16,7 +16,6 @@ loop-part-preserved c = record {
       c.in-Some.ensures.1 c.part-item.is c.loop-part-test.true;
 }
 
-pub returns : goal.returns
-returns c =
-    all_made exit_of (exit_link c.args.modules.now (map position_of c.args.body.now) c.args.head.now) (IsExitIn c.args.modules.now (map position_of c.args.body.now) c.args.head.now)
-    c.loop-part.list.items c.args.parts.now c.loop-part.part-index c.loop-part.invariant.numbered c.loop-part.invariant.all c.loop-part-test.false
+pub returns-clause-known : goal.returns-clause-known
+returns-clause-known c =
+    all_read (IsExitIn c.args.modules.now (map position_of c.args.body.now) c.args.head.now) c.args.parts.now c.loop-part.part-index c.loop-part.invariant.all c.loop-part-test.false

@@ -1,7 +1,7 @@
-use Rattle.std.proofs.Common.{List, Bool, Vec, Global, map, length, get_or, false, ap, subst, sym, ◌∙◌}
+use Rattle.std.proofs.Common.{map, length, get_or, false, ap, sym, ◌∙◌}
 use Rattle.wf_model.specs.Meaning.{inner_of}
 use Rattle.wf_model.specs.Grammar.{Inner}
-use Rattle.wf_spec.specs.Ends.{IsTable, IsTwice, place_of}
+use Rattle.wf_spec.specs.Ends.{place_of}
 use Rattle.wf_spec.proofs.Meeting.{some_table, all_met, met_set}
 use Rattle.wf_spec.proofs.links.tables.are_met.Goals as goal
 

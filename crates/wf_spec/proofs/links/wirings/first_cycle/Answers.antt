@@ -24,7 +24,6 @@ pub has_no_cycle-requires-clause-to : goal.has_no_cycle-requires-clause-to
 has_no_cycle-requires-clause-to c =
     to_there c.index-wirings-k.result c.deref.result.now c.len.result (small (goal.at.has_no_cycle-requires-clause-to c).After-deref) c.deref.ensures.value (c.len.ensures ∙ c.index-wirings-k.result.positions.ok.0)
 
-
 pub returns-then-not-forward : goal.returns-then-not-forward
 returns-then-not-forward c =
     fails_at IsWiredForward c.args.wirings.now c.loop-k.k c.index-wirings-k.result c.loop-k.invariant (λ h. true≢false (sym (c.in_ok-forward.ensures.1 (subst (λ (l : List EdgeHeld). IsAcyclic (map edge_of l)) (sym c.deref.ensures.value) h)) ∙ c.if-not-forward.true)) c.index-wirings-k.is c.loop-k-test.true

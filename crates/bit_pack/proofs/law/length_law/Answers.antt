@@ -1,0 +1,5 @@
+use Rattle.bit_pack.proofs.Codes as codes
+use Rattle.bit_pack.proofs.law.length_law.Goals as goal
+
+pub returns : goal.returns
+returns c = codes.length_law

@@ -1,0 +1,5 @@
+pub mod Bits
+pub mod Gamma
+pub mod Written
+pub mod Reading
+pub mod Laws

@@ -1,0 +1,89 @@
+// A reader of bits and gamma codes.
+ghost use Rattle.std.specs.Prelude.{◌≡◌, ◌+◌, ◌^◌, ◌<◌, ◌≤◌, ◌↔◌, [], ◌∷◌, length, IfOk, OnOk, OnErr, IsErr, IsOkUnless, IsTrue, Err};
+ghost use Rattle.bit_pack.specs.Bits.{bits_of};
+ghost use Rattle.bit_pack.specs.Gamma.{gamma, Begins, BeginsAbove, HasNoCode};
+ghost use Rattle.bit_pack.specs.Reading.{IsPadding};
+
+use crate::code::code_at;
+use crate::fault::BitFault;
+use crate::scan::{bit_at, is_padding};
+use std::marker::Model;
+
+/// A reader of the bits of bytes, the most significant bit of each byte first.
+///
+/// It takes no memory. After a fault it is as it was before, and may go on otherwise.
+#[derive(Drop)]
+pub struct BitReader<'a> {
+    bytes: &'a [u8],
+    at: usize,
+}
+
+impl<'a> Model for BitReader<'a> {
+    ghost use Rattle.std.specs.Prelude.{◌*◌, ◌^◌, ◌<◌, ◌≤◌, length, drop};
+    ghost use Rattle.bit_pack.specs.Bits.{bits_of};
+    ghost use Rattle.bit_pack.specs.Reading.{Reading};
+
+    ghost Value = { Reading };
+
+    ghost view = { λ r. record { at = r.at; left = drop r.at (bits_of r.bytes.now) } };
+
+    ghost invariant = { λ r. (r.at ≤ 8 * length r.bytes.now) × (length r.bytes.now < 2 ^ 60) };
+}
+
+impl<'a> BitReader<'a> {
+    /// Opens a reader of the bits of `bytes`. It reads nothing yet.
+    pub fn new(bytes: &'a [u8]) -> BitReader<'a>
+        requires { length bytes.now < 2 ^ 60 }
+        ensures { result ≡ record { at = 0; left = bits_of bytes.now } }
+    {
+        BitReader { bytes, at: 0 }
+    }
+
+    /// How many bits have been read.
+    pub fn at(&self) -> u64
+        ensures { result ≡ self.now.at }
+    {
+        self.at as u64
+    }
+
+    /// Reads one bit. The only fault is `Ended`.
+    pub fn bit(&mut self) -> Result<bool, BitFault>
+        ensures ok { IfOk result (λ b. self.old.left ≡ b ∷ self.new.left) }
+        ensures at { OnOk result (self.new.at ≡ self.old.at + 1) }
+        ensures ended { IsErr result ↔ (self.old.left ≡ []) }
+        ensures fault { IsOkUnless result BitFault.Ended }
+        ensures err { OnErr result (self.new ≡ self.old) }
+    {
+        if self.at / 8 >= self.bytes.len() {
+            return Err(BitFault::Ended);
+        }
+        let bit = bit_at(self.bytes, self.at);
+        self.at += 1;
+        Ok(bit)
+    }
+
+    /// Reads the Elias gamma code of a number from 1 to `most`.
+    ///
+    /// A whole code of a larger number is a `TooLarge`, also where the number has more than 64 binary
+    /// digits. A code that is cut off is an `Ended`. Zeros and digits are read byte by byte.
+    pub fn gamma(&mut self, most: u64) -> Result<u64, BitFault>
+        requires { most < 2 ^ 63 }
+        ensures number { IfOk result (λ n. n ≤ most) }
+        ensures code { IfOk result (λ n. Begins self.old.left n self.new.left) }
+        ensures at { IfOk result (λ n. self.new.at ≡ self.old.at + length (gamma n)) }
+        ensures too_large { (result ≡ Err BitFault.TooLarge) ↔ BeginsAbove self.old.left most }
+        ensures ended { (result ≡ Err BitFault.Ended) ↔ HasNoCode self.old.left }
+        ensures err { OnErr result (self.new ≡ self.old) }
+    {
+        let (number, end) = code_at(self.bytes, self.at, most)?;
+        self.at = end;
+        Ok(number)
+    }
+
+    /// Whether fewer than eight bits are left, and all of them are zero.
+    pub fn padding(&self) -> bool
+        ensures { IsTrue result ↔ IsPadding self.now.left }
+    {
+        is_padding(self.bytes, self.at)
+    }
+}

@@ -1,0 +1,87 @@
+// A writer of bits and gamma codes.
+ghost use Rattle.std.specs.Prelude.{◌≡◌, ◌+◌, ◌^◌, ◌<◌, ◌≤◌, false, [], ◌∷◌, ◌++◌, length, replicate, OnOk, OnErr};
+ghost use Rattle.bit_pack.specs.Bits.{low_bits};
+ghost use Rattle.bit_pack.specs.Gamma.{gamma};
+
+use crate::bits::Bits;
+use crate::put::append;
+use std::alloc::{AllocError, Global};
+use std::marker::Model;
+
+/// A writer of bits, one after another. A caller sees it as the list of the bits that it has written.
+///
+/// It takes a byte for each eight bits. Before a bit or a code, fewer than 2^31 bits have been written.
+#[derive(Drop)]
+pub struct BitWriter {
+    bytes: Vec<u8>,
+    end: u32,
+}
+
+impl Model for BitWriter {
+    ghost use Rattle.std.specs.Prelude.{Bool, List};
+    ghost use Rattle.bit_pack.specs.Written.{first_bits, IsFilled};
+
+    ghost Value = { List Bool };
+
+    ghost view = { λ w. first_bits w.bytes.items w.end };
+
+    ghost invariant = { λ w. IsFilled w.bytes.items w.end };
+}
+
+impl BitWriter {
+    /// A writer with no bits. It takes no memory.
+    pub fn new(alloc: Global) -> BitWriter
+        ensures { result ≡ [] }
+    {
+        BitWriter {
+            bytes: Vec::new(alloc),
+            end: 0,
+        }
+    }
+
+    /// Writes one bit. The only error is that memory is refused.
+    pub fn bit(&mut self, b: bool) -> Result<(), AllocError>
+        requires { length self.old < 2 ^ 31 }
+        ensures ok { OnOk result (self.new ≡ self.old ++ b ∷ []) }
+        ensures one { OnOk result (length self.new ≡ length self.old + 1) }
+        ensures err { OnErr result (self.new ≡ self.old) }
+    {
+        self.write(0, b as u64, 1)
+    }
+
+    /// Writes the Elias gamma code of a number from 1 on: with k binary digits, 2k - 1 bits.
+    ///
+    /// The only error is that memory is refused, and then none of the code is written: its room is
+    /// reserved once. Zeros and digits are put byte by byte.
+    pub fn gamma(&mut self, n: u64) -> Result<(), AllocError>
+        requires from_one { 1 ≤ n }
+        requires room { length self.old < 2 ^ 31 }
+        ensures ok { OnOk result (self.new ≡ self.old ++ gamma n) }
+        ensures few { OnOk result (length self.new ≤ length self.old + 127) }
+        ensures err { OnErr result (self.new ≡ self.old) }
+    {
+        let digits = 64 - n.leading_zeros();
+        self.write(digits - 1, n, digits)
+    }
+
+    /// Ends the writing: the bits that are written, in bytes.
+    pub fn finish(self) -> Bits
+        ensures { result ≡ self }
+    {
+        Bits::new(self.bytes, self.end)
+    }
+
+    /// Writes zero bits, and then the lowest digits of a number.
+    fn write(&mut self, zeros: u32, number: u64, digits: u32) -> Result<(), AllocError>
+        requires room { length self.old < 2 ^ 31 }
+        requires zeros { zeros < 64 }
+        requires digits { digits ≤ 64 }
+        ensures ok { OnOk result (self.new ≡ self.old ++ (replicate zeros false ++ low_bits digits number)) }
+        ensures more { OnOk result (length self.new ≡ length self.old + zeros + digits) }
+        ensures err { OnErr result (self.new ≡ self.old) }
+    {
+        append(&mut self.bytes, self.end, zeros, number, digits)?;
+        self.end += zeros + digits;
+        Ok(())
+    }
+}
