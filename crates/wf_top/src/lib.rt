@@ -26,6 +26,8 @@ pub use program::run;
 pub use status::Status;
 
 #[cfg(test)]
+mod event_tests;
+#[cfg(test)]
 mod spec_tests;
 #[cfg(test)]
 mod tests;

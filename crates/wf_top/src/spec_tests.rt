@@ -8,7 +8,7 @@ use wf_io::{MemFile, MemShelf, MemSink};
 use wf_model::Seq;
 
 /// Parts of specifications, by the words that the rows use.
-const PARTS: [(&str, &str); 29] = [
+const PARTS: [(&str, &str); 30] = [
     ("S", r#"{"name":"S","in":["a"],"out":["b"]}"#),
     ("K", r#"{"name":"K","in":["a"],"out":["b"]}"#),
     ("L", r#"{"name":"L","in":["a"],"out":["b"]}"#),
@@ -42,6 +42,10 @@ const PARTS: [(&str, &str); 29] = [
     (
         "K=P,K",
         r#"{"head":"K","body":[["u","P"],["v","K"]],"edges":[["u.y","v.a"]],"in":[["a","u.x"]],"out":[["v.b","b"]]}"#,
+    ),
+    (
+        "K=K,K",
+        r#"{"head":"K","body":[["u","K"],["v","K"]],"edges":[["u.b","v.a"]],"in":[["a","u.a"]],"out":[["v.b","b"]]}"#,
     ),
     ("S=?", r#"{"head":"S","body":[["?","P"]]}"#),
     ("S=Z", r#"{"head":"S","body":[["u","Z"]]}"#),
@@ -145,9 +149,27 @@ const ROWS: [(&str, &str, &str, &str, &str); 28] = [
         "",
         "UnitCycle productions 3 2",
     ),
-    ("S", "S K P", "S=K K=P,K K=P", "", "NotBuilt"),
-    ("S", "S P K", "S=K K=P", "", "NotBuilt"),
-    ("S", "P S", "S=P", "of-P", "NotBuilt"),
+    (
+        "S",
+        "S K P",
+        "S=K K=P K=K K=K,K",
+        "",
+        "UnitCycle productions 2",
+    ),
+    (
+        "S",
+        "S K P",
+        "S=K K=P K=K,K",
+        "",
+        "TwoLoops K first 2 u second 2 v",
+    ),
+    (
+        "S",
+        "P K S",
+        "K=P,K S=K K=P K=P,K K=K,K",
+        "",
+        "TwoLoops K first 0 v second 3 v",
+    ),
 ];
 
 /// Texts that say no parts, and the fault that is told.

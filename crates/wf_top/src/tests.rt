@@ -32,8 +32,28 @@ const DOT_CHECKED: &str =
     "{\"start\":\"S\",\"modules\":[{\"name\":\"S\",\"in\":[\"a\"],\"out\":[]}],\"productions\":[]}\n";
 
 /// An L is done by a P and an L behind it, or by a P.
-const LOOP: &str =
-    r#"{"start":"S","modules":[{"name":"S","in":["a"],"out":["b"]},{"name":"L","in":["x"],"out":["y"]},{"name":"P","in":["x"],"out":["y"]}],"productions":[{"head":"S","body":[["u","L"]],"in":[["a","u.x"]],"out":[["u.y","b"]]},{"head":"L","body":[["w","P"],["l","L"]],"edges":[["w.y","l.x"]],"in":[["x","w.x"]],"out":[["l.y","y"]]},{"head":"L","body":[["w","P"]],"in":[["x","w.x"]],"out":[["w.y","y"]]}]}"#;
+pub(crate) const LOOP: &str =
+    r#"{"start":"S","modules":[{"name":"S","in":["a"],"out":["b"]},{"name":"L","in":["x"],"out":["y"]},{"name":"P","in":["x"],"out":["y"]}],"productions":[{"head":"S","body":[["u","L"]],"edges":[],"in":[["a","u.x"]],"out":[["u.y","b"]]},{"head":"L","body":[["w","P"],["l","L"]],"edges":[["w.y","l.x"]],"in":[["x","w.x"]],"out":[["l.y","y"]]},{"head":"L","body":[["w","P"]],"edges":[],"in":[["x","w.x"]],"out":[["w.y","y"]]}]}"#;
+
+const LOOP_CHECKED: &str =
+    "S rank 2 production 0 cycle -\nL rank 1 production 2 cycle 0 place 0 next 1 l\n";
+
+/// A run of it that goes round once.
+const LOOP_EVENTS: &str =
+    "{\"start\":\"r\"}\n{\"expand\":\"r\",\"production\":0,\"names\":[\"l0\"]}\n{\"expand\":\"l0\",\"production\":1,\"names\":[\"w0\",\"l1\"]}\n{\"expand\":\"l1\",\"production\":2,\"names\":[\"w1\"]}\n";
+
+const LOOP_QUERIES: &str = "r.a w0.y\nw0.y r.b\nr.a r.b\nr.b w0.y\nr.a w1.y\n";
+
+/// An A is done by a P and a B behind it, or by a P, and a B by a Q and an A behind it, or by a Q.
+const PAIR: &str =
+    r#"{"start":"A","modules":[{"name":"A","in":["a"],"out":["b"]},{"name":"B","in":["a"],"out":["b"]},{"name":"P","in":["x"],"out":["y"]},{"name":"Q","in":["x"],"out":["y"]}],"productions":[{"head":"A","body":[["x","P"],["m","B"]],"edges":[["x.y","m.a"]],"in":[["a","x.x"]],"out":[["m.b","b"]]},{"head":"A","body":[["x","P"]],"edges":[],"in":[["a","x.x"]],"out":[["x.y","b"]]},{"head":"B","body":[["y","Q"],["m","A"]],"edges":[["y.y","m.a"]],"in":[["a","y.x"]],"out":[["m.b","b"]]},{"head":"B","body":[["y","Q"]],"edges":[],"in":[["a","y.x"]],"out":[["y.y","b"]]}]}"#;
+
+const PAIR_CHECKED: &str =
+    "A rank 1 production 1 cycle 0 place 0 next 0 m\nB rank 1 production 3 cycle 0 place 1 next 2 m\n";
+
+/// An L is done by two L, one behind the other, or by a P.
+const TWO_LOOPS: &str =
+    r#"{"start":"L","modules":[{"name":"L","in":["x"],"out":["y"]},{"name":"P","in":["x"],"out":["y"]}],"productions":[{"head":"L","body":[["l1","L"],["l2","L"]],"edges":[["l1.y","l2.x"]],"in":[["x","l1.x"]],"out":[["l2.y","y"]]},{"head":"L","body":[["w","P"]],"in":[["x","w.x"]],"out":[["w.y","y"]]}]}"#;
 
 /// A module S that is done by an S.
 const INSIDE_ITSELF: &str =
@@ -42,12 +62,15 @@ const INSIDE_ITSELF: &str =
 const EVENTS: &str =
     "{\"start\":\"r\"}\n{\"expand\":\"r\",\"production\":0,\"names\":[\"i1\",\"i2\"]}\n";
 
+const TWICE: &str =
+    "{\"start\":\"r\"}\n{\"expand\":\"r\",\"production\":0,\"names\":[\"i1\",\"i2\"]}\n{\"expand\":\"r\",\"production\":0,\"names\":[\"i3\",\"i4\"]}\n";
+
 const QUERIES: &str = "r.a i1.y\ni1.y r.b\nr.b r.a\ni1.y i1.y\nr.a i2.y\n";
 
 const ANSWERS: &str = "yes\nyes\nno\nno\nunknown\n";
 
 /// The files of a shelf: the name, the bytes, and whether reading past them fails.
-const FILES: [(&str, &str, bool); 19] = [
+const FILES: [(&str, &str, bool); 25] = [
     ("spec", LINE, false),
     ("view", "{}", false),
     ("events", EVENTS, false),
@@ -62,6 +85,16 @@ const FILES: [(&str, &str, bool); 19] = [
     ("steps", STEPS, false),
     ("dot", DOT, false),
     ("loop", LOOP, false),
+    ("loop-events", LOOP_EVENTS, false),
+    ("loop-queries", LOOP_QUERIES, false),
+    ("pair", PAIR, false),
+    ("two-loops", TWO_LOOPS, false),
+    ("twice", TWICE, false),
+    (
+        "spaced-out",
+        "\n{\"start\":\"r\"}\n\r\n{\"start\":\"r\"}\nx",
+        false,
+    ),
     ("view-of-none", "{\"expand\":[]}", false),
     ("start-alone", "{\"start\":\"r\"}\n", false),
     ("whole", "r.a r.b\n", false),
@@ -100,7 +133,7 @@ pub(crate) fn words<'a>(alloc: Global, line: &'a str) -> Result<Vec<&'a str>, Al
 }
 
 /// Each line: the words, the status, the text on out and the line on err.
-const ROWS: [(&str, Status, &str, &str); 34] = [
+const ROWS: [(&str, Status, &str, &str); 37] = [
     ("trace spec view events queries", Done, ANSWERS, ""),
     ("trace spec view events empty", Done, "", ""),
     ("trace spec view events two-ends", Done, "yes\nno\n", ""),
@@ -118,10 +151,28 @@ const ROWS: [(&str, Status, &str, &str); 34] = [
         "refused: spec: Unproductive S\n",
     ),
     (
-        "trace loop view events queries",
+        "trace loop view loop-events loop-queries",
+        Done,
+        "yes\nyes\nyes\nno\nunknown\n",
+        "",
+    ),
+    (
+        "trace spec view twice none",
         Refused,
         "",
-        "refused: spec: NotBuilt\n",
+        "refused: events line 3: AlreadyExpanded\n",
+    ),
+    (
+        "trace spec view spaced-out none",
+        Refused,
+        "",
+        "refused: events line 4: StartedTwice\n",
+    ),
+    (
+        "trace spec view loop-events queries",
+        Refused,
+        "",
+        "refused: events line 2: PositionsWrong\n",
     ),
     (
         "trace empty view-of-none events queries",
@@ -208,7 +259,12 @@ const ROWS: [(&str, Status, &str, &str); 34] = [
         "",
     ),
     ("check dot", Done, DOT_CHECKED, ""),
-    ("check loop", Refused, "", "refused: spec: NotBuilt\n"),
+    (
+        "check two-loops",
+        Refused,
+        "",
+        "refused: spec: TwoLoops L first 0 l1 second 0 l2\n",
+    ),
     ("check none", ReadFault, "", "fault: reading spec\n"),
     ("check spec-cut", ReadFault, "", "fault: reading spec\n"),
     ("check", Usage, "", "usage: wfprov COMMAND WORDS\n"),
@@ -269,12 +325,14 @@ fn words_end_as_they_should(rt: HostRuntime) -> Result<(), Fail> {
 }
 
 #[test]
-fn check_writes_the_canonical_text_and_the_ranks(rt: HostRuntime) -> Result<(), Fail> {
+fn check_writes_the_canonical_text_the_ranks_and_the_cycles(rt: HostRuntime) -> Result<(), Fail> {
     let alloc = rt.alloc();
     for (line, text, lines) in [
         ("check spec", LINE, LINE_CHECKED),
         ("check loosely", LINE, LINE_CHECKED),
         ("check steps", STEPS, STEPS_CHECKED),
+        ("check loop", LOOP, LOOP_CHECKED),
+        ("check pair", PAIR, PAIR_CHECKED),
     ] {
         let mut shelf = shelf(alloc, 7)?;
         let mut out = MemSink::new(alloc, 1024)?;
