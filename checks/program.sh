@@ -47,8 +47,8 @@ nothing=$(text nothing '')
 
 check "the line example is answered" answers line
 check "the phylogeny of one step is answered" answers phylogeny-once
-check "the recursive phylogeny is refused" \
-    says 2 'refused: spec: NotBuilt\n' trace examples/phylogeny/spec examples/phylogeny/view examples/phylogeny/events examples/phylogeny/queries
+check "the view of the recursive phylogeny is refused" \
+    says 2 'refused: view: NotBuilt\n' trace examples/phylogeny/spec examples/phylogeny/view examples/phylogeny/events examples/phylogeny/queries
 
 check "no word is a usage" says 1 'usage: wfprov COMMAND WORDS\n'
 check "too few words are a usage" says 1 'usage: wfprov COMMAND WORDS\n' trace $line/spec
@@ -66,6 +66,16 @@ checks() {
 
 check "the line specification is accepted" checks line
 check "the phylogeny of one step is accepted" checks phylogeny-once
+check "the recursive phylogeny is accepted" checks phylogeny
+# The recursive phylogeny under the default view, whose answers are those of the same file but for what the view changes.
+recursive() {
+    run trace examples/phylogeny/spec $line/view examples/phylogeny/events "$(text both 'run.cfg run.tree\nrun.cfg run.report\nrl0.m2 rl56.m2\nrl56.m2 rl0.m2\n')" &&
+        ended 0 "$(text expected_out 'no\nyes\nyes\nno\n')" "$nothing"
+}
+check "the recursive phylogeny is answered under the default view" recursive
+
+check "a module with two ways back is told with both" says 2 'refused: spec: TwoLoops L first 0 l1 second 0 l2\n' \
+    check "$(text loops '{"start":"L","modules":[{"name":"L","in":["x"],"out":["y"]},{"name":"P","in":["x"],"out":["y"]}],"productions":[{"head":"L","body":[["l1","L"],["l2","L"]],"edges":[["l1.y","l2.x"]],"in":[["x","l1.x"]],"out":[["l2.y","y"]]},{"head":"L","body":[["w","P"]],"in":[["x","w.x"]],"out":[["w.y","y"]]}]}')"
 check "a command with a word too many is a usage" says 1 'usage: wfprov COMMAND WORDS\n' check $line/spec more
 check "an absent specification is a fault of reading" says 3 'fault: reading spec\n' check "$work/absent"
 
@@ -101,8 +111,8 @@ check "a view that is not the default one is refused" \
     says 2 'refused: view: NotBuilt\n' trace $line/spec "$(text shut '{"expand":[]}')" $line/events $line/queries
 check "a run that is not finished is refused" \
     says 2 'refused: events: NotBuilt\n' trace $line/spec $line/view "$(text begun '{"start":"r"}\n')" $line/queries
-check "an event that does not extend the run is refused" \
-    says 2 'refused: events: NotBuilt\n' trace $line/spec $line/view "$(text twice '{"start":"r"}\n{"start":"r"}\n')" $line/queries
+check "an event that does not extend the run is told by its line" \
+    says 2 'refused: events line 2: StartedTwice\n' trace $line/spec $line/view "$(text twice '{"start":"r"}\n{"start":"r"}\n')" $line/queries
 
 answered_then_refused() {
     run trace $line/spec $line/view $line/events "$(text some 'r.a r.b\nr.a\nr.b r.a\n')" &&
