@@ -76,6 +76,30 @@ check "the recursive phylogeny is answered under the default view" recursive
 
 check "a module with two ways back is told with both" says 2 'refused: spec: TwoLoops L first 0 l1 second 0 l2\n' \
     check "$(text loops '{"start":"L","modules":[{"name":"L","in":["x"],"out":["y"]},{"name":"P","in":["x"],"out":["y"]}],"productions":[{"head":"L","body":[["l1","L"],["l2","L"]],"edges":[["l1.y","l2.x"]],"in":[["x","l1.x"]],"out":[["l2.y","y"]]},{"head":"L","body":[["w","P"]],"in":[["x","w.x"]],"out":[["w.y","y"]]}]}')"
+# So many copies of a text with a number in it, with commas between.
+copies() {
+    seq -f "$1" -s, 1 "$2"
+}
+
+# A specification of S, P and further modules, with these productions.
+large() {
+    text large "{\"start\":\"S\",\"modules\":[{\"name\":\"S\"},{\"name\":\"P\"}$1],\"productions\":[$2]}"
+}
+
+check "a module with too many outputs comes before too many modules" says 2 'refused: spec: TooManyPorts module 2\n' \
+    check "$(large ",{\"name\":\"W\",\"out\":[$(copies '"p%g"' 65)]},$(copies '{"name":"m%g"}' 1023)" '')"
+check "too many modules come before too many productions" says 2 'refused: spec: TooManyModules\n' \
+    check "$(large ",$(copies '{"name":"m%g"}' 1023)" "$(copies '{"head":"S","body":[["u%g","Z"]]}' 1025)")"
+check "too many productions come before unknown modules" says 2 'refused: spec: TooManyProductions\n' \
+    check "$(large '' "$(copies '{"head":"S","body":[["u%g","Z"]]}' 1025)")"
+full='{"head":"S","body":['$(copies '["u%g","P"]' 64)']}'
+twice='{"head":"S","body":[["u","P"],["u","P"]]}'
+check "a long body comes before a position twice" says 2 'refused: spec: BodyTooLong production 1\n' \
+    check "$(large '' "$twice,{\"head\":\"S\",\"body\":[$(copies '["u%g","P"]' 65)]}")"
+check "large bodies come before a position twice" says 2 'refused: spec: BodiesTooLarge\n' \
+    check "$(large '' "$twice,$(for _ in {1..16}; do printf '%s,' "$full"; done)$full")"
+check "a position twice comes before an unknown port" says 2 'refused: spec: PositionTwice production 1\n' \
+    check "$(large '' "{\"head\":\"S\",\"body\":[[\"u\",\"P\"]],\"in\":[[\"a\",\"u.x\"]]},$twice")"
 check "a command with a word too many is a usage" says 1 'usage: wfprov COMMAND WORDS\n' check $line/spec more
 check "an absent specification is a fault of reading" says 3 'fault: reading spec\n' check "$work/absent"
 
