@@ -1,6 +1,6 @@
 -- Events taken line by line: what the lines so far tell, and why a line is refused.
 use Rattle.std.proofs.Common.{◌≡◌, ℕ, ◌+◌, ◌≤◌, ◌⊎◌, Bool, false, List, [], ◌∷◌, ◌++◌, length, Some, None, refl, sym, ap, ◌∙◌, subst, ⊎_elim, arith, true≢false, append-nil, append_assoc, length-append}
-use Rattle.std.specs.Prelude.{IsTrue, ◌↔◌, Result, Err, IfErr}
+use Rattle.std.specs.Prelude.{IsTrue, ◌↔◌, Result, Err, IfErr, codes}
 use Rattle.wf_model.specs.declared.event.Event.{Event}
 use Rattle.wf_model.specs.declared.event.RunFault.{RunFault}
 use Rattle.wf_model.specs.declared.event.RunFault.TheVariants.{NoMemory as NoMemoryOfRun}
@@ -16,25 +16,25 @@ use Rattle.wf_io.specs.Lines.{Line, LinesLeft, Lends, Ends, text_of, lines_of}
 use Rattle.wf_flat.specs.Table.{Table, IsRunOf, events_of}
 use Rattle.wf_flat.proofs.Steps.{run_none}
 use Rattle.wf_top.specs.declared.ending.Ending.{Ending}
-use Rattle.wf_top.specs.declared.ending.Ending.TheVariants.{Done, Usage, Refused, ReadFault, WriteFault, NoMemory}
 use Rattle.wf_top.specs.declared.ending.Place.{Place}
 use Rattle.wf_top.specs.declared.ending.Place.TheVariants.{Events}
-use Rattle.wf_top.specs.Outcome.{IsEventText, IsEventLine, AreEvents, TellsRun, instance_most}
+use Rattle.wf_top.specs.Endings.{End, Done, Usage, Refused, ReadFault, WriteFault, NoMemory, end_of}
+use Rattle.wf_top.specs.Outcome.{TellsNo, IsNotBuilt, IsEventText, IsEventLine, AreEvents, TellsRun, instance_most}
 use Rattle.wf_top.specs.Stages.{Declines}
 use Rattle.wf_top.proofs.OneOutcome.{one_event, one_list}
 
 -- what tells nothing of one kind tells nothing of another that comes from it
-pub declines_from : {A B : Type 0} (place : Place) (P : A → Type 0) (Q : B → Type 0) → ((b : B) → Q b → (a : A) × P a) → (d : Ending) → Declines place P d → Declines place Q d
+pub declines_from : {A B : Type 0} (place : Place) (P : A → Type 0) (Q : B → Type 0) → ((b : B) → Q b → (a : A) × P a) → (d : End) → Declines place (TellsNo P) d → Declines place (TellsNo Q) d
 declines_from place P Q f Done h = absurd h
 declines_from place P Q f Usage h = absurd h
-declines_from place P Q f (Refused p) h = (h.0, λ b q. let r = f b q in h.1 r.0 r.1)
+declines_from place P Q f (Refused p fault) h = (h.0, (λ b q. (let r = f b q in h.1.0 r.0 r.1), h.1.1))
 declines_from place P Q f (ReadFault p) h = absurd h
 declines_from place P Q f WriteFault h = absurd h
 declines_from place P Q f NoMemory h = tt
 
 -- what declines is handed on as it is
-pub handed_on : {A T : Type 0} (place : Place) (Q : A → Type 0) (r : Result T Ending) (d : Ending) → (y : Ending) × (r ≡ Err y) × (y ≡ d) → Declines place Q d → IfErr r (λ e. Declines place Q e)
-handed_on place Q r d p h = subst (λ s. IfErr s (λ e. Declines place Q e)) (sym p.1) (subst (λ e. Declines place Q e) (sym p.2) h)
+pub handed_on : {A T : Type 0} (place : Place) (Q : A → Type 0) (r : Result T Ending) (d : Ending) → (y : Ending) × (r ≡ Err y) × (y ≡ d) → Declines place (TellsNo Q) (end_of d) → IfErr r (λ e. Declines place (TellsNo Q) (end_of e))
+handed_on place Q r d p h = subst (λ s. IfErr s (λ e. Declines place (TellsNo Q) (end_of e))) (sym p.1) (subst (λ e. Declines place (TellsNo Q) (end_of e)) (sym p.2) h)
 
 -- an accepted run is accepted as far as it is read
 accepted_before : (g : Grammar) (limit : ℕ) (a b : List Event) → IsAccepted g limit (a ++ b) → IsAccepted g limit a
@@ -53,17 +53,17 @@ no_fault : (g : Grammar) (limit : ℕ) (before : List Event) (e : Event) (f : Ru
 no_fault g limit before e f acc fault longer = let n : fault_of g limit before e ≡ None = (taking_law g limit before e acc).1 longer in absurd (cc)
 
 -- a refused event, of a text that tells no other
-pub refused_event : (g : Grammar) (t : Table) (text : List ℕ) (e : Event) (f : RunFault) → IsRunOf g t → t.most ≡ instance_most → IsEventText text e → (f ≡ NoMemoryOfRun → ⊥) → (f ≡ NoMemoryOfRun) ⊎ (fault_of g t.most (events_of t) e ≡ Some f) → Declines Events (λ d. IsEventText text d × IsAccepted g instance_most (events_of t ++ d ∷ [])) (Refused Events)
+pub refused_event : (g : Grammar) (t : Table) (text : List ℕ) (e : Event) (f : RunFault) → IsRunOf g t → t.most ≡ instance_most → IsEventText text e → (f ≡ NoMemoryOfRun → ⊥) → (f ≡ NoMemoryOfRun) ⊎ (fault_of g t.most (events_of t) e ≡ Some f) → TellsNo (λ d. IsEventText text d × IsAccepted g instance_most (events_of t ++ d ∷ [])) (codes "NotBuilt")
 refused_event g t text e f run most told other fault = (
-  refl,
   λ d h.
       ⊎_elim other (λ q.
       no_fault g t.most (events_of t) e f run.accepted q
       (subst (λ m. IsAccepted g m (events_of t ++ e ∷ [])) (sym most) (subst (λ x. IsAccepted g instance_most (events_of t ++ x ∷ [])) (one_event text d e h.0 told) h.1))) fault,
+  refl,
 )
 
 -- a text that tells no event makes no run longer
-pub no_event : (g : Grammar) (before : List Event) (text : List ℕ) (d : Ending) → Declines Events (IsEventText text) d → Declines Events (λ e. IsEventText text e × IsAccepted g instance_most (before ++ e ∷ [])) d
+pub no_event : (g : Grammar) (before : List Event) (text : List ℕ) (d : End) → Declines Events (TellsNo (IsEventText text)) d → Declines Events (TellsNo (λ e. IsEventText text e × IsAccepted g instance_most (before ++ e ∷ []))) d
 no_event g before text d h = declines_from Events (IsEventText text) (λ e. IsEventText text e × IsAccepted g instance_most (before ++ e ∷ [])) (λ e q. (e, q.0)) d h
 
 -- the run of the lines before those that are left
@@ -103,7 +103,7 @@ module _ (g : Grammar) (all : List Line) (old new : LinesLeft) (t : Table) (take
 
   module _ (text : List ℕ) (lends : Lends old text new) where
     -- the next line makes no accepted run longer
-    pub line_refused : (d : Ending) → Declines Events (λ e. IsEventText text e × IsAccepted g instance_most (events_of t ++ e ∷ [])) d → Declines Events (λ es. AreEvents all es × IsAccepted g instance_most es) d
+    pub line_refused : (d : End) → Declines Events (TellsNo (λ e. IsEventText text e × IsAccepted g instance_most (events_of t ++ e ∷ []))) d → Declines Events (TellsNo (λ es. AreEvents all es × IsAccepted g instance_most es)) d
     line_refused d h =
         declines_from Events (λ e. IsEventText text e × IsAccepted g instance_most (events_of t ++ e ∷ [])) (λ es. AreEvents all es × IsAccepted g instance_most es) (λ es q.
         let r = taken.back es q.0 in
@@ -130,9 +130,13 @@ module _ (g : Grammar) (all : List Line) (old new : LinesLeft) (t : Table) (take
         told = subst (λ x. IsEventText x h.0) lends.text_is h.1
 
 -- lines tell one run alone, which is not finished
-pub unfinished : (g : Grammar) (u : View) (bytes : List ℕ) (t : Table) (b : Bool) → AreEvents (lines_of bytes) (events_of t) → IsTrue b ↔ IsFinished g u g.start (events_of t) → b ≡ false → Declines Events (TellsRun g u instance_most bytes) (Refused Events)
+pub unfinished : (g : Grammar) (u : View) (bytes : List ℕ) (t : Table) (b : Bool) → AreEvents (lines_of bytes) (events_of t) → IsTrue b ↔ IsFinished g u g.start (events_of t) → b ≡ false → IsNotBuilt (TellsRun g u instance_most) bytes (codes "NotBuilt")
 unfinished g u bytes t b read test open_end = (
-  refl,
   λ es q.
       true≢false (sym (test.1 (subst (IsFinished g u g.start) (one_list (lines_of bytes) es (events_of t) q.read read) q.finished)) ∙ open_end),
+  refl,
 )
+
+-- what is refused as not built is declined
+pub declined : (place : Place) (Refuses : List ℕ → Type 0) (e : End) → e ≡ Refused place (codes "NotBuilt") → Refuses (codes "NotBuilt") → Declines place Refuses e
+declined place Refuses e is h = subst (Declines place Refuses) (sym is) (refl, h)

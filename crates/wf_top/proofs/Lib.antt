@@ -1,6 +1,10 @@
 pub mod Putting
 pub mod Stages
 pub mod OneOutcome
+pub mod OneFault
+pub mod OneText
+pub mod SpecSteps
+pub mod LeadsDown
 pub mod Answering
 pub mod EventLines
 pub mod FlatLinks

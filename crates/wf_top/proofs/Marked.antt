@@ -1,6 +1,7 @@
 -- Marks of composite modules, and rows of the other modules.
-use Rattle.std.proofs.Common.{◌≡◌, ℕ, ◌+◌, ◌<◌, ◌≤◌, ◌⊎◌, Bool, true, false, List, [], length, get_or, set, replicate, Option, Some, None, unwrap_or, sym, ap, ◌∙◌, subst, inl, inr, ⊎_elim, arith, true≢false}
+use Rattle.std.proofs.Common.{◌≡◌, ℕ, ◌+◌, ◌<◌, ◌≤◌, ◌⊎◌, Bool, true, false, List, [], length, get_or, map, set, replicate, Option, Some, None, unwrap_or, sym, ap, ◌∙◌, subst, inl, inr, ⊎_elim, arith, true≢false}
 use Rattle.std.proofs.lemmas.Bool.{cases_eq, cases_lt}
+use Rattle.std.proofs.lemmas.Simd.{map-map}
 use Rattle.std.proofs.lemmas.List.{get_or-set_same, get_or-set_other, get_or-replicate, get_or_past, length-set, length-replicate}
 use Rattle.wf_model.specs.Lists.{IsIn}
 use Rattle.wf_model.specs.Grammar.{Grammar, Production, inputs_of, outputs_of, is_given, IsAtomic}
@@ -10,6 +11,7 @@ use Rattle.wf_model.specs.DefaultView.{composites, default_view}
 use Rattle.wf_model.specs.Meaning.{bit_of, pairs_of}
 use Rattle.wf_model.proofs.Lists.{is_at, at_in, in_at, at_is, at_below}
 use Rattle.wf_model.proofs.DefaultView.{default_expands_all}
+use Rattle.wf_spec.specs.Held.{HeldProduction}
 use Rattle.wf_spec.specs.Tables.{AreRowsOf}
 use Rattle.wf_flat.specs.Graph.{Marks, Agree, IsMadeFor}
 use Rattle.wf_top.specs.Leaf.{ShowsGiven, ShowsBelow}
@@ -23,6 +25,10 @@ none_marked n j =
 -- flags that mark the heads of the productions mark what the default view expands
 pub marks_heads : (g : Grammar) (flags : List Bool) → Agree flags (composites g) → Marks flags (default_view g)
 marks_heads g flags a m = sym (a m)
+
+-- the heads of productions as they are held are those that the definitions see
+pub core_heads : (xs : List HeldProduction) (ps : List Production) → map (λ (r : HeldProduction). r.core) xs ≡ ps → map (λ (r : HeldProduction). r.core.head) xs ≡ map (λ (r : Production). r.head) ps
+core_heads xs ps e = sym (map-map (λ (r : Production). r.head) (λ (r : HeldProduction). r.core) xs) ∙ ap (map (λ (r : Production). r.head)) e
 
 -- an item that was read from a list is in it
 pub item_in : {A : Type 0} (xs : List A) (k : ℕ) (y : A) → k < length xs → y ≡ get_or xs k y → IsIn y xs

@@ -16,13 +16,27 @@ use Rattle.wf_events.specs.EventForm.{event_of}
 use Rattle.wf_spec.specs.Forming.{grammar_of}
 use Rattle.wf_query.proofs.Names.{query_law}
 use Rattle.wf_top.specs.Answers.{are_visible, IsShown, IsAnswerFor, IsAnswer}
-use Rattle.wf_top.specs.Outcome.{IsSpecText, TellsGrammar, TellsView, IsEventText, AreEvents, TellsRun, IsAnswered}
+use Rattle.wf_top.specs.Specification.{IsSpecText, TellsGrammar}
+use Rattle.wf_top.specs.Outcome.{TellsView, IsEventText, AreEvents, TellsRun, IsAnswered}
 
 some_same : {A : Type 0} (x y : A) → Some x ≡ Some y → x ≡ y
 some_same x y e = ap (λ o. unwrap_or o x) e
 
 abbrev ok_or : {A E : Type 0} → A → Result A E → A
 ok_or d r = elim r [ Ok x ↦ x | Err e ↦ d ]
+
+abbrev err_or : {A E : Type 0} → E → Result A E → E
+err_or d r = elim r [ Ok x ↦ d | Err e ↦ e ]
+
+-- a result is of one value
+pub one_ok : {A E : Type 0} (r : Result A E) (x y : A) → r ≡ Ok x → r ≡ Ok y → x ≡ y
+one_ok r x y p q = ap (ok_or x) (sym p ∙ q)
+
+pub one_err : {A E : Type 0} (r : Result A E) (x y : E) → r ≡ Err x → r ≡ Err y → x ≡ y
+one_err r x y p q = ap (err_or x) (sym p ∙ q)
+
+pub ok_not_err : {A E : Type 0} (r : Result A E) (x : A) (y : E) → r ≡ Ok x → r ≡ Err y → ⊥
+ok_not_err r x y p q = let e = sym p ∙ q in absurd (cc)
 
 pub one_reading : (bytes : List ℕ) (d c : Data) → IsReading bytes d → IsReading bytes c → d ≡ c
 one_reading bytes d c p q = some_same d c (sym p.1 ∙ q.1)

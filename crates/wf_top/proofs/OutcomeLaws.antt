@@ -2,47 +2,65 @@
 use Rattle.std.proofs.Common.{◌≡◌, ℕ, ◌<◌, ◌≤◌, List, [], ◌∷◌, ◌++◌, length, Option, Some, None, sym, ap, ◌∙◌, subst, inl, inr, arith, true≢false}
 use Rattle.wf_model.specs.declared.event.Event.{Event}
 use Rattle.wf_model.specs.Grammar.{Grammar}
-use Rattle.wf_model.specs.View.{View}
+use Rattle.wf_model.specs.View.{View as ViewOf}
 use Rattle.wf_model.specs.Run.{IsRun, IsFinished}
 use Rattle.wf_io.specs.Told.{File}
 use Rattle.wf_io.specs.Lines.{Line}
-use Rattle.wf_top.specs.declared.ending.Ending.{Ending}
 use Rattle.wf_top.specs.declared.ending.Place.{Place}
-use Rattle.wf_top.specs.Words.{Command, Trace, command_of}
-use Rattle.wf_top.specs.Outcome.{Stage, too_long, broken, refused, goes_on, TellsGrammar, TellsView, TellsRun, TellsLines, AreAnswered, Traces, Does}
+use Rattle.wf_top.specs.declared.ending.Place.TheVariants.{Spec, View, Events, Queries}
+use Rattle.wf_top.specs.Endings.{End, Refused}
+use Rattle.wf_top.specs.Words.{Command, Check, Trace, command_of}
+use Rattle.wf_top.specs.Specification.{TellsGrammar, RefusesSpec}
+use Rattle.wf_top.specs.Outcome.{Stage, too_long, broken, refused, goes_on, IsNotBuilt, TellsView, TellsRun, TellsLines, AreAnswered, SpecStage, IsChecked, Checks, Traces, Does, short_most, long_most}
 use Rattle.wf_top.specs.Laws.{OneOutcomeLaw}
 use Rattle.wf_top.proofs.OneOutcome.{one_grammar, one_view, one_run, one_written}
+use Rattle.wf_top.proofs.OneFault.{one_refusal, no_refusal}
+use Rattle.wf_top.proofs.OneText.{one_text}
 
--- endings and texts that are the same
-abbrev AreSame : Ending → Ending → List ℕ → List ℕ → Type 0
+-- ends and texts that are the same
+abbrev AreSame : End → End → List ℕ → List ℕ → Type 0
 AreSame d e t s = (d ≡ e) × (t ≡ s)
 
-module _ {A : Type 0} (most : ℕ) (place : Place) (file : File) (Tells : List ℕ → A → Type 0) (Next : A → Ending → List ℕ → Type 0)
+module _ {A : Type 0} (most : ℕ) (place : Place) (file : File) (Tells : List ℕ → A → Type 0) (Refuses : List ℕ → List ℕ → Type 0) (Next : A → End → List ℕ → Type 0)
     (one : (a b : A) → Tells file.bytes a → Tells file.bytes b → b ≡ a)
-    (next_one : (a : A) → Tells file.bytes a → (d e : Ending) (t s : List ℕ) → Next a d t → Next a e s → AreSame d e t s) where
+    (one_fault : (x y : List ℕ) → Refuses file.bytes x → Refuses file.bytes y → x ≡ y)
+    (apart : (a : A) (x : List ℕ) → Tells file.bytes a → Refuses file.bytes x → ⊥)
+    (next_one : (a : A) → Tells file.bytes a → (d e : End) (t s : List ℕ) → Next a d t → Next a e s → AreSame d e t s) where
   too_short : most < length file.bytes → length file.bytes ≤ most → ⊥
   too_short l s = absurd (omega arith)
 
   -- a stage has one outcome where what follows has
-  one_stage : (d e : Ending) (t s : List ℕ) → Stage most place file Tells Next d t → Stage most place file Tells Next e s → AreSame d e t s
+  one_stage : (d e : End) (t s : List ℕ) → Stage most place file Tells Refuses Next d t → Stage most place file Tells Refuses Next e s → AreSame d e t s
   one_stage d e t s (too_long l x y) (too_long m u v) = (x ∙ sym u, y ∙ sym v)
   one_stage d e t s (too_long l x y) (broken m b u v) = absurd (too_short l m)
-  one_stage d e t s (too_long l x y) (refused m b h u v) = absurd (too_short l m)
+  one_stage d e t s (too_long l x y) (refused m b f h u v) = absurd (too_short l m)
   one_stage d e t s (too_long l x y) (goes_on m b c h n) = absurd (too_short l m)
   one_stage d e t s (broken l a x y) (too_long m u v) = absurd (too_short m l)
   one_stage d e t s (broken l a x y) (broken m b u v) = (x ∙ sym u, y ∙ sym v)
-  one_stage d e t s (broken l a x y) (refused m b h u v) = absurd (true≢false (sym a ∙ b))
+  one_stage d e t s (broken l a x y) (refused m b f h u v) = absurd (true≢false (sym a ∙ b))
   one_stage d e t s (broken l a x y) (goes_on m b c h n) = absurd (true≢false (sym a ∙ b))
-  one_stage d e t s (refused l a k x y) (too_long m u v) = absurd (too_short m l)
-  one_stage d e t s (refused l a k x y) (broken m b u v) = absurd (true≢false (sym b ∙ a))
-  one_stage d e t s (refused l a k x y) (refused m b h u v) = (x ∙ sym u, y ∙ sym v)
-  one_stage d e t s (refused l a k x y) (goes_on m b c h n) = absurd (k c h)
+  one_stage d e t s (refused l a f k x y) (too_long m u v) = absurd (too_short m l)
+  one_stage d e t s (refused l a f k x y) (broken m b u v) = absurd (true≢false (sym b ∙ a))
+  one_stage d e t s (refused l a f k x y) (refused m b g h u v) = (x ∙ (ap (Refused place) (one_fault f g k h) ∙ sym u), y ∙ sym v)
+  one_stage d e t s (refused l a f k x y) (goes_on m b c h n) = absurd (apart c f h k)
   one_stage d e t s (goes_on l a z k n) (too_long m u v) = absurd (too_short m l)
   one_stage d e t s (goes_on l a z k n) (broken m b u v) = absurd (true≢false (sym b ∙ a))
-  one_stage d e t s (goes_on l a z k n) (refused m b h u v) = absurd (h z k)
+  one_stage d e t s (goes_on l a z k n) (refused m b f h u v) = absurd (apart z f k h)
   one_stage d e t s (goes_on l a z k n) (goes_on m b c h o) = next_one z k d e t s n (subst (λ x. Next x e s) (one z c k h) o)
 
-one_answers : (g : Grammar) (u : View) (e : List Event) → IsRun g g.start e → IsFinished g u g.start e → (ls : List Line) (d f : Ending) (t s : List ℕ) → AreAnswered g u e ls d t → AreAnswered g u e ls f s → AreSame d f t s
+module _ {A : Type 0} (most : ℕ) (place : Place) (file : File) (Tells : List ℕ → A → Type 0) (Next : A → End → List ℕ → Type 0)
+    (one : (a b : A) → Tells file.bytes a → Tells file.bytes b → b ≡ a)
+    (next_one : (a : A) → Tells file.bytes a → (d e : End) (t s : List ℕ) → Next a d t → Next a e s → AreSame d e t s) where
+  -- so has one that refuses what tells no value
+  one_open_stage : (d e : End) (t s : List ℕ) → Stage most place file Tells (IsNotBuilt Tells) Next d t → Stage most place file Tells (IsNotBuilt Tells) Next e s → AreSame d e t s
+  one_open_stage = one_stage most place file Tells (IsNotBuilt Tells) Next one (λ x y p q. p.1 ∙ sym q.1) (λ a x t r. r.0 a t) next_one
+
+-- so has that of SPEC
+one_spec_stage : (spec : File) (Next : Grammar → End → List ℕ → Type 0) → ((g : Grammar) → TellsGrammar spec.bytes g → (d e : End) (t s : List ℕ) → Next g d t → Next g e s → AreSame d e t s) →
+    (d e : End) (t s : List ℕ) → SpecStage spec Next d t → SpecStage spec Next e s → AreSame d e t s
+one_spec_stage spec Next next = one_stage short_most Spec spec TellsGrammar RefusesSpec Next (one_grammar spec.bytes) (one_refusal spec.bytes) (λ g x t r. no_refusal spec.bytes x g t r) next
+
+one_answers : (g : Grammar) (u : ViewOf) (e : List Event) → IsRun g g.start e → IsFinished g u g.start e → (ls : List Line) (d f : End) (t s : List ℕ) → AreAnswered g u e ls d t → AreAnswered g u e ls f s → AreSame d f t s
 one_answers g u e run fin [] d f t s p q = (p.0 ∙ sym q.0, p.1 ∙ sym q.1)
 one_answers g u e run fin (l ∷ ls) d f t s (inl p) (inl q) = (p.1 ∙ sym q.1, p.2 ∙ sym q.2)
 one_answers g u e run fin (l ∷ ls) d f t s (inl p) (inr q) = absurd (p.0 q.2.first q.2.second q.2.query)
@@ -52,15 +70,19 @@ one_answers g u e run fin (l ∷ ls) d f t s (inr p) (inr q) =
     let first = one_written g u e l p.0 q.0 run fin p.2 q.2 in
     (rest.0, p.3 ∙ (ap (λ w. w ++ p.1) first ∙ (ap (λ r. q.0 ++ r) rest.1 ∙ sym q.3)))
 
-one_trace : (spec view events queries : File) (d e : Ending) (t s : List ℕ) → Traces spec view events queries d t → Traces spec view events queries e s → AreSame d e t s
+one_trace : (spec view events queries : File) (d e : End) (t s : List ℕ) → Traces spec view events queries d t → Traces spec view events queries e s → AreSame d e t s
 one_trace spec view events queries =
-    one_stage _ _ spec TellsGrammar _ (one_grammar spec.bytes) (λ g p.
-    one_stage _ _ view (TellsView g) _ (one_view g view.bytes) (λ u q.
-    one_stage _ _ events (TellsRun g u _) _ (one_run g u _ events.bytes) (λ r told.
-    one_stage _ _ queries TellsLines _ (λ a b x y. y ∙ sym x) (λ ls h. one_answers g u r told.accepted.0 told.finished ls))))
+    one_spec_stage spec _ (λ g p.
+    one_open_stage short_most View view (TellsView g) _ (one_view g view.bytes) (λ u q.
+    one_open_stage long_most Events events (TellsRun g u _) _ (one_run g u _ events.bytes) (λ r told.
+    one_open_stage long_most Queries queries TellsLines _ (λ a b x y. y ∙ sym x) (λ ls h. one_answers g u r told.accepted.0 told.finished ls))))
 
-one_doing : (files : List ℕ → File) (c : Option Command) (d e : Ending) (t s : List ℕ) → Does files c d t → Does files c e s → AreSame d e t s
+one_check : (spec : File) (d e : End) (t s : List ℕ) → Checks spec d t → Checks spec e s → AreSame d e t s
+one_check spec = one_spec_stage spec IsChecked (λ g told d e t s p q. (p.0 ∙ sym q.0, p.1.2 ∙ (one_text g p.1.0 q.1.0 p.1.1 q.1.1 ∙ sym q.1.2)))
+
+one_doing : (files : List ℕ → File) (c : Option Command) (d e : End) (t s : List ℕ) → Does files c d t → Does files c e s → AreSame d e t s
 one_doing files None d e t s p q = (p.0 ∙ sym q.0, p.1 ∙ sym q.1)
+one_doing files (Some (Check a)) d e t s p q = one_check (files a) d e t s p q
 one_doing files (Some (Trace a b c f)) d e t s p q = one_trace (files a) (files b) (files c) (files f) d e t s p q
 
 pub one_outcome_law : OneOutcomeLaw

@@ -1,5 +1,10 @@
 pub mod Words
+pub mod Called
 pub mod Answers
+pub mod Refusals
+pub mod Endings
+pub mod Specification
+pub mod CheckText
 pub mod Outcome
 pub mod Meets
 pub mod Stages

@@ -1,7 +1,6 @@
 -- What the program does, by its words and the files that they name: how it ends, and the text that it writes to out.
-use Rattle.std.specs.Prelude.{◌≡◌, ◌⊎◌, ◌<◌, ◌≤◌, ℕ, true, false, List, [], ◌∷◌, ◌++◌, length, Option, Some, None, Ok, codes}
+use Rattle.std.specs.Prelude.{◌≡◌, ◌⊎◌, ◌<◌, ◌≤◌, ℕ, true, false, List, [], ◌∷◌, ◌++◌, length, Option, Some, None, codes}
 use Rattle.serde_json.specs.Data.{Data}
-use Rattle.wf_model.specs.declared.parts.Parts.{Parts}
 use Rattle.wf_model.specs.declared.event.Event.{Event}
 use Rattle.wf_model.specs.Grammar.{Grammar}
 use Rattle.wf_model.specs.View.{View as ViewOf}
@@ -10,36 +9,39 @@ use Rattle.wf_model.specs.Run.{IsAccepted, IsFinished}
 use Rattle.wf_io.specs.Told.{File}
 use Rattle.wf_io.specs.Lines.{Line, is_too_long, text_of, lines_of}
 use Rattle.wf_json.specs.Reading.{IsReading}
-use Rattle.wf_json.specs.SpecForm.{spec_of}
 use Rattle.wf_events.specs.EventForm.{event_of}
 use Rattle.wf_query.specs.Line.{IsQuery}
-use Rattle.wf_spec.specs.Forming.{grammar_of, IsFormed, IsPlain}
-use Rattle.wf_top.specs.declared.ending.Ending.{Ending}
-use Rattle.wf_top.specs.declared.ending.Ending.TheVariants.{Done, Usage, Refused, ReadFault}
+use Rattle.wf_check.specs.Proper.{Ranking, IsRankingOf}
 use Rattle.wf_top.specs.declared.ending.Place.{Place}
 use Rattle.wf_top.specs.declared.ending.Place.TheVariants.{Spec, View, Events, Queries}
+use Rattle.wf_top.specs.Endings.{End, Done, Usage, Refused, ReadFault}
+use Rattle.wf_top.specs.Specification.{TellsGrammar, RefusesSpec}
+use Rattle.wf_top.specs.CheckText.{check_text_of}
 use Rattle.wf_top.specs.Answers.{IsAnswer}
-use Rattle.wf_top.specs.Words.{Command, Trace, command_of}
+use Rattle.wf_top.specs.Words.{Command, Check, Trace, command_of}
+
+-- the fault of a file that is too long
+abbrev pub long_fault : Place → List ℕ
+long_fault Spec = codes "TooLong"
+long_fault View = codes "NotBuilt"
+long_fault Events = codes "NotBuilt"
+long_fault Queries = codes "NotBuilt"
+
+-- what tells no value is refused as a form that is not built yet
+abbrev pub TellsNo : {A : Type 0} → (A → Type 0) → List ℕ → Type 0
+TellsNo Tells fault = ((a : _) → Tells a → ⊥) × (fault ≡ codes "NotBuilt")
+
+-- so are bytes
+abbrev pub IsNotBuilt : {A : Type 0} → (List ℕ → A → Type 0) → List ℕ → List ℕ → Type 0
+IsNotBuilt Tells bytes = TellsNo (Tells bytes)
 
 -- A stage reads a whole file of at most so many bytes, takes from it a value that the bytes tell, and goes on with it.
--- It ends the program where the file is longer, is broken, or tells no value.
-pub data Stage {A : Type 0} (most : ℕ) (place : Place) (file : File) (Tells : List ℕ → A → Type 0) (Next : A → Ending → List ℕ → Type 0) (ending : Ending) (text : List ℕ) : Type 0 where
-  too_long : most < length file.bytes → ending ≡ Refused place → text ≡ [] → Stage most place file Tells Next ending text
-  broken : length file.bytes ≤ most → file.broken ≡ true → ending ≡ ReadFault place → text ≡ [] → Stage most place file Tells Next ending text
-  refused : length file.bytes ≤ most → file.broken ≡ false → ((a : A) → Tells file.bytes a → ⊥) → ending ≡ Refused place → text ≡ [] → Stage most place file Tells Next ending text
-  goes_on : length file.bytes ≤ most → file.broken ≡ false → (a : A) → Tells file.bytes a → Next a ending text → Stage most place file Tells Next ending text
-
--- the bytes are a specification in JSON
-abbrev pub IsSpecText : List ℕ → Parts → Type 0
-IsSpecText bytes parts = (d : Data) × IsReading bytes d × (spec_of d ≡ Ok parts)
-
--- the bytes are the specification of this grammar
-pub record TellsGrammar (bytes : List ℕ) (g : Grammar) : Type 0 where
-  pub parts : Parts
-  pub read : IsSpecText bytes parts
-  pub formed : IsFormed parts
-  pub plain : IsPlain (grammar_of parts)
-  pub is : g ≡ grammar_of parts
+-- It ends the program where the file is longer, is broken, or holds bytes that are refused.
+pub data Stage {A : Type 0} (most : ℕ) (place : Place) (file : File) (Tells : List ℕ → A → Type 0) (Refuses : List ℕ → List ℕ → Type 0) (Next : A → End → List ℕ → Type 0) (ending : End) (text : List ℕ) : Type 0 where
+  too_long : most < length file.bytes → ending ≡ Refused place (long_fault place) → text ≡ [] → Stage most place file Tells Refuses Next ending text
+  broken : length file.bytes ≤ most → file.broken ≡ true → ending ≡ ReadFault place → text ≡ [] → Stage most place file Tells Refuses Next ending text
+  refused : length file.bytes ≤ most → file.broken ≡ false → (fault : List ℕ) → Refuses file.bytes fault → ending ≡ Refused place fault → text ≡ [] → Stage most place file Tells Refuses Next ending text
+  goes_on : length file.bytes ≤ most → file.broken ≡ false → (a : A) → Tells file.bytes a → Next a ending text → Stage most place file Tells Refuses Next ending text
 
 -- the text of the default view: `{}`, with or without a newline
 abbrev pub IsDefaultText : List ℕ → Type 0
@@ -84,10 +86,10 @@ pub record IsAnswered (g : Grammar) (u : ViewOf) (e : List Event) (l : Line) (wr
   pub line : written ≡ answer ++ codes "\n"
 
 -- Lines of queries are answered one by one, up to the first that is none
-abbrev pub AreAnswered : Grammar → ViewOf → List Event → List Line → Ending → List ℕ → Type 0
+abbrev pub AreAnswered : Grammar → ViewOf → List Event → List Line → End → List ℕ → Type 0
 AreAnswered g u e [] ending text = (ending ≡ Done) × (text ≡ [])
 AreAnswered g u e (l ∷ ls) ending text =
-    (((first second : List ℕ) → IsQueryLine l first second → ⊥) × (ending ≡ Refused Queries) × (text ≡ [])) ⊎
+    (((first second : List ℕ) → IsQueryLine l first second → ⊥) × (ending ≡ Refused Queries (codes "NotBuilt")) × (text ≡ [])) ⊎
     ((written : List ℕ) × (rest : List ℕ) × IsAnswered g u e l written × (text ≡ written ++ rest) × AreAnswered g u e ls ending rest)
 
 -- the bytes hold these lines
@@ -104,20 +106,40 @@ long_most = 1073741824
 abbrev pub instance_most : ℕ
 instance_most = 16777216
 
+-- SPEC, as every command takes it
+abbrev pub SpecStage : File → (Grammar → End → List ℕ → Type 0) → End → List ℕ → Type 0
+SpecStage spec = Stage short_most Spec spec TellsGrammar RefusesSpec
+
+-- the text of a grammar, with its ranks and choices, is written
+abbrev pub IsChecked : Grammar → End → List ℕ → Type 0
+IsChecked g ending text = (ending ≡ Done) × ((r : Ranking) × IsRankingOf g r × (text ≡ check_text_of g r))
+
+-- `check` over SPEC: the text of its grammar
+abbrev pub Checks : File → End → List ℕ → Type 0
+Checks spec = SpecStage spec IsChecked
+
+-- QUERIES, answered on a run under a view
+abbrev pub AnswersQueries : Grammar → ViewOf → List Event → File → End → List ℕ → Type 0
+AnswersQueries g u e queries = Stage long_most Queries queries TellsLines (IsNotBuilt TellsLines) (AreAnswered g u e)
+
+-- EVENTS and QUERIES under a view
+abbrev pub AnswersRun : Grammar → ViewOf → File → File → End → List ℕ → Type 0
+AnswersRun g u events queries = Stage long_most Events events (TellsRun g u instance_most) (IsNotBuilt (TellsRun g u instance_most)) (λ e. AnswersQueries g u e queries)
+
+-- VIEW, EVENTS and QUERIES of a grammar
+abbrev pub AnswersView : Grammar → File → File → File → End → List ℕ → Type 0
+AnswersView g view events queries = Stage short_most View view (TellsView g) (IsNotBuilt (TellsView g)) (λ u. AnswersRun g u events queries)
+
 -- `trace` over the four files
-abbrev pub Traces : File → File → File → File → Ending → List ℕ → Type 0
-Traces spec view events queries =
-    Stage short_most Spec spec TellsGrammar (λ g.
-    Stage short_most View view (TellsView g) (λ u.
-    Stage long_most Events events (TellsRun g u instance_most) (λ e.
-    Stage long_most Queries queries TellsLines (λ ls.
-    AreAnswered g u e ls))))
+abbrev pub Traces : File → File → File → File → End → List ℕ → Type 0
+Traces spec view events queries = SpecStage spec (λ g. AnswersView g view events queries)
 
 -- what a command does over files
-abbrev pub Does : (List ℕ → File) → Option Command → Ending → List ℕ → Type 0
+abbrev pub Does : (List ℕ → File) → Option Command → End → List ℕ → Type 0
 Does files None ending text = (ending ≡ Usage) × (text ≡ [])
+Does files (Some (Check s)) ending text = Checks (files s) ending text
 Does files (Some (Trace s v e q)) ending text = Traces (files s) (files v) (files e) (files q) ending text
 
 -- how the program ends over files, and the text that it writes to out
-abbrev pub IsOutcome : (List ℕ → File) → List (List ℕ) → Ending → List ℕ → Type 0
+abbrev pub IsOutcome : (List ℕ → File) → List (List ℕ) → End → List ℕ → Type 0
 IsOutcome files words ending text = Does files (command_of words) ending text

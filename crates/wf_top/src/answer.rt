@@ -13,14 +13,14 @@ use wf_flat::{Item, find_item};
 /// Whether the second item depends on the first, as a line. Fails only for want of memory.
 fn verdict(
     alloc: Global,
-    p: &Prepared,
+    p: &Prepared<'_>,
     first: Item,
     second: Item,
 ) -> Result<&'static [u8], AllocError>
-    requires prepared { IsPrepared p.now.grammar p.now.run p.now.flat }
-    requires first { IsItemWithin (length p.now.run.instances) first }
-    requires second { IsItemWithin (length p.now.run.instances) second }
-    ensures { IfOk result (λ line. IsVerdictLine p.now.grammar (default_view p.now.grammar) (events_of p.now.run) (option_map (named_port (names_in p.now.run.instances)) first.to) (option_map (named_port (names_in p.now.run.instances)) second.from) line.now) }
+    requires prepared { IsPrepared p.now.grammar.now.core p.now.run.now p.now.flat }
+    requires first { IsItemWithin (length p.now.run.now.instances) first }
+    requires second { IsItemWithin (length p.now.run.now.instances) second }
+    ensures { IfOk result (λ line. IsVerdictLine p.now.grammar.now.core (default_view p.now.grammar.now.core) (events_of p.now.run.now) (option_map (named_port (names_in p.now.run.now.instances)) first.to) (option_map (named_port (names_in p.now.run.now.instances)) second.from) line.now) }
 {
     let Some(from) = first.to else {
         return Ok(b"no\n");
@@ -40,17 +40,17 @@ fn verdict(
 /// Cost: two items found by hashing, and one search in the links of the run. Fails only for want of memory.
 pub fn answer(
     alloc: Global,
-    p: &Prepared,
+    p: &Prepared<'_>,
     first: &[u8],
     second: &[u8],
 ) -> Result<&'static [u8], AllocError>
-    requires { IsPrepared p.now.grammar p.now.run p.now.flat }
-    ensures { IfOk result (λ line. IsAnswerLine p.now.grammar (default_view p.now.grammar) (events_of p.now.run) first.now second.now line.now) }
+    requires { IsPrepared p.now.grammar.now.core p.now.run.now p.now.flat }
+    ensures { IfOk result (λ line. IsAnswerLine p.now.grammar.now.core (default_view p.now.grammar.now.core) (events_of p.now.run.now) first.now second.now line.now) }
 {
-    let Some(a) = find_item(&p.grammar, &p.run, first) else {
+    let Some(a) = find_item(p.grammar, p.run, first) else {
         return Ok(b"unknown\n");
     };
-    let Some(b) = find_item(&p.grammar, &p.run, second) else {
+    let Some(b) = find_item(p.grammar, p.run, second) else {
         return Ok(b"unknown\n");
     };
     let line = verdict(alloc, p, a, b)?;

@@ -1,6 +1,7 @@
 // The words of a command.
 ghost use Rattle.std.specs.Prelude.{◌≡◌, Some, None, map, MatchOption};
-ghost use Rattle.wf_top.specs.Words.{command_of, Trace};
+ghost use Rattle.wf_top.specs.Words.{command_of};
+ghost use Rattle.wf_top.specs.Called.{meant};
 
 /// The names of the files that `trace` reads, in this order.
 #[derive(Clone, Copy)]
@@ -11,18 +12,34 @@ pub struct TraceWords<'w> {
     pub queries: &'w str,
 }
 
-/// The words of `trace`, if these are its words.
-pub fn trace_words<'w>(words: &'w [&'w str]) -> Option<TraceWords<'w>>
-    ensures { MatchOption result (command_of (map (λ w. w.now) words.now) ≡ None) (λ t. command_of (map (λ w. w.now) words.now) ≡ Some (Trace t.spec.now t.view.now t.events.now t.queries.now)) }
+/// A command, with the names of the files that it reads.
+#[derive(Clone, Copy)]
+pub enum Command<'w> {
+    Check { spec: &'w str },
+    Trace { words: TraceWords<'w> },
+}
+
+/// The command that the words are, if they are one.
+pub fn command_of<'w>(words: &'w [&'w str]) -> Option<Command<'w>>
+    ensures { MatchOption result (command_of (map (λ w. w.now) words.now) ≡ None) (λ c. command_of (map (λ w. w.now) words.now) ≡ Some (meant c)) }
 {
     match words {
+        [command, spec] => {
+            if *command == "check" {
+                Some(Command::Check { spec })
+            } else {
+                None
+            }
+        }
         [command, spec, view, events, queries] => {
             if *command == "trace" {
-                Some(TraceWords {
-                    spec,
-                    view,
-                    events,
-                    queries,
+                Some(Command::Trace {
+                    words: TraceWords {
+                        spec,
+                        view,
+                        events,
+                        queries,
+                    },
                 })
             } else {
                 None

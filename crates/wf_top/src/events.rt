@@ -6,11 +6,12 @@ ghost use Rattle.wf_io.specs.Lines.{lines_of};
 ghost use Rattle.wf_model.specs.declared.event.Event.{Event};
 ghost use Rattle.wf_flat.specs.Table.{IsRunOf, events_of};
 ghost use Rattle.wf_flat.specs.Graph.{Marks};
-ghost use Rattle.wf_top.specs.Outcome.{TellsRun, AreEvents, IsEventText, instance_most};
+ghost use Rattle.wf_top.specs.Endings.{end_of};
+ghost use Rattle.wf_top.specs.Outcome.{TellsNo, IsNotBuilt, TellsRun, AreEvents, IsEventText, instance_most};
 ghost use Rattle.wf_top.specs.Stages.{Declines};
 ghost use Rattle.wf_top.specs.declared.ending.Place.TheVariants.{Events};
 
-use crate::ending::{Ending, Place};
+use crate::ending::{Ending, Place, not_built};
 use std::alloc::Global;
 use wf_events::{EventFault, read_event};
 use wf_flat::{PlainRun, is_finished};
@@ -20,31 +21,27 @@ use wf_spec::{Event, Grammar, RunFault};
 /// The greatest number of instances of a run.
 const INSTANCES: u32 = 16777216;
 
-const REFUSED: Ending = Ending::Refused {
-    place: Place::Events,
-};
-
 /// The event of a line.
 fn event_of_line(alloc: Global, line: &[u8]) -> Result<Event, Ending>
     ensures ok { IfOk result (λ e. IsEventText line.now e) }
-    ensures declines { IfErr result (λ d. Declines Events (IsEventText line.now) d) }
+    ensures declines { IfErr result (λ d. Declines Events (TellsNo (IsEventText line.now)) (end_of d)) }
 {
     match read_event(alloc, line) {
         Ok(event) => Ok(event),
-        Err(EventFault::NotJson) => Err(REFUSED),
-        Err(EventFault::WrongShape) => Err(REFUSED),
+        Err(EventFault::NotJson) => Err(not_built(Place::Events)),
+        Err(EventFault::WrongShape) => Err(not_built(Place::Events)),
         Err(EventFault::NoMemory) => Err(Ending::NoMemory),
     }
 }
 
 /// Takes the event of a line into a run.
 fn take_line(alloc: Global, g: &Grammar, run: &mut PlainRun, line: &[u8]) -> Result<(), Ending>
-    requires run { IsRunOf g.now run.old }
+    requires run { IsRunOf g.now.core run.old }
     requires most { run.old.most ≡ instance_most }
-    ensures run { IsRunOf g.now run.new }
+    ensures run { IsRunOf g.now.core run.new }
     ensures most { run.new.most ≡ instance_most }
     ensures ok { OnOk result ((e : Event) × IsEventText line.now e × (events_of run.new ≡ events_of run.old ++ e ∷ [])) }
-    ensures declines { IfErr result (λ d. Declines Events (λ e. IsEventText line.now e × IsAccepted g.now instance_most (events_of run.old ++ e ∷ [])) d) }
+    ensures declines { IfErr result (λ d. Declines Events (TellsNo (λ e. IsEventText line.now e × IsAccepted g.now.core instance_most (events_of run.old ++ e ∷ []))) (end_of d)) }
 {
     let event = event_of_line(alloc, line)?;
     let Err(fault) = run.take(g, &event) else {
@@ -52,21 +49,21 @@ fn take_line(alloc: Global, g: &Grammar, run: &mut PlainRun, line: &[u8]) -> Res
     };
     match fault {
         RunFault::NoMemory => Err(Ending::NoMemory),
-        _ => Err(REFUSED),
+        _ => Err(not_built(Place::Events)),
     }
 }
 
 /// The run that all lines tell, or the refusal of the first line that tells no event of it.
 fn take_lines(alloc: Global, g: &Grammar, bytes: &[u8]) -> Result<PlainRun, Ending>
-    ensures run { IfOk result (λ r. IsRunOf g.now r × (r.most ≡ instance_most)) }
+    ensures run { IfOk result (λ r. IsRunOf g.now.core r × (r.most ≡ instance_most)) }
     ensures read { IfOk result (λ r. AreEvents (lines_of bytes.now) (events_of r)) }
-    ensures declines { IfErr result (λ d. Declines Events (λ es. AreEvents (lines_of bytes.now) es × IsAccepted g.now instance_most es) d) }
+    ensures declines { IfErr result (λ d. Declines Events (TellsNo (λ es. AreEvents (lines_of bytes.now) es × IsAccepted g.now.core instance_most es)) (end_of d)) }
 {
     let mut run = PlainRun::new(alloc, INSTANCES);
     let mut lines = WholeLines::open(bytes);
     loop {
         let Ok(next) = lines.next() else {
-            return Err(REFUSED);
+            return Err(not_built(Place::Events));
         };
         let Some(line) = next else {
             return Ok(run);
@@ -86,17 +83,17 @@ pub fn run_of_bytes(
     marks: &[bool],
     bytes: &[u8],
 ) -> Result<PlainRun, Ending>
-    requires { Marks marks.now (default_view g.now) }
-    ensures run { IfOk result (λ r. IsRunOf g.now r) }
-    ensures ok { IfOk result (λ r. TellsRun g.now (default_view g.now) instance_most bytes.now (events_of r)) }
-    ensures declines { IfErr result (λ e. Declines Events (TellsRun g.now (default_view g.now) instance_most bytes.now) e) }
+    requires { Marks marks.now (default_view g.now.core) }
+    ensures run { IfOk result (λ r. IsRunOf g.now.core r) }
+    ensures ok { IfOk result (λ r. TellsRun g.now.core (default_view g.now.core) instance_most bytes.now (events_of r)) }
+    ensures declines { IfErr result (λ e. Declines Events (IsNotBuilt (TellsRun g.now.core (default_view g.now.core) instance_most) bytes.now) (end_of e)) }
 {
     let run = take_lines(alloc, g, bytes)?;
     let Ok(finished) = is_finished(alloc, g, &run, marks) else {
         return Err(Ending::NoMemory);
     };
     if !finished {
-        return Err(REFUSED);
+        return Err(not_built(Place::Events));
     }
     Ok(run)
 }

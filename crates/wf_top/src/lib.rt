@@ -2,17 +2,23 @@
 #![tactic(auto)]
 
 mod answer;
+mod check;
+mod check_text;
 mod command;
+mod downward;
 mod ending;
 mod events;
 mod file;
 mod law;
 mod prepared;
 mod program;
+mod put;
 mod queries;
+mod refusal;
 mod spec;
 mod status;
 mod tell;
+mod told;
 mod trace;
 mod view;
 
@@ -20,5 +26,7 @@ pub use law::one_outcome_law;
 pub use program::run;
 pub use status::Status;
 
+#[cfg(test)]
+mod spec_tests;
 #[cfg(test)]
 mod tests;

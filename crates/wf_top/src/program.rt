@@ -1,11 +1,15 @@
 // All that the program does.
-ghost use Rattle.std.specs.Prelude.{◌≡◌, ◌↔◌, None, map};
-ghost use Rattle.wf_io.specs.Told.{Rose};
+ghost use Rattle.std.specs.Prelude.{◌≡◌, ◌↔◌, ◌≤◌, ℕ, List, Some, None, map, IfErr};
+ghost use Rattle.wf_io.specs.Told.{File, Rose};
 ghost use Rattle.wf_top.specs.Words.{command_of};
-ghost use Rattle.wf_top.specs.Meets.{HasEnded, EndsAsTold};
-ghost use Rattle.wf_top.specs.Stages.{IsCause};
+ghost use Rattle.wf_top.specs.Called.{meant};
+ghost use Rattle.wf_top.specs.Endings.{end_of, end_after};
+ghost use Rattle.wf_top.specs.Outcome.{Does};
+ghost use Rattle.wf_top.specs.Meets.{HasEnded, EndsAsTold, EndsBy};
+ghost use Rattle.wf_top.specs.Stages.{IsCause, IsStop};
 
-use crate::command::trace_words;
+use crate::check::check;
+use crate::command::{Command, command_of};
 use crate::ending::Ending;
 use crate::status::Status;
 use crate::tell::{status_of, tell};
@@ -14,6 +18,8 @@ use std::alloc::Global;
 use wf_io::{Shelf, Sink};
 
 /// Does what the words say over the files of a shelf: text goes to `out`, and a line on a refusal or a fault to `err`.
+///
+/// `check SPEC` writes the canonical text of a grammar, and the rank and the choice of each composite module.
 ///
 /// `trace SPEC VIEW EVENTS QUERIES` answers each query line by `yes`, `no` or `unknown`: whether the second item depends on the first, however the run is finished.
 pub fn run<H: Shelf, O: Sink, E: Sink>(
@@ -31,23 +37,42 @@ pub fn run<H: Shelf, O: Sink, E: Sink>(
     ensures same { H.files shelf.new ≡ H.files shelf.old }
 {
     let ending = perform(alloc, words, shelf, out);
-    tell(err, ending);
-    status_of(ending)
+    tell(err, &ending);
+    status_of(&ending)
 }
 
 /// Does what the words say, but for the line on `err`.
 fn perform<H: Shelf, O: Sink>(alloc: Global, words: &[&str], shelf: &mut H, out: &mut O) -> Ending
-    ensures outcome { EndsAsTold (H.files shelf.old) (map (λ w. w.now) words.now) result (O.put_bytes out.old) (O.put_bytes out.new) }
+    ensures outcome { EndsAsTold (H.files shelf.old) (map (λ w. w.now) words.now) (end_of result) (O.put_bytes out.old) (O.put_bytes out.new) }
     ensures usage { (result ≡ Ending.Usage) ↔ (command_of (map (λ w. w.now) words.now) ≡ None) }
     ensures quiet { result ≡ Ending.Usage → (O.put_bytes out.new ≡ O.put_bytes out.old) × (H.faults shelf.new ≡ H.faults shelf.old) }
-    ensures cause { IsCause (H.faults shelf.old) (H.faults shelf.new) (H.at_last shelf.new) (O.faults out.old) (O.faults out.new) (O.at_last out.new) result }
+    ensures cause { IsCause (H.faults shelf.old) (H.faults shelf.new) (H.at_last shelf.new) (O.faults out.old) (O.faults out.new) (O.at_last out.new) (end_of result) }
     ensures same { H.files shelf.new ≡ H.files shelf.old }
 {
-    let Some(files) = trace_words(words) else {
+    let Some(command) = command_of(words) else {
         return Ending::Usage;
     };
-    match trace(alloc, &files, shelf, out) {
+    match obey(alloc, &command, shelf, out) {
         Ok(()) => Ending::Done,
         Err(ending) => ending,
+    }
+}
+
+/// Does a command.
+fn obey<H: Shelf, O: Sink>(
+    alloc: Global,
+    command: &Command<'_>,
+    shelf: &mut H,
+    out: &mut O,
+) -> Result<(), Ending>
+    ensures ends { (f : List ℕ → File) → H.files shelf.old ≡ Some f → EndsBy (Does f (Some (meant command.now))) (end_after result) (O.put_bytes out.old) (O.put_bytes out.new) }
+    ensures stop { IfErr result (λ e. IsStop (end_of e)) }
+    ensures cause { IfErr result (λ e. IsCause (H.faults shelf.old) (H.faults shelf.new) (H.at_last shelf.new) (O.faults out.old) (O.faults out.new) (O.at_last out.new) (end_of e)) }
+    ensures same { H.files shelf.new ≡ H.files shelf.old }
+    ensures later { H.faults shelf.old ≤ H.faults shelf.new }
+{
+    match command {
+        Command::Check { spec } => check(alloc, spec, shelf, out),
+        Command::Trace { words } => trace(alloc, words, shelf, out),
     }
 }

@@ -4,32 +4,34 @@ ghost use Rattle.wf_model.specs.DefaultView.{default_view};
 ghost use Rattle.wf_io.specs.Lines.{lines_of};
 ghost use Rattle.wf_flat.specs.Table.{events_of};
 ghost use Rattle.wf_top.specs.Outcome.{AreAnswered};
-ghost use Rattle.wf_top.specs.Meets.{Appended, EndsBy, ending_of};
+ghost use Rattle.wf_top.specs.Endings.{end_of, end_after};
+ghost use Rattle.wf_top.specs.Meets.{Appended, EndsBy};
 ghost use Rattle.wf_top.specs.Stages.{IsWritingCause};
 ghost use Rattle.wf_top.specs.Prepared.{IsPrepared};
 ghost use Rattle.wf_top.specs.Asked.{IsAsked, EndsAt};
 
 use crate::answer::answer;
-use crate::ending::{Ending, Place};
+use crate::ending::{Ending, Place, not_built};
 use crate::prepared::Prepared;
 use std::alloc::Global;
 use wf_io::{Sink, WholeLines};
 use wf_query::read_query;
 
-const REFUSED: Ending = Ending::Refused {
-    place: Place::Queries,
-};
-
 /// Answers the query of a line.
-fn answer_line<O: Sink>(alloc: Global, p: &Prepared, line: &[u8], out: &mut O) -> Result<(), Ending>
-    requires { IsPrepared p.now.grammar p.now.run p.now.flat }
-    ensures asked { OnOk result ((written : List ℕ) × IsAsked p.now.grammar (default_view p.now.grammar) (events_of p.now.run) line.now written × Appended written (O.put_bytes out.old) (O.put_bytes out.new)) }
-    ensures ends { IfErr result (λ d. EndsAt p.now.grammar (default_view p.now.grammar) (events_of p.now.run) line.now d (O.put_bytes out.old) (O.put_bytes out.new)) }
+fn answer_line<O: Sink>(
+    alloc: Global,
+    p: &Prepared<'_>,
+    line: &[u8],
+    out: &mut O,
+) -> Result<(), Ending>
+    requires { IsPrepared p.now.grammar.now.core p.now.run.now p.now.flat }
+    ensures asked { OnOk result ((written : List ℕ) × IsAsked p.now.grammar.now.core (default_view p.now.grammar.now.core) (events_of p.now.run.now) line.now written × Appended written (O.put_bytes out.old) (O.put_bytes out.new)) }
+    ensures ends { IfErr result (λ d. EndsAt p.now.grammar.now.core (default_view p.now.grammar.now.core) (events_of p.now.run.now) line.now (end_of d) (O.put_bytes out.old) (O.put_bytes out.new)) }
     ensures count { OnOk result (O.faults out.new ≡ O.faults out.old) }
-    ensures cause { IfErr result (λ d. IsWritingCause (O.faults out.old) (O.faults out.new) (O.at_last out.new) d) }
+    ensures cause { IfErr result (λ d. IsWritingCause (O.faults out.old) (O.faults out.new) (O.at_last out.new) (end_of d)) }
 {
     let Ok(query) = read_query(line) else {
-        return Err(REFUSED);
+        return Err(not_built(Place::Queries));
     };
     let Ok(text) = answer(alloc, p, query.first, query.second) else {
         return Err(Ending::NoMemory);
@@ -43,18 +45,18 @@ fn answer_line<O: Sink>(alloc: Global, p: &Prepared, line: &[u8], out: &mut O) -
 /// Answers all lines, up to the first that is no query.
 pub fn answer_lines<O: Sink>(
     alloc: Global,
-    p: &Prepared,
+    p: &Prepared<'_>,
     bytes: &[u8],
     out: &mut O,
 ) -> Result<(), Ending>
-    requires { IsPrepared p.now.grammar p.now.run p.now.flat }
-    ensures ends { EndsBy (AreAnswered p.now.grammar (default_view p.now.grammar) (events_of p.now.run) (lines_of bytes.now)) (ending_of result) (O.put_bytes out.old) (O.put_bytes out.new) }
-    ensures cause { IfErr result (λ e. IsWritingCause (O.faults out.old) (O.faults out.new) (O.at_last out.new) e) }
+    requires { IsPrepared p.now.grammar.now.core p.now.run.now p.now.flat }
+    ensures ends { EndsBy (AreAnswered p.now.grammar.now.core (default_view p.now.grammar.now.core) (events_of p.now.run.now) (lines_of bytes.now)) (end_after result) (O.put_bytes out.old) (O.put_bytes out.new) }
+    ensures cause { IfErr result (λ e. IsWritingCause (O.faults out.old) (O.faults out.new) (O.at_last out.new) (end_of e)) }
 {
     let mut lines = WholeLines::open(bytes);
     loop {
         let Ok(next) = lines.next() else {
-            return Err(REFUSED);
+            return Err(not_built(Place::Queries));
         };
         let Some(line) = next else {
             return Ok(());

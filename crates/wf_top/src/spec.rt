@@ -1,29 +1,122 @@
-// SPEC: from bytes to a grammar.
-ghost use Rattle.std.specs.Prelude.{◌≡◌, IfOk, IfErr};
-ghost use Rattle.wf_top.specs.Outcome.{TellsGrammar};
-ghost use Rattle.wf_top.specs.Stages.{Declines};
-ghost use Rattle.wf_top.specs.declared.ending.Place.TheVariants.{Spec};
+// SPEC: from bytes to a grammar, with the ranks of its modules.
+ghost use Rattle.std.specs.Prelude.{◌≡◌, ◌⊎◌, ◌≤◌, ℕ, List, Some, IfOk, IfErr, OnOk};
+ghost use Rattle.wf_io.specs.Told.{File};
+ghost use Rattle.wf_model.specs.Proper.{IsProper};
+ghost use Rattle.wf_spec.specs.Forming.{grammar_of, IsFormed};
+ghost use Rattle.wf_check.specs.Proper.{IsRankingOf};
+ghost use Rattle.wf_top.specs.declared.ending.Place.TheVariants.{Spec as AtSpec};
+ghost use Rattle.wf_top.specs.Endings.{end_of, Refused, NoMemory};
+ghost use Rattle.wf_top.specs.Refusals.{form_text};
+ghost use Rattle.wf_top.specs.Specification.{IsSpecText, IsDownward, TellsGrammar, RefusesSpec, RefusesParts, RefusesGrammar};
+ghost use Rattle.wf_top.specs.Outcome.{short_most};
+ghost use Rattle.wf_top.specs.Stages.{Declines, IsTold, StopsAt, IsReadingCause};
 
-use crate::ending::{Ending, Place};
+use crate::downward::is_downward;
+use crate::ending::{Ending, Place, not_built};
+use crate::file::{SHORT, read_file};
+use crate::refusal::Refusal;
 use std::alloc::Global;
+use wf_check::{CheckFault, Proper, proper};
+use wf_io::Shelf;
 use wf_json::{JsonFault, read_spec};
-use wf_spec::{FormFault, Grammar};
+use wf_spec::{FormFault, Grammar, Parts};
 
-/// The grammar that a specification tells.
-pub fn grammar_of_bytes(alloc: Global, bytes: &[u8]) -> Result<Grammar, Ending>
-    ensures ok { IfOk result (λ g. TellsGrammar bytes.now g) }
-    ensures declines { IfErr result (λ e. Declines Spec (TellsGrammar bytes.now) e) }
+/// A grammar that commands take, with the ranks of its modules.
+#[derive(Drop)]
+pub struct Spec {
+    pub grammar: Grammar,
+    pub ranking: Proper,
+}
+
+fn refused(refusal: Refusal) -> Ending
+    ensures { result ≡ Ending.Refused AtSpec refusal }
 {
-    let refused = Ending::Refused { place: Place::Spec };
-    let parts = match read_spec(alloc, bytes) {
-        Ok(parts) => parts,
-        Err(JsonFault::NotJson) => return Err(refused),
-        Err(JsonFault::WrongShape { member: _ }) => return Err(refused),
-        Err(JsonFault::NoMemory) => return Err(Ending::NoMemory),
-    };
+    Ending::Refused {
+        place: Place::Spec,
+        refusal,
+    }
+}
+
+/// The parts of a specification in JSON.
+fn parts_of_bytes(alloc: Global, bytes: &[u8]) -> Result<Parts, Ending>
+    ensures ok { IfOk result (λ p. IsSpecText bytes.now p) }
+    ensures declines { IfErr result (λ e. Declines AtSpec (RefusesSpec bytes.now) (end_of e)) }
+{
+    match read_spec(alloc, bytes) {
+        Ok(parts) => Ok(parts),
+        Err(JsonFault::NotJson) => Err(refused(Refusal::NotJson)),
+        Err(JsonFault::WrongShape { member }) => Err(refused(Refusal::WrongShape { member })),
+        Err(JsonFault::NoMemory) => Err(Ending::NoMemory),
+    }
+}
+
+fn form_ending(fault: FormFault) -> Ending
+    ensures memory { fault ≡ FormFault.NoMemory → end_of result ≡ NoMemory }
+    ensures refused { (end_of result ≡ NoMemory) ⊎ (end_of result ≡ Refused AtSpec (form_text fault)) }
+{
+    match fault {
+        FormFault::NoMemory => Ending::NoMemory,
+        _ => refused(Refusal::Form { fault }),
+    }
+}
+
+/// The grammar that parts form.
+fn grammar_of_parts(alloc: Global, parts: Parts) -> Result<Grammar, Ending>
+    ensures ok { IfOk result (λ g. (g.core ≡ grammar_of parts) × IsFormed parts) }
+    ensures declines { IfErr result (λ e. Declines AtSpec (RefusesParts parts) (end_of e)) }
+{
     match Grammar::build(alloc, parts) {
         Ok(g) => Ok(g),
-        Err(FormFault::NotBuilt) => Err(refused),
-        Err(FormFault::NoMemory) => Err(Ending::NoMemory),
+        Err(fault) => Err(form_ending(fault)),
     }
+}
+
+/// A grammar that is proper and not recursive.
+fn taken(alloc: Global, g: Grammar) -> Result<Spec, Ending>
+    ensures ok { IfOk result (λ s. (s.grammar ≡ g) × IsProper g.core × IsDownward g.core) }
+    ensures ranking { IfOk result (λ s. IsRankingOf s.grammar.core s.ranking) }
+    ensures declines { IfErr result (λ e. Declines AtSpec (RefusesGrammar g.core) (end_of e)) }
+{
+    match proper(alloc, &g) {
+        Ok(ranking) => {
+            if !is_downward(&g) {
+                return Err(not_built(Place::Spec));
+            }
+            Ok(Spec {
+                grammar: g,
+                ranking,
+            })
+        }
+        Err(CheckFault::NoMemory) => Err(Ending::NoMemory),
+        Err(fault) => Err(refused(Refusal::Check { grammar: g, fault })),
+    }
+}
+
+/// The grammar that a specification tells, with the ranks of its modules.
+///
+/// Refused with the first that there is of: NotJson; WrongShape; the fault of the parts; the fault of the grammar; and NotBuilt where a body has a module whose number is not greater than its head's. `NoMemory` may come at any time.
+///
+/// Cost: those of `read_spec`, `Grammar::build` and `proper`.
+fn spec_of_bytes(alloc: Global, bytes: &[u8]) -> Result<Spec, Ending>
+    ensures ok { IfOk result (λ s. TellsGrammar bytes.now s.grammar.core) }
+    ensures ranking { IfOk result (λ s. IsRankingOf s.grammar.core s.ranking) }
+    ensures declines { IfErr result (λ e. Declines AtSpec (RefusesSpec bytes.now) (end_of e)) }
+{
+    let parts = parts_of_bytes(alloc, bytes)?;
+    let g = grammar_of_parts(alloc, parts)?;
+    taken(alloc, g)
+}
+
+/// The grammar of SPEC.
+pub fn spec_stage<H: Shelf>(alloc: Global, shelf: &mut H, name: &str) -> Result<Spec, Ending>
+    ensures ok { IfOk result (λ s. (f : List ℕ → File) → H.files shelf.old ≡ Some f → IsTold short_most (f name.now) TellsGrammar s.grammar.core) }
+    ensures ranking { IfOk result (λ s. IsRankingOf s.grammar.core s.ranking) }
+    ensures stops { IfErr result (λ e. (f : List ℕ → File) → H.files shelf.old ≡ Some f → StopsAt short_most AtSpec (f name.now) RefusesSpec (end_of e)) }
+    ensures cause { IfErr result (λ e. IsReadingCause (H.faults shelf.old) (H.faults shelf.new) (H.at_last shelf.new) (end_of e)) }
+    ensures count { OnOk result (H.faults shelf.new ≡ H.faults shelf.old) }
+    ensures same { H.files shelf.new ≡ H.files shelf.old }
+    ensures later { H.faults shelf.old ≤ H.faults shelf.new }
+{
+    let bytes = read_file(alloc, shelf, name, SHORT, Place::Spec)?;
+    spec_of_bytes(alloc, &bytes)
 }

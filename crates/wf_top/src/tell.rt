@@ -1,20 +1,25 @@
 // The line that err gets.
-ghost use Rattle.std.specs.Prelude.{◌≡◌, ◌++◌};
-ghost use Rattle.wf_top.specs.Meets.{status_of, word_of, line_of, IsPut};
+ghost use Rattle.std.specs.Prelude.{◌≡◌, ◌++◌, codes};
+ghost use Rattle.wf_top.specs.Endings.{end_of, status_of, word_of, line_of, Refused, ReadFault};
+ghost use Rattle.wf_top.specs.Refusals.{refusal_text};
+ghost use Rattle.wf_top.specs.Meets.{IsPut, Puts};
 
 use crate::ending::{Ending, Place};
+use crate::put::{put, put_two};
+use crate::refusal::Refusal;
 use crate::status::Status;
-use wf_io::Sink;
+use crate::told::put_refusal;
+use wf_io::{Failed, Sink};
 
 /// The status of an ending.
-pub fn status_of(ending: Ending) -> Status
-    ensures { result ≡ status_of ending }
+pub fn status_of(ending: &Ending) -> Status
+    ensures { result ≡ status_of (end_of ending.now) }
 {
     match ending {
         Ending::Done => Status::Done,
         Ending::Usage => Status::Usage,
-        Ending::Refused { place: _ } => Status::Refused,
-        Ending::ReadFault { place: _ } => Status::ReadFault,
+        Ending::Refused { .. } => Status::Refused,
+        Ending::ReadFault { .. } => Status::ReadFault,
         Ending::WriteFault => Status::WriteFault,
         Ending::NoMemory => Status::NoMemory,
     }
@@ -31,43 +36,47 @@ fn word_of(place: Place) -> &'static [u8]
     }
 }
 
-/// Puts two pieces, and not the second after the first failed.
-fn put_two<E: Sink>(err: &mut E, first: &[u8], second: &[u8])
-    ensures { IsPut (first.now ++ second.now) (E.put_bytes err.old) (E.put_bytes err.new) (E.faults err.old) (E.faults err.new) (E.at_last err.new) }
+fn put_read_fault<E: Sink>(err: &mut E, place: Place) -> Result<(), Failed>
+    ensures { Puts E.put_bytes E.faults E.at_last (line_of (ReadFault place)) err.old err.new result }
 {
-    let Ok(()) = err.put(first) else {
-        return;
-    };
-    put_one(err, second);
+    put(err, b"fault: reading ")?;
+    put_two(err, word_of(place), b"\n")
 }
 
-/// Puts three pieces, and none after one that failed.
-fn put_three<E: Sink>(err: &mut E, first: &[u8], second: &[u8], third: &[u8])
-    ensures { IsPut (first.now ++ (second.now ++ third.now)) (E.put_bytes err.old) (E.put_bytes err.new) (E.faults err.old) (E.faults err.new) (E.at_last err.new) }
+/// Puts a refusal and the end of its line.
+fn put_cause<E: Sink>(err: &mut E, refusal: &Refusal) -> Result<(), Failed>
+    ensures { Puts E.put_bytes E.faults E.at_last (codes ": " ++ (refusal_text refusal.now ++ codes "\n")) err.old err.new result }
 {
-    let Ok(()) = err.put(first) else {
-        return;
-    };
-    put_two(err, second, third);
+    put(err, b": ")?;
+    put_refusal(err, refusal)?;
+    put(err, b"\n")
 }
 
-/// Puts the line of an ending, and nothing at Done. It needs no memory.
-pub fn tell<E: Sink>(err: &mut E, ending: Ending)
-    ensures { IsPut (line_of ending) (E.put_bytes err.old) (E.put_bytes err.new) (E.faults err.old) (E.faults err.new) (E.at_last err.new) }
+fn put_refused<E: Sink>(err: &mut E, place: Place, refusal: &Refusal) -> Result<(), Failed>
+    ensures { Puts E.put_bytes E.faults E.at_last (line_of (Refused place (refusal_text refusal.now))) err.old err.new result }
+{
+    put(err, b"refused: ")?;
+    put(err, word_of(place))?;
+    put_cause(err, refusal)
+}
+
+/// Puts the line of an ending, and nothing at Done.
+fn put_line<E: Sink>(err: &mut E, ending: &Ending) -> Result<(), Failed>
+    ensures { Puts E.put_bytes E.faults E.at_last (line_of (end_of ending.now)) err.old err.new result }
 {
     match ending {
-        Ending::Done => {}
-        Ending::Usage => put_one(err, b"usage: wfprov COMMAND WORDS\n"),
-        Ending::Refused { place } => put_three(err, b"refused: ", word_of(place), b": NotBuilt\n"),
-        Ending::ReadFault { place } => put_three(err, b"fault: reading ", word_of(place), b"\n"),
-        Ending::WriteFault => put_one(err, b"fault: writing\n"),
-        Ending::NoMemory => put_one(err, b"no memory\n"),
+        Ending::Done => Ok(()),
+        Ending::Usage => put(err, b"usage: wfprov COMMAND WORDS\n"),
+        Ending::Refused { place, refusal } => put_refused(err, *place, refusal),
+        Ending::ReadFault { place } => put_read_fault(err, *place),
+        Ending::WriteFault => put(err, b"fault: writing\n"),
+        Ending::NoMemory => put(err, b"no memory\n"),
     }
 }
 
-/// Puts a piece.
-fn put_one<E: Sink>(err: &mut E, piece: &[u8])
-    ensures { IsPut piece.now (E.put_bytes err.old) (E.put_bytes err.new) (E.faults err.old) (E.faults err.new) (E.at_last err.new) }
+/// Puts the line of an ending, and nothing at Done. It needs no memory, and a fault of the sink changes no ending.
+pub fn tell<E: Sink>(err: &mut E, ending: &Ending)
+    ensures { IsPut (line_of (end_of ending.now)) (E.put_bytes err.old) (E.put_bytes err.new) (E.faults err.old) (E.faults err.new) (E.at_last err.new) }
 {
-    let _ = err.put(piece);
+    let _ = put_line(err, ending);
 }

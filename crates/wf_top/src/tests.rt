@@ -12,6 +12,29 @@ use wf_model::{Name, Seq};
 const LINE: &str =
     r#"{"start":"S","modules":[{"name":"S","in":["a"],"out":["b"]},{"name":"P","in":["x"],"out":["y"]},{"name":"Q","in":["x"],"out":["y"]}],"productions":[{"head":"S","body":[["u","P"],["v","Q"]],"edges":[["u.y","v.x"]],"in":[["a","u.x"]],"out":[["v.y","b"]]}]}"#;
 
+/// The same with blanks, with members that are ignored or empty, and with pairs.
+const LINE_LOOSELY: &str =
+    r#" { "deps": [{"module": "P", "pairs": []}], "modules": [{"out": ["b"], "name": "S", "in": ["a"]}, {"name": "P", "in": ["x"], "out": ["y"]}, {"name": "Q", "in": ["x"], "out": ["y"]}], "author": [1e3], "productions": [{"out": [["v.y", "b"]], "in": [["a", "u.x"]], "edges": [["u.y", "v.x"]], "body": [["u", "P"], ["v", "Q"]], "head": "S"}], "start": "S" } "#;
+
+const LINE_CHECKED: &str = "S rank 1 production 0 cycle -\n";
+
+/// An S is done by an N, an N by an M, and an M by one P or by two.
+const STEPS: &str =
+    r#"{"start":"S","modules":[{"name":"S","in":["a"],"out":["b"]},{"name":"N","in":["a"],"out":["b"]},{"name":"M","in":["a"],"out":["b"]},{"name":"P","in":["x"],"out":["y"]}],"productions":[{"head":"S","body":[["u","N"]],"edges":[],"in":[["a","u.a"]],"out":[["u.b","b"]]},{"head":"N","body":[["u","M"]],"edges":[],"in":[["a","u.a"]],"out":[["u.b","b"]]},{"head":"M","body":[["u","P"],["v","P"]],"edges":[["u.y","v.x"]],"in":[["a","u.x"]],"out":[["v.y","b"]]},{"head":"M","body":[["u","P"]],"edges":[],"in":[["a","u.x"]],"out":[["u.y","b"]]}]}"#;
+
+const STEPS_CHECKED: &str =
+    "S rank 3 production 0 cycle -\nN rank 2 production 1 cycle -\nM rank 1 production 2 cycle -\n";
+
+/// An atomic module alone.
+const DOT: &str = r#"{"start":"S","modules":[{"name":"S","in":["a"]}]}"#;
+
+const DOT_CHECKED: &str =
+    "{\"start\":\"S\",\"modules\":[{\"name\":\"S\",\"in\":[\"a\"],\"out\":[]}],\"productions\":[]}\n";
+
+/// An L is done by a P and an L behind it, or by a P.
+const LOOP: &str =
+    r#"{"start":"S","modules":[{"name":"S","in":["a"],"out":["b"]},{"name":"L","in":["x"],"out":["y"]},{"name":"P","in":["x"],"out":["y"]}],"productions":[{"head":"S","body":[["u","L"]],"in":[["a","u.x"]],"out":[["u.y","b"]]},{"head":"L","body":[["w","P"],["l","L"]],"edges":[["w.y","l.x"]],"in":[["x","w.x"]],"out":[["l.y","y"]]},{"head":"L","body":[["w","P"]],"in":[["x","w.x"]],"out":[["w.y","y"]]}]}"#;
+
 /// A module S that is done by an S.
 const INSIDE_ITSELF: &str =
     r#"{"start":"S","modules":[{"name":"S","in":["a"],"out":["b"]}],"productions":[{"head":"S","body":[["u","S"]],"in":[["a","u.a"]],"out":[["u.b","b"]]}]}"#;
@@ -24,7 +47,7 @@ const QUERIES: &str = "r.a i1.y\ni1.y r.b\nr.b r.a\ni1.y i1.y\nr.a i2.y\n";
 const ANSWERS: &str = "yes\nyes\nno\nno\nunknown\n";
 
 /// The files of a shelf: the name, the bytes, and whether reading past them fails.
-const FILES: [(&str, &str, bool); 15] = [
+const FILES: [(&str, &str, bool); 19] = [
     ("spec", LINE, false),
     ("view", "{}", false),
     ("events", EVENTS, false),
@@ -35,6 +58,10 @@ const FILES: [(&str, &str, bool); 15] = [
     ("queries-cut", QUERIES, true),
     ("empty", "", false),
     ("inside-itself", INSIDE_ITSELF, false),
+    ("loosely", LINE_LOOSELY, false),
+    ("steps", STEPS, false),
+    ("dot", DOT, false),
+    ("loop", LOOP, false),
     ("view-of-none", "{\"expand\":[]}", false),
     ("start-alone", "{\"start\":\"r\"}\n", false),
     ("whole", "r.a r.b\n", false),
@@ -42,11 +69,11 @@ const FILES: [(&str, &str, bool); 15] = [
     ("two-ends", "r.a r.b\r\n\nr.b r.b", false),
 ];
 
-fn name(alloc: Global, text: &str) -> Result<Name, AllocError> {
+pub(crate) fn name(alloc: Global, text: &str) -> Result<Name, AllocError> {
     Ok(Name::from_vec(Vec::from_slice(alloc, text.as_bytes())?))
 }
 
-fn contents(alloc: Global, text: &str) -> Result<Seq<u8>, AllocError> {
+pub(crate) fn contents(alloc: Global, text: &str) -> Result<Seq<u8>, AllocError> {
     Ok(Seq::from_vec(Vec::from_slice(alloc, text.as_bytes())?))
 }
 
@@ -64,7 +91,7 @@ fn shelf(alloc: Global, piece: u32) -> Result<MemShelf, AllocError>
     Ok(MemShelf::new(Seq::from_vec(files), piece))
 }
 
-fn words<'a>(alloc: Global, line: &'a str) -> Result<Vec<&'a str>, AllocError> {
+pub(crate) fn words<'a>(alloc: Global, line: &'a str) -> Result<Vec<&'a str>, AllocError> {
     let mut words = Vec::new(alloc);
     for word in line.split_whitespace() {
         words.push(word)?;
@@ -73,7 +100,7 @@ fn words<'a>(alloc: Global, line: &'a str) -> Result<Vec<&'a str>, AllocError> {
 }
 
 /// Each line: the words, the status, the text on out and the line on err.
-const ROWS: [(&str, Status, &str, &str); 25] = [
+const ROWS: [(&str, Status, &str, &str); 34] = [
     ("trace spec view events queries", Done, ANSWERS, ""),
     ("trace spec view events empty", Done, "", ""),
     ("trace spec view events two-ends", Done, "yes\nno\n", ""),
@@ -88,13 +115,19 @@ const ROWS: [(&str, Status, &str, &str); 25] = [
         "trace inside-itself view events queries",
         Refused,
         "",
+        "refused: spec: Unproductive S\n",
+    ),
+    (
+        "trace loop view events queries",
+        Refused,
+        "",
         "refused: spec: NotBuilt\n",
     ),
     (
         "trace empty view-of-none events queries",
         Refused,
         "",
-        "refused: spec: NotBuilt\n",
+        "refused: spec: NotJson\n",
     ),
     (
         "trace spec view-of-none events queries",
@@ -166,8 +199,26 @@ const ROWS: [(&str, Status, &str, &str); 25] = [
         "trace inside-itself none events queries",
         Refused,
         "",
-        "refused: spec: NotBuilt\n",
+        "refused: spec: Unproductive S\n",
     ),
+    (
+        "trace loosely view events queries",
+        Done,
+        "no\nyes\nno\nno\nunknown\n",
+        "",
+    ),
+    ("check dot", Done, DOT_CHECKED, ""),
+    ("check loop", Refused, "", "refused: spec: NotBuilt\n"),
+    ("check none", ReadFault, "", "fault: reading spec\n"),
+    ("check spec-cut", ReadFault, "", "fault: reading spec\n"),
+    ("check", Usage, "", "usage: wfprov COMMAND WORDS\n"),
+    (
+        "check none none",
+        Usage,
+        "",
+        "usage: wfprov COMMAND WORDS\n",
+    ),
+    ("trace none", Usage, "", "usage: wfprov COMMAND WORDS\n"),
     ("", Usage, "", "usage: wfprov COMMAND WORDS\n"),
     ("trace", Usage, "", "usage: wfprov COMMAND WORDS\n"),
     (
@@ -203,7 +254,7 @@ fn words_end_as_they_should(rt: HostRuntime) -> Result<(), Fail> {
         assert!(rt; piece >= 1);
         for (line, status, answers, message) in ROWS {
             let mut shelf = shelf(alloc, piece)?;
-            let mut out = MemSink::new(alloc, 64)?;
+            let mut out = MemSink::new(alloc, 128)?;
             let mut err = MemSink::new(alloc, 64)?;
             let words = words(alloc, line)?;
             let got = run(alloc, &words, &mut shelf, &mut out, &mut err);
@@ -213,6 +264,27 @@ fn words_end_as_they_should(rt: HostRuntime) -> Result<(), Fail> {
             let faults = if status == ReadFault { 1 } else { 0 };
             assert_eq!(rt; shelf.faults(), faults, "at {line:?}");
         }
+    }
+    Ok(())
+}
+
+#[test]
+fn check_writes_the_canonical_text_and_the_ranks(rt: HostRuntime) -> Result<(), Fail> {
+    let alloc = rt.alloc();
+    for (line, text, lines) in [
+        ("check spec", LINE, LINE_CHECKED),
+        ("check loosely", LINE, LINE_CHECKED),
+        ("check steps", STEPS, STEPS_CHECKED),
+    ] {
+        let mut shelf = shelf(alloc, 7)?;
+        let mut out = MemSink::new(alloc, 1024)?;
+        let mut err = MemSink::new(alloc, 64)?;
+        let words = words(alloc, line)?;
+        let got = run(alloc, &words, &mut shelf, &mut out, &mut err);
+        assert_eq!(rt; got, Done, "at {line:?}");
+        let expected = format!(in alloc; "{text}\n{lines}")?;
+        assert_eq!(rt; out.bytes(), expected.as_bytes(), "at {line:?}");
+        assert_eq!(rt; err.bytes(), b"".as_slice(), "at {line:?}");
     }
     Ok(())
 }
@@ -236,6 +308,30 @@ fn sinks_may_be_full(rt: HostRuntime) -> Result<(), Fail> {
             WriteFault,
             "",
             "fault: writing\n",
+        ),
+        (
+            "check spec",
+            9,
+            64,
+            WriteFault,
+            "{\"start\":",
+            "fault: writing\n",
+        ),
+        (
+            "check inside-itself",
+            9,
+            24,
+            Refused,
+            "",
+            "refused: spec: Unproduct",
+        ),
+        (
+            "check inside-itself",
+            9,
+            29,
+            Refused,
+            "",
+            "refused: spec: Unproductive S",
         ),
         (
             "trace spec view events third-wrong",

@@ -1,7 +1,8 @@
 // VIEW: the default view, and what it marks and shows.
 ghost use Rattle.std.specs.Prelude.{◌≡◌, ◌⊎◌, ◌↔◌, ◌<◌, ◌+◌, ℕ, [], IsTrue, IfOk, OnOk, length, map, codes};
 ghost use Rattle.wf_model.specs.Lists.{IsIn};
-ghost use Rattle.wf_model.specs.Grammar.{Production as ProductionSeen};
+ghost use Rattle.wf_spec.specs.Held.{HeldProduction};
+ghost use Rattle.wf_model.specs.WellFormed.{IsWellFormed};
 ghost use Rattle.wf_model.specs.DefaultView.{default_view};
 ghost use Rattle.wf_flat.specs.Graph.{Agree, Marks, flag_of, IsMadeFor};
 ghost use Rattle.wf_top.specs.Outcome.{IsDefaultText};
@@ -19,9 +20,9 @@ pub fn is_default_text(bytes: &[u8]) -> bool
 
 /// Marks the heads of productions.
 fn mark_heads(marks: &mut Vec<bool>, productions: &[Production])
-    requires within { (r : ProductionSeen) → IsIn r productions.now → r.head < length marks.old.items }
+    requires within { (r : HeldProduction) → IsIn r productions.now → r.core.head < length marks.old.items }
     requires unmarked { Agree marks.old.items [] }
-    ensures { Agree marks.new.items (map (λ (r : ProductionSeen). r.head) productions.now) }
+    ensures { Agree marks.new.items (map (λ r. r.core.head) productions.now) }
 {
     for rule in productions {
         marks[rule.head().0 as usize] = true;
@@ -32,7 +33,7 @@ fn mark_heads(marks: &mut Vec<bool>, productions: &[Production])
 ///
 /// Cost: linear in the modules and productions. Fails only for want of memory.
 pub fn composite_marks(alloc: Global, g: &Grammar) -> Result<Vec<bool>, AllocError>
-    ensures { IfOk result (λ v. Marks v.items (default_view g.now)) }
+    ensures { IfOk result (λ v. Marks v.items (default_view g.now.core)) }
 {
     let mut marks = vec![in alloc; false; g.modules().len()]?;
     mark_heads(&mut marks, g.productions());
@@ -49,11 +50,11 @@ fn is_marked(marks: &[bool], m: ModNo) -> bool
 
 /// Sets the rows of a module to its pairs by the grammar, unless it is marked.
 fn set_given(rows: &mut Deps, g: &Grammar, marks: &[bool], m: ModNo) -> Result<(), AllocError>
-    requires marks { Marks marks.now (default_view g.now) }
-    requires in_range { m.0 < length g.now.modules }
-    requires made_for { IsMadeFor g.now rows.old }
-    ensures made_for { OnOk result (IsMadeFor g.now rows.new) }
-    ensures shows { OnOk result (ShowsBelow g.now m.0 rows.old → ShowsBelow g.now (m.0 + 1) rows.new) }
+    requires marks { Marks marks.now (default_view g.now.core) }
+    requires in_range { m.0 < length g.now.core.modules }
+    requires made_for { IsMadeFor g.now.core rows.old }
+    ensures made_for { OnOk result (IsMadeFor g.now.core rows.new) }
+    ensures shows { OnOk result (ShowsBelow g.now.core m.0 rows.old → ShowsBelow g.now.core (m.0 + 1) rows.new) }
 {
     if is_marked(marks, m) {
         return Ok(());
@@ -66,9 +67,10 @@ fn set_given(rows: &mut Deps, g: &Grammar, marks: &[bool], m: ModNo) -> Result<(
 ///
 /// Cost: linear in the modules and their inputs. Fails only for want of memory.
 pub fn given_rows(alloc: Global, g: &Grammar, marks: &[bool]) -> Result<Deps, AllocError>
-    requires { Marks marks.now (default_view g.now) }
-    ensures made_for { IfOk result (λ d. IsMadeFor g.now d) }
-    ensures shows { IfOk result (λ d. ShowsGiven g.now d) }
+    requires { Marks marks.now (default_view g.now.core) }
+    ensures formed { IsWellFormed g.now.core }
+    ensures made_for { IfOk result (λ d. IsMadeFor g.now.core d) }
+    ensures shows { IfOk result (λ d. ShowsGiven g.now.core d) }
 {
     let modules = g.modules().len();
     prove!(modules <= 1024);

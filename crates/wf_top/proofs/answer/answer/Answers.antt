@@ -10,7 +10,7 @@ returns-in_default c =
     let q = c.requires in
     record {
       answer = codes "unknown";
-      is = first_unknown p.grammar q.formed (events_of p.run) q.run.accepted.0 q.finished c.args.first.now c.args.second.now (c.in_default.ensures.none refl);
+      is = first_unknown p.grammar.now.core q.formed (events_of p.run.now) q.run.accepted.0 q.finished c.args.first.now c.args.second.now (c.in_default.ensures.none refl);
       ends = refl;
     }
 
@@ -20,8 +20,8 @@ returns-in_default-find_item c =
     let q = c.requires in
     record {
       answer = codes "unknown";
-      is = second_unknown p.grammar q.formed (events_of p.run) q.run.accepted.0 q.finished c.args.first.now c.args.second.now
-          (named_item (names_in p.run.instances) c.args.first.now c.in-Some.a) c.in-Some.ensures.found refl (c.in_default-find_item.ensures.none refl);
+      is = second_unknown p.grammar.now.core q.formed (events_of p.run.now) q.run.accepted.0 q.finished c.args.first.now c.args.second.now
+          (named_item (names_in p.run.now.instances) c.args.first.now c.in-Some.a) c.in-Some.ensures.found refl (c.in_default-find_item.ensures.none refl);
       ends = refl;
     }
 
@@ -29,6 +29,6 @@ pub returns : goal.returns
 returns c =
     let p = c.args.p.now in
     let q = c.requires in
-    let names = names_in p.run.instances in
-    verdict_answers p.grammar q.formed (events_of p.run) q.run.accepted.0 q.finished c.args.first.now c.args.second.now c.in_ok-line.line.now
+    let names = names_in p.run.now.instances in
+    verdict_answers p.grammar.now.core q.formed (events_of p.run.now) q.run.accepted.0 q.finished c.args.first.now c.args.second.now c.in_ok-line.line.now
     (named_item names c.args.first.now c.in-Some.a) (named_item names c.args.second.now c.in-Some-find_item.b) c.in-Some.ensures.found refl c.in-Some-find_item.ensures.found refl c.in_ok-line.ensures

@@ -10,20 +10,20 @@ use Rattle.wf_top.proofs.events.take_lines.Goals as goal
 
 pub loop-next-init : goal.loop-next-init
 loop-next-init c =
-    taken_none c.args.g.now (lines_of c.args.bytes.now) c.open-lines.result.left c.new-run.result c.new-run.ensures (ap (λ (l : LinesLeft). l.left) c.open-lines.ensures)
+    taken_none c.args.g.now.core (lines_of c.args.bytes.now) c.open-lines.result.left c.new-run.result c.new-run.ensures (ap (λ (l : LinesLeft). l.left) c.open-lines.ensures)
 
 pub returns-in_default-next-clause-read : goal.returns-in_default-next-clause-read
 returns-in_default-next-clause-read c =
     let h : Ends c.loop-next.lines c.next.new.self = rw c.in_default-next.is at c.in-Ok.ensures.next in
-    all_taken c.args.g.now (lines_of c.args.bytes.now) c.loop-next.lines c.next.new.self c.loop-next.run c.loop-next.invariant h
+    all_taken c.args.g.now.core (lines_of c.args.bytes.now) c.loop-next.lines c.next.new.self c.loop-next.run c.loop-next.invariant h
 
 pub loop-next-preserved : goal.loop-next-preserved
 loop-next-preserved c =
     let h : Lends c.loop-next.lines c.in-Some.line.now c.next.new.self = rw c.in-Some.is at c.in-Ok.ensures.next in
-    taken_more c.args.g.now (lines_of c.args.bytes.now) c.loop-next.lines c.next.new.self c.loop-next.run c.loop-next.invariant c.in-Some.line.now h c.take_line.new.run c.take_line.ensures.run c.take_line.ensures.most c.in_ok-take_line.ensures.ok
+    taken_more c.args.g.now.core (lines_of c.args.bytes.now) c.loop-next.lines c.next.new.self c.loop-next.run c.loop-next.invariant c.in-Some.line.now h c.take_line.new.run c.take_line.ensures.run c.take_line.ensures.most c.in_ok-take_line.ensures.ok
 
 pub returns-in_err-take_line-clause-declines : goal.returns-in_err-take_line-clause-declines
 returns-in_err-take_line-clause-declines c =
     let h : Lends c.loop-next.lines c.in-Some.line.now c.next.new.self = rw c.in-Some.is at c.in-Ok.ensures.next in
-    handed_on Events (λ (es : List Event). AreEvents (lines_of c.args.bytes.now) es × IsAccepted c.args.g.now instance_most es) c.from_residual.result c.in_err-take_line.field-0.0 (err_from_is_err_and c.from_residual.result c.from_residual.ensures.1)
-    (line_refused c.args.g.now (lines_of c.args.bytes.now) c.loop-next.lines c.next.new.self c.loop-next.run c.loop-next.invariant c.in-Some.line.now h _ c.in_err-take_line.ensures.declines)
+    handed_on Events (λ (es : List Event). AreEvents (lines_of c.args.bytes.now) es × IsAccepted c.args.g.now.core instance_most es) c.from_residual.result c.in_err-take_line.field-0.0 (err_from_is_err_and c.from_residual.result c.from_residual.ensures.1)
+    (line_refused c.args.g.now.core (lines_of c.args.bytes.now) c.loop-next.lines c.next.new.self c.loop-next.run c.loop-next.invariant c.in-Some.line.now h _ c.in_err-take_line.ensures.declines)

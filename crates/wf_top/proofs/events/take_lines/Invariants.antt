@@ -4,7 +4,7 @@ use Rattle.wf_top.proofs.EventLines.{IsTaken}
 use Rattle.wf_top.proofs.events.take_lines.Given as goal
 
 abbrev pub invariant-loop-next : goal.invariant-loop-next
-invariant-loop-next l = IsTaken l.g (lines_of l.bytes) l.lines.left l.run
+invariant-loop-next l = IsTaken l.g.core (lines_of l.bytes) l.lines.left l.run
 
 abbrev pub decreases-loop-next : goal.decreases-loop-next
 decreases-loop-next l = length l.lines.left

@@ -1,13 +1,15 @@
 use Rattle.std.proofs.Common.{◌∙◌}
 use Rattle.std.proofs.lemmas.Option.{MatchOption-at_some, MatchOption-at_none}
 use Rattle.wf_io.specs.Lines.{Ends, Lends}
+use Rattle.wf_top.specs.Endings.{end_of}
+use Rattle.wf_top.proofs.Stages.{ends_as}
 use Rattle.wf_top.proofs.Answering.{done_leads, long_leads, end_leads, more_leads}
 use Rattle.wf_top.proofs.queries.answer_lines.Goals as goal
 
 pub returns-in_default-clause-ends : goal.returns-in_default-clause-ends
 returns-in_default-clause-ends g c =
     let r = c.in_default.ensures.next in
-    long_leads _ _ _ c.requires.run.accepted.0 c.requires.finished _ _ _ _ r.first _ c.loop-next.invariant.0 r.takes.left r.long
+    ends_as _ (end_of c.not_built.result) _ _ _ c.not_built.ensures (long_leads _ _ _ c.requires.run.accepted.0 c.requires.finished _ _ _ _ r.first _ c.loop-next.invariant.0 r.takes.left r.long)
 
 pub returns-in_default-next-clause-ends : goal.returns-in_default-next-clause-ends
 returns-in_default-next-clause-ends g c =

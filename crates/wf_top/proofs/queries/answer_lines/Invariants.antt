@@ -7,7 +7,7 @@ use Rattle.wf_top.proofs.queries.answer_lines.Given as goal
 
 abbrev pub invariant-loop-next : goal.invariant-loop-next
 invariant-loop-next g l =
-    Leads l.p.grammar (default_view l.p.grammar) (events_of l.p.run) (lines_of l.bytes) (g.O.Sink.put_bytes l.initial.out) l.lines.left (g.O.Sink.put_bytes l.out)
+    Leads l.p.grammar.now.core (default_view l.p.grammar.now.core) (events_of l.p.run.now) (lines_of l.bytes) (g.O.Sink.put_bytes l.initial.out) l.lines.left (g.O.Sink.put_bytes l.out)
     × (g.O.Sink.faults l.out ≡ g.O.Sink.faults l.initial.out)
 
 abbrev pub decreases-loop-next : goal.decreases-loop-next

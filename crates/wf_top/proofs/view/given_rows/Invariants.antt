@@ -4,6 +4,6 @@ use Rattle.wf_top.proofs.view.given_rows.Given as goal
 
 abbrev pub invariant-loop-k : goal.invariant-loop-k
 invariant-loop-k l = record {
-  made : IsMadeFor l.g l.rows;
-  shown : ShowsBelow l.g l.k l.rows;
+  made : IsMadeFor l.g.core l.rows;
+  shown : ShowsBelow l.g.core l.k l.rows;
 }

@@ -1,0 +1,53 @@
+-- How the steps of reading a specification make what its bytes tell.
+use Rattle.std.proofs.Common.{◌≡◌, ◌⊎◌, ℕ, List, refl, sym, subst, inl, inr, ⊎_elim}
+use Rattle.wf_model.specs.declared.parts.Parts.{Parts}
+use Rattle.wf_model.specs.Grammar.{Grammar}
+use Rattle.wf_model.specs.Proper.{IsProper}
+use Rattle.wf_spec.specs.declared.fault.FormFault.{FormFault}
+use Rattle.wf_spec.specs.declared.fault.FormFault.TheVariants.{NoMemory as NoMemoryOfForm}
+use Rattle.wf_spec.specs.Forming.{grammar_of, IsFormed}
+use Rattle.wf_spec.specs.Rules.{IsFaultOf}
+use Rattle.wf_top.specs.declared.ending.Place.{Place}
+use Rattle.wf_top.specs.declared.ending.Place.TheVariants.{Spec}
+use Rattle.wf_top.specs.Endings.{End, Done, Usage, Refused, ReadFault, WriteFault, NoMemory}
+use Rattle.wf_top.specs.Refusals.{form_text}
+use Rattle.wf_top.specs.Specification.{IsSpecText, IsDownward, TellsGrammar, RefusesGrammar, RefusesParts, RefusesSpec}
+use Rattle.wf_top.specs.Stages.{Declines}
+
+-- what declines by one refusal declines by another that comes of it
+pub declines_by : (place : Place) (P Q : List ℕ → Type 0) → ((fault : List ℕ) → P fault → Q fault) → (e : End) → Declines place P e → Declines place Q e
+declines_by place P Q f Done h = absurd h
+declines_by place P Q f Usage h = absurd h
+declines_by place P Q f (Refused p fault) h = (h.0, f fault h.1)
+declines_by place P Q f (ReadFault p) h = absurd h
+declines_by place P Q f WriteFault h = absurd h
+declines_by place P Q f NoMemory h = tt
+
+-- a fault of parts, or want of memory
+pub parts_decline : (parts : Parts) (f : FormFault) (e : End) → (f ≡ NoMemoryOfForm) ⊎ IsFaultOf parts f → (f ≡ NoMemoryOfForm → e ≡ NoMemory) → (e ≡ NoMemory) ⊎ (e ≡ Refused Spec (form_text f)) → Declines Spec (RefusesParts parts) e
+parts_decline parts f e fault memory told =
+    ⊎_elim (λ m. wants (memory m)) (λ h. ⊎_elim (λ m. wants m) (λ r. subst (Declines Spec (RefusesParts parts)) (sym r) (refl, inl (f, h, refl))) told) fault
+  where
+    wants : e ≡ NoMemory → Declines Spec (RefusesParts parts) e
+    wants m = subst (Declines Spec (RefusesParts parts)) (sym m) tt
+
+module _ (bytes : List ℕ) (parts : Parts) (read : IsSpecText bytes parts) where
+  -- the refusal of parts is one of the bytes that say them
+  pub refuses_by_parts : (fault : List ℕ) → RefusesParts parts fault → RefusesSpec bytes fault
+  refuses_by_parts fault h = inr (read.0, read.1, inr (parts, read.2, h))
+
+  module _ (g : Grammar) (formed : (g ≡ grammar_of parts) × IsFormed parts) where
+    -- so is that of their grammar
+    pub refuses_by_grammar : (fault : List ℕ) → RefusesGrammar g fault → RefusesSpec bytes fault
+    refuses_by_grammar fault h = refuses_by_parts fault (inr (formed.1, subst (λ x. RefusesGrammar x fault) formed.0 h))
+
+    -- a grammar that is taken is told
+    pub told_grammar : IsProper g → IsDownward g → TellsGrammar bytes g
+    told_grammar proper down = record {
+      parts = parts;
+      read = read;
+      formed = formed.1;
+      proper = subst IsProper formed.0 proper;
+      downward = subst IsDownward formed.0 down;
+      is = formed.0;
+    }

@@ -1,0 +1,57 @@
+-- How the program ends, as its status and the line on err tell it.
+use Rattle.std.specs.Prelude.{ℕ, List, [], ◌++◌, Result, Ok, Err, codes}
+use Rattle.wf_top.specs.declared.ending.Ending.{Ending}
+use Rattle.wf_top.specs.declared.ending.Ending.TheVariants.{Done as HasDone, Usage as HasUsage, Refused as HasRefused, ReadFault as HasReadFault, WriteFault as HasWriteFault, NoMemory as HasNoMemory}
+use Rattle.wf_top.specs.declared.ending.Place.{Place}
+use Rattle.wf_top.specs.declared.ending.Place.TheVariants.{Spec, View, Events, Queries}
+use Rattle.wf_top.specs.declared.status.Status.{Status}
+use Rattle.wf_top.specs.declared.status.Status.TheVariants.{Done as IsDone, Usage as IsUsage, Refused as IsRefused, ReadFault as IsReadFault, WriteFault as IsWriteFault, NoMemory as IsNoMemory}
+use Rattle.wf_top.specs.Refusals.{refusal_text}
+
+-- an end of the program: a refusal has the file that it is about, and the text of the fault
+pub data End : Type 0 where
+  Done : End
+  Usage : End
+  Refused : Place → List ℕ → End
+  ReadFault : Place → End
+  WriteFault : End
+  NoMemory : End
+
+-- the end that an ending is
+abbrev pub end_of : Ending → End
+end_of HasDone = Done
+end_of HasUsage = Usage
+end_of (HasRefused place refusal) = Refused place (refusal_text refusal)
+end_of (HasReadFault place) = ReadFault place
+end_of HasWriteFault = WriteFault
+end_of HasNoMemory = NoMemory
+
+-- the end of a step that may end the program, where going on to the end is Done
+abbrev pub end_after : {T : Type 0} → Result T Ending → End
+end_after (Ok x) = Done
+end_after (Err e) = end_of e
+
+-- the status of an end
+abbrev pub status_of : End → Status
+status_of Done = IsDone
+status_of Usage = IsUsage
+status_of (Refused place fault) = IsRefused
+status_of (ReadFault place) = IsReadFault
+status_of WriteFault = IsWriteFault
+status_of NoMemory = IsNoMemory
+
+-- the word of a file in messages
+abbrev pub word_of : Place → List ℕ
+word_of Spec = codes "spec"
+word_of View = codes "view"
+word_of Events = codes "events"
+word_of Queries = codes "queries"
+
+-- the line that err gets at an end
+abbrev pub line_of : End → List ℕ
+line_of Done = []
+line_of Usage = codes "usage: wfprov COMMAND WORDS\n"
+line_of (Refused place fault) = codes "refused: " ++ (word_of place ++ (codes ": " ++ (fault ++ codes "\n")))
+line_of (ReadFault place) = codes "fault: reading " ++ (word_of place ++ codes "\n")
+line_of WriteFault = codes "fault: writing\n"
+line_of NoMemory = codes "no memory\n"

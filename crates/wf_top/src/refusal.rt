@@ -1,0 +1,21 @@
+// Why a file is refused.
+use wf_check::CheckFault;
+use wf_json::Member;
+use wf_spec::{FormFault, Grammar};
+
+/// Why a file is refused. Want of memory is none of these: it is an ending of its own.
+#[derive(Drop)]
+pub enum Refusal {
+    /// The file is longer than it may be.
+    TooLong,
+    /// The bytes are not UTF-8, or no JSON value.
+    NotJson,
+    /// This member is the first that has not its form.
+    WrongShape { member: Member },
+    /// The parts of a specification form no grammar.
+    Form { fault: FormFault },
+    /// The grammar is not proper. It is kept for the names of its modules.
+    Check { grammar: Grammar, fault: CheckFault },
+    /// The file has a form that is not built yet.
+    NotBuilt,
+}
