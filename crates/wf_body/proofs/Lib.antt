@@ -1,1 +1,4 @@
+pub mod Bits
+pub mod Feeding
 pub mod Links
+pub mod Ordering

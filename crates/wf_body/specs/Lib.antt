@@ -1,3 +1,4 @@
 pub mod Body
 pub mod Matrices
+pub mod Order
 pub mod Words

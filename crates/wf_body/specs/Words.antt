@@ -11,3 +11,7 @@ use Rattle.wf_body.specs.Body.{ToInput, ToOutput}
 abbrev pub source : Option PosNo → ℕ → Port (Option ℕ)
 source None x = input None x
 source (Some s) x = output (Some s.0) x
+
+-- the word at a place has the bits of another added, and the other words are as before
+abbrev pub Gains : List ℕ → ℕ → ℕ → List ℕ → Type 0
+Gains old at word new = (j x : ℕ) → IsTrue (has (get_or new j 0) x) ↔ (IsTrue (has (get_or old j 0) x) ⊎ ((j ≡ at) × IsTrue (has word x)))

@@ -4,6 +4,8 @@
 mod crossing;
 mod ends;
 mod law;
+mod order;
+mod word;
 
 pub use crossing::{between, between_all};
 pub use ends::{induced, into_position, out_of_position};
