@@ -79,3 +79,9 @@ held_small g p xs n d wf h same b = edge_small g p (edge_of (get_or xs n d)) wf 
 -- one held edge more
 pub fed_next : (xs : List EdgeHeld) (n : ℕ) (d : EdgeHeld) (old new : List ℕ) (word : ℕ) → n < length xs → FedBy (map edge_of (take n xs)) old → Gains old (get_or xs n d).to.pos.0 word new → ((x : ℕ) → IsTrue (has word x) ↔ (x ≡ (get_or xs n d).from.pos.0)) → FedBy (map edge_of (take (n + 1) xs)) new
 fed_next xs n d old new word h f g w = subst (λ es. FedBy es new) (sym (edges_more xs n d h)) (fed_more (map edge_of (take n xs)) (edge_of (get_or xs n d)) old new word f g w)
+
+-- an edge leads to a position
+pub held_within : (g : Grammar) (p : ℕ) (xs : List EdgeHeld) (n : ℕ) (d : EdgeHeld) → IsWellFormed g → p < length g.productions → map edge_of xs ≡ (production_at g p).edges → n < length xs → (get_or xs n d).to.pos.0 < length (body_of g p)
+held_within g p xs n d wf h same b =
+    let t = (wf.bodies p h).edges_to (edge_of (get_or xs n d)) (subst (IsIn (edge_of (get_or xs n d))) same (edge_there xs n d b)) in
+    at_below t.0 (get_or xs n d).to.pos.0 (body_of g p) t.1

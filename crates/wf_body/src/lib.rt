@@ -4,7 +4,9 @@
 mod crossing;
 mod ends;
 mod law;
+mod leading;
 mod order;
+mod pass;
 mod word;
 
 pub use crossing::{between, between_all};
