@@ -5,3 +5,4 @@ pub mod Links
 pub mod Listing
 pub mod Ordering
 pub mod Passing
+pub mod Rowing

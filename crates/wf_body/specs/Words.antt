@@ -46,6 +46,14 @@ abbrev pub AreInputs : Grammar → ℕ → Option PosNo → ℕ → List (List �
 AreInputs g p from k outs row = (j x : ℕ) → IsTrue (has (get_or row j 0) x) ↔
     (Enters g p from k j x ⊎ ((e : Edge) × IsIn e (production_at g p).edges × (e.to ≡ at_port k j) × IsTrue (has (word_at outs e.from.position e.from.port) x)))
 
+-- what reaches output o of position k: the output is the source x, or one of the rows leads to it from an input that x reaches
+abbrev pub Leaves : Option PosNo → ℕ → List ℕ → List ℕ → ℕ → ℕ → Type 0
+Leaves from k ins rows o x = (source from x ≡ output (Some k) o) ⊎ ((i : ℕ) × IsTrue (has (get_or rows i 0) o) × IsTrue (has (get_or ins i 0) x))
+
+-- words of the first n outputs of position k
+abbrev pub AreFirstOutputs : Option PosNo → ℕ → List ℕ → List ℕ → ℕ → List ℕ → Type 0
+AreFirstOutputs from k ins rows n outs = (o x : ℕ) → o < n → IsTrue (has (get_or outs o 0) x) ↔ Leaves from k ins rows o x
+
 -- Words of the outputs of position k: source x is output o, or a pair joins an input that it reaches to output o
 abbrev pub AreOutputs : Grammar → Assignment → ℕ → Option PosNo → ℕ → List ℕ → List ℕ → Type 0
 AreOutputs g d p from k ins row = (m o x : ℕ) → IsAt m k (body_of g p) → o < outputs_of g m → IsTrue (has (get_or row o 0) x) ↔

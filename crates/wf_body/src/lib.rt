@@ -7,6 +7,7 @@ mod law;
 mod leading;
 mod order;
 mod pass;
+mod standing;
 mod word;
 
 pub use crossing::{between, between_all};

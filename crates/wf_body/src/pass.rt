@@ -8,10 +8,11 @@ ghost use Rattle.wf_model.specs.WellFormed.{IsWellFormed};
 ghost use Rattle.bool_mat.specs.Matrix.{has};
 ghost use Rattle.wf_body.specs.Body.{at_port};
 ghost use Rattle.wf_body.specs.Matrices.{HaveRows};
-ghost use Rattle.wf_body.specs.Words.{AreInputs, AreLeading, AreOutputs, AreTold, Enters, source};
+ghost use Rattle.wf_body.specs.Words.{AreFirstOutputs, AreInputs, AreLeading, AreOutputs, AreTold, Enters, source};
 
 use crate::leading::leading;
 use crate::order::order;
+use crate::standing::{output_count, standing};
 use crate::word::add;
 use bool_mat::{column, single, union};
 use std::alloc::{AllocError, Global};
@@ -96,6 +97,19 @@ fn rows_of(deps: &Deps, m: ModNo) -> &[u64]
     }
 }
 
+/// The words of so many outputs of a position whose module has these rows.
+fn outs_by(from: Option<PosNo>, k: PosNo, ins: &[u64; 64], rows: &[u64], count: usize) -> [u64; 64]
+    requires rows { length rows.now ≤ 64 }
+    requires count { count ≤ 64 }
+    ensures { AreFirstOutputs from k.0 ins.now rows.now count result }
+{
+    let mut outs = [0u64; 64];
+    for o in 0..count {
+        outs[o] = union(column(rows, o as u32), ins, 64) | itself(from, k, o as u32);
+    }
+    outs
+}
+
 /// The words of the outputs of a position.
 fn outs_of(
     g: &Grammar,
@@ -110,14 +124,8 @@ fn outs_of(
     requires rows { HaveRows g.now.core p.0 deps.now }
     ensures { AreOutputs g.now.core (pairs_of deps.now) p.0 from k.0 ins.now result }
 {
-    let m = g.production(p).positions()[k.0 as usize].module;
-    let rows = rows_of(deps, m);
-    let count = g.modules()[m.0 as usize].outputs().len();
-    let mut outs = [0u64; 64];
-    for o in 0..count {
-        outs[o] = union(column(rows, o as u32), ins, 64) | itself(from, k, o as u32);
-    }
-    outs
+    let m = standing(g, p, k);
+    outs_by(from, k, ins, rows_of(deps, m), output_count(g, m))
 }
 
 /// One pass through a body: for each port of each position the word of the sources that reach it, which are the inputs of the head, or the outputs of a position.
