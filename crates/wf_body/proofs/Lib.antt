@@ -6,3 +6,4 @@ pub mod Listing
 pub mod Ordering
 pub mod Passing
 pub mod Rowing
+pub mod Telling

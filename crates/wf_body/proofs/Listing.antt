@@ -4,12 +4,12 @@ use Rattle.std.specs.declared.alloc.Global.{Global}
 use Rattle.std.proofs.lemmas.List.{map-append}
 use Rattle.wf_model.specs.declared.body.Edge.{Edge as EdgeHeld}
 use Rattle.wf_model.specs.Lists.{IsIn}
-use Rattle.wf_model.specs.Grammar.{Edge}
+use Rattle.wf_model.specs.Grammar.{Grammar, Edge}
 use Rattle.wf_model.specs.Meaning.{edge_of}
 use Rattle.wf_model.proofs.Lists.{in_append_left, in_append_right, in_append_cases}
 use Rattle.wf_spec.proofs.Graphs.{edges_more}
 use Rattle.bool_mat.proofs.Rows.{same_or_not}
-use Rattle.wf_body.specs.Words.{edges_in, HasOneMore}
+use Rattle.wf_body.specs.Words.{AreLeading, edges_in, HasOneMore}
 
 edges_in-set_same : (lists : List (Vec EdgeHeld Global)) (k : ℕ) (new : Vec EdgeHeld Global) → k < length lists → edges_in (set lists k new) k ≡ map edge_of new.items
 edges_in-set_same [] k new h = absurd (omega arith)
@@ -23,7 +23,7 @@ edges_in-set_other (x ∷ lists) zero (suc j) new h = refl
 edges_in-set_other (x ∷ lists) (suc k) zero new h = refl
 edges_in-set_other (x ∷ lists) (suc k) (suc j) new h = edges_in-set_other lists k j new (λ e. h (ap suc e))
 
-pub edges_in_read : (lists : List (Vec EdgeHeld Global)) (k : ℕ) (x : Vec EdgeHeld Global) → k < length lists → x ≡ get_or lists k x → edges_in lists k ≡ map edge_of x.items
+edges_in_read : (lists : List (Vec EdgeHeld Global)) (k : ℕ) (x : Vec EdgeHeld Global) → k < length lists → x ≡ get_or lists k x → edges_in lists k ≡ map edge_of x.items
 edges_in_read [] k x h e = absurd (omega arith)
 edges_in_read (y ∷ lists) zero x h e = ap (λ (z : Vec EdgeHeld Global). map edge_of z.items) (sym e)
 edges_in_read (y ∷ lists) (suc k) x h e = let r : k < length lists = omega arith in edges_in_read lists k x r e
@@ -76,3 +76,7 @@ listed_more edges e old new h m k f = (
 
 pub listed_next : (xs : List EdgeHeld) (n : ℕ) (d : EdgeHeld) (old new : List (Vec EdgeHeld Global)) → n < length xs → AreListed (map edge_of (take n xs)) old → HasOneMore old (get_or xs n d).to.pos.0 (edge_of (get_or xs n d)) new → AreListed (map edge_of (take (n + 1) xs)) new
 listed_next xs n d old new h f g = subst (λ es. AreListed es new) (sym (edges_more xs n d h)) (listed_more (map edge_of (take n xs)) (edge_of (get_or xs n d)) old new f g)
+
+-- the list of a position
+pub leading_read : (g : Grammar) (p k : ℕ) (lists : List (Vec EdgeHeld Global)) (x : Vec EdgeHeld Global) (xs : List EdgeHeld) → AreLeading g p k (edges_in lists k) → k < length lists → x ≡ get_or lists k x → xs ≡ x.items → AreLeading g p k (map edge_of xs)
+leading_read g p k lists x xs l h is same = subst (AreLeading g p k) (edges_in_read lists k x h is ∙ ap (map edge_of) (sym same)) l
