@@ -7,3 +7,4 @@ pub mod Ordering
 pub mod Passing
 pub mod Rowing
 pub mod Telling
+pub mod Turning

@@ -8,6 +8,7 @@ mod leading;
 mod order;
 mod pass;
 mod standing;
+mod turned;
 mod word;
 
 pub use crossing::{between, between_all};
