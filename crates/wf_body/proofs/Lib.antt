@@ -1,6 +1,7 @@
 pub mod Bits
 pub mod Entering
 pub mod Feeding
+pub mod Meaning
 pub mod Links
 pub mod Listing
 pub mod Ordering

@@ -1,5 +1,5 @@
 -- Words of sources as matrices.
-use Rattle.std.proofs.Common.{◌≡◌, ◌↔◌, ℕ, ◌<◌, ◌≤◌, ◌⊎◌, IsTrue, List, length, get_or, take, refl, sym, subst, inl, inr, ⊎_elim, arith, length-take}
+use Rattle.std.proofs.Common.{◌≡◌, ◌↔◌, ℕ, ◌<◌, ◌≤◌, ◌⊎◌, IsTrue, List, length, get_or, take, refl, sym, ◌∙◌, subst, inl, inr, ⊎_elim, arith, length-take}
 use Rattle.std.proofs.lemmas.Bool.{cases_lt}
 use Rattle.std.proofs.lemmas.List.{get_or-take, get_or_past}
 use Rattle.bool_mat.specs.Matrix.{Matrix, IsMatrix, has}
@@ -41,3 +41,7 @@ same_pairs rows columns R S m e h =
       has_columns = h.has_columns;
       pairs = λ i j. ((λ t. (e i j).0 ((h.pairs i j).0 t)), λ r. (h.pairs i j).1 ((e i j).1 r));
     }
+
+-- the size, by equal numbers
+pub resized : (rows columns n k : ℕ) (R : ℕ → ℕ → Type 0) (m : Matrix) → rows ≡ n → columns ≡ k → IsMatrixOf rows columns R m → IsMatrixOf n k R m
+resized rows columns n k R m e f h = record { is_matrix = h.is_matrix; has_rows = h.has_rows ∙ e; has_columns = h.has_columns ∙ f; pairs = h.pairs }

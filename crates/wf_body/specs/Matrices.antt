@@ -1,11 +1,14 @@
 -- Matrices of one body.
-use Rattle.std.specs.Prelude.{◌≡◌, ℕ, ◌+◌, ◌<◌, ◌^◌, List, Option, Some, None, length, get_or, take}
+use Rattle.std.specs.Prelude.{◌≡◌, ℕ, ◌<◌, ◌^◌, List, Option, Some, None, length, get_or}
 use Rattle.std.specs.List.{All}
 use Rattle.wf_model.specs.declared.body.Step.{Step as StepHeld}
+use Rattle.wf_model.specs.declared.numbers.PosNo.{PosNo}
 use Rattle.wf_model.specs.Lists.{IsIn}
-use Rattle.wf_model.specs.Grammar.{Grammar, inputs_of, outputs_of, body_of}
+use Rattle.wf_model.specs.Grammar.{Grammar, Assignment, inputs_of, outputs_of, head_of, body_of}
 use Rattle.wf_model.specs.Reach.{Step}
-use Rattle.bool_mat.specs.Matrix.{Matrix, IsMatrix, Means, matrix_at}
+use Rattle.bool_mat.specs.Matrix.{Matrix, IsMatrix, Means}
+use Rattle.wf_body.specs.Body.{ToInput, ToExit}
+use Rattle.wf_body.specs.Words.{source}
 
 -- a step, as the definitions see it
 abbrev pub step_of : StepHeld → Step
@@ -33,3 +36,21 @@ pub record IsMatrixOf (rows columns : ℕ) (R : ℕ → ℕ → Type 0) (m : Mat
   pub has_rows : length m.rows ≡ rows
   pub has_columns : m.columns ≡ columns
   pub pairs : Means m R
+
+-- sources are inputs of the head, or outputs of a position of the body
+abbrev pub AreSourcesOf : Grammar → ℕ → Option PosNo → Type 0
+AreSourcesOf g p None = Unit {0}
+AreSourcesOf g p (Some s) = s.0 < length (body_of g p)
+
+-- how many sources there are
+abbrev pub sources_of : Grammar → ℕ → Option PosNo → ℕ
+sources_of g p None = inputs_of g (head_of g p)
+sources_of g p (Some s) = outputs_of g (get_or (body_of g p) s.0 0)
+
+-- the matrix of the paths from sources to the inputs of a position
+abbrev pub LeadsToInputs : Grammar → Assignment → ℕ → Option PosNo → ℕ → Matrix → Type 0
+LeadsToInputs g d p from k = IsMatrixOf (sources_of g p from) (inputs_of g (get_or (body_of g p) k 0)) (λ i j. ToInput g d p (source from i) k j)
+
+-- the matrix of the paths from sources to the outputs of the head
+abbrev pub LeadsToExits : Grammar → Assignment → ℕ → Option PosNo → Matrix → Type 0
+LeadsToExits g d p from = IsMatrixOf (sources_of g p from) (outputs_of g (head_of g p)) (λ i o. ToExit g d p (source from i) o)

@@ -5,6 +5,7 @@ mod crossing;
 mod ends;
 mod law;
 mod leading;
+mod leads;
 mod order;
 mod pass;
 mod standing;
