@@ -1,4 +1,5 @@
 pub mod Bits
+pub mod Calls
 pub mod Entering
 pub mod Feeding
 pub mod Meaning

@@ -49,12 +49,12 @@ source_linked g d p from x z wf h =
         subst (λ n. x < outputs_of g n) (sym same) (subst (λ n. n < outputs_of g m) (sym (ap (λ (y : Port (Option ℕ)). y.number) e)) b)
 
 -- a path from a source to another port begins at one that is there
-source_below : (g : Grammar) (d : Assignment) (p : ℕ) (from : Option PosNo) (x : ℕ) (s y : Port (Option ℕ)) → IsWellFormedBody g p → s ≡ source from x → Path (body_links g d p) s y → (s ≡ y → ⊥) → x < sources_of g p from
+pub source_below : (g : Grammar) (d : Assignment) (p : ℕ) (from : Option PosNo) (x : ℕ) (s y : Port (Option ℕ)) → IsWellFormedBody g p → s ≡ source from x → Path (body_links g d p) s y → (s ≡ y → ⊥) → x < sources_of g p from
 source_below g d p from x s y wf e here n = absurd (n refl)
 source_below g d p from x s y wf e (onward {y = z} l w) n = source_linked g d p from x z wf (subst (λ q. IsLinked (body_links g d p) q z) e l)
 
 -- an input to which a path leads is there
-input_below : (g : Grammar) (d : Assignment) (p : ℕ) (from : Option PosNo) (x k j : ℕ) → IsWellFormedBody g p → ToInput g d p (source from x) k j → j < inputs_of g (get_or (body_of g p) k 0)
+pub input_below : (g : Grammar) (d : Assignment) (p : ℕ) (from : Option PosNo) (x k j : ℕ) → IsWellFormedBody g p → ToInput g d p (source from x) k j → j < inputs_of g (get_or (body_of g p) k 0)
 input_below g d p from x k j wf h =
     ⊎_elim (λ e. absurd (source_apart from k j x e))
     (λ s. ⊎_elim
@@ -88,7 +88,7 @@ inputs_mean g d p k n count from ins outs wf told b size all i j = (
 )
 
 -- no source is an output of the head
-exit_apart : (from : Option PosNo) (o x : ℕ) → source from x ≡ output None o → ⊥
+pub exit_apart : (from : Option PosNo) (o x : ℕ) → source from x ≡ output None o → ⊥
 exit_apart None o x e = let q : Input ≡ Output = ap (λ (z : Port (Option ℕ)). z.side) e in cc
 exit_apart (Some s) o x e = let q : Some s.0 ≡ None = ap (λ (z : Port (Option ℕ)). z.owner) e in cc
 

@@ -6,6 +6,7 @@ ghost use Rattle.wf_model.specs.Reach.{Between, target_of};
 ghost use Rattle.bool_mat.specs.Matrix.{Adds, matrix_at};
 ghost use Rattle.wf_body.specs.Matrices.{HaveRows, IsMatrixOf, beside, step_of};
 
+use crate::leads::{push_to_all_inputs, push_to_inputs};
 use bool_mat::{MatNo, MatPool};
 use std::alloc::{AllocError, Global};
 use wf_spec::{Deps, Grammar, PosNo, Step};
@@ -29,7 +30,7 @@ pub fn between(
     ensures between { IfOk result (λ m. IsMatrixOf (outputs_of g.now.core (target_of g.now.core (step_of s))) (inputs_of g.now.core (target_of g.now.core (beside (step_of s) to.0))) (Between g.now.core (pairs_of deps.now) (step_of s) to.0) (matrix_at pool.new m.0)) }
     ensures err { OnErr result (pool.new ≡ pool.old) }
 {
-    Err(AllocError)
+    push_to_inputs(alloc, g, s.production, Some(s.position), to, deps, pool)
 }
 
 /// Pushes the matrices from a position to each position of the same body, as `between` does, and gives the number of the first: the matrix to position `to` has the `to`th number after it.
@@ -49,5 +50,5 @@ pub fn between_all(
     ensures between { IfOk result (λ m. (to : ℕ) → to < length (body_of g.now.core s.production.0) → IsMatrixOf (outputs_of g.now.core (target_of g.now.core (step_of s))) (inputs_of g.now.core (target_of g.now.core (beside (step_of s) to))) (Between g.now.core (pairs_of deps.now) (step_of s) to) (matrix_at pool.new (m.0 + to))) }
     ensures err { OnErr result (take (length pool.old) pool.new ≡ pool.old) }
 {
-    Err(AllocError)
+    push_to_all_inputs(alloc, g, s.production, Some(s.position), deps, pool)
 }

@@ -7,6 +7,7 @@ ghost use Rattle.wf_model.specs.Safe.{BodyJoins};
 ghost use Rattle.bool_mat.specs.Matrix.{Adds, matrix_at};
 ghost use Rattle.wf_body.specs.Matrices.{HaveRows, IsMatrixOf, step_of};
 
+use crate::leads::{push_to_exits, push_to_inputs};
 use bool_mat::{MatNo, MatPool};
 use std::alloc::{AllocError, Global};
 use wf_spec::{Deps, Grammar, ProdNo, Step};
@@ -27,7 +28,7 @@ pub fn induced(
     ensures induced { IfOk result (λ m. IsMatrixOf (inputs_of g.now.core (head_of g.now.core p.0)) (outputs_of g.now.core (head_of g.now.core p.0)) (BodyJoins g.now.core (pairs_of deps.now) p.0) (matrix_at pool.new m.0)) }
     ensures err { OnErr result (pool.new ≡ pool.old) }
 {
-    Err(AllocError)
+    push_to_exits(alloc, g, p, None, deps, pool)
 }
 
 /// Pushes the matrix from the head to a position: it joins input `i` of the head to input `j` of the position exactly if a path in the body does.
@@ -47,7 +48,7 @@ pub fn into_position(
     ensures into { IfOk result (λ m. IsMatrixOf (inputs_of g.now.core (head_of g.now.core s.production.0)) (inputs_of g.now.core (target_of g.now.core (step_of s))) (Into g.now.core (pairs_of deps.now) (step_of s)) (matrix_at pool.new m.0)) }
     ensures err { OnErr result (pool.new ≡ pool.old) }
 {
-    Err(AllocError)
+    push_to_inputs(alloc, g, s.production, None, s.position, deps, pool)
 }
 
 /// Pushes the matrix from a position to the head: it joins output `j` of the position to output `o` of the head exactly if a path in the body does.
@@ -67,5 +68,5 @@ pub fn out_of_position(
     ensures out_of { IfOk result (λ m. IsMatrixOf (outputs_of g.now.core (target_of g.now.core (step_of s))) (outputs_of g.now.core (head_of g.now.core s.production.0)) (OutOf g.now.core (pairs_of deps.now) (step_of s)) (matrix_at pool.new m.0)) }
     ensures err { OnErr result (pool.new ≡ pool.old) }
 {
-    Err(AllocError)
+    push_to_exits(alloc, g, s.production, Some(s.position), deps, pool)
 }

@@ -21,6 +21,7 @@ fn source_count(g: &Grammar, p: ProdNo, from: Option<PosNo>) -> usize
     requires sources { AreSourcesOf g.now.core p.0 from }
     ensures count { result ≡ sources_of g.now.core p.0 from }
     ensures few { result ≤ 64 }
+    ensures formed { IsWellFormed g.now.core }
 {
     match from {
         None => input_count(g, g.production(p).head()),
@@ -73,11 +74,13 @@ pub fn push_to_exits(
     ensures added { IfOk result (λ m. Adds pool.old pool.new m.0 1) }
     ensures leads { IfOk result (λ m. LeadsToExits g.now.core (pairs_of deps.now) p.0 from (matrix_at pool.new m.0)) }
     ensures err { OnErr result (pool.new ≡ pool.old) }
+    ensures formed { IsWellFormed g.now.core }
 {
+    let sources = source_count(g, p, from);
     let words = pass(alloc, g, p, from, deps)?;
     let exits = at_exits(g, p, &words.outs);
     let count = output_count(g, g.production(p).head());
-    push_turned(pool, &exits[..count], source_count(g, p, from))
+    push_turned(pool, &exits[..count], sources)
 }
 
 /// Pushes the matrix of the paths from sources to the inputs of a position.
@@ -97,8 +100,36 @@ pub fn push_to_inputs(
     ensures added { IfOk result (λ m. Adds pool.old pool.new m.0 1) }
     ensures leads { IfOk result (λ m. LeadsToInputs g.now.core (pairs_of deps.now) p.0 from k.0 (matrix_at pool.new m.0)) }
     ensures err { OnErr result (pool.new ≡ pool.old) }
+    ensures formed { IsWellFormed g.now.core }
 {
+    let sources = source_count(g, p, from);
     let words = pass(alloc, g, p, from, deps)?;
     let row = input_words(g, p, k, &words.ins);
-    push_turned(pool, row, source_count(g, p, from))
+    push_turned(pool, row, sources)
+}
+
+/// Pushes the matrices of the paths from sources to the inputs of each position, in order.
+pub fn push_to_all_inputs(
+    alloc: Global,
+    g: &Grammar,
+    p: ProdNo,
+    from: Option<PosNo>,
+    deps: &Deps,
+    pool: &mut MatPool,
+) -> Result<MatNo, AllocError>
+    requires production { p.0 < length g.now.core.productions }
+    requires sources { AreSourcesOf g.now.core p.0 from }
+    requires rows { HaveRows g.now.core p.0 deps.now }
+    ensures added { IfOk result (λ m. Adds pool.old pool.new m.0 (length (body_of g.now.core p.0))) }
+    ensures leads { IfOk result (λ m. (k : ℕ) → k < length (body_of g.now.core p.0) → LeadsToInputs g.now.core (pairs_of deps.now) p.0 from k (matrix_at pool.new (m.0 + k))) }
+    ensures err { OnErr result (take (length pool.old) pool.new ≡ pool.old) }
+{
+    let sources = source_count(g, p, from);
+    let words = pass(alloc, g, p, from, deps)?;
+    let count = g.production(p).positions().len();
+    let first = MatNo(pool.len());
+    for k in 0..count {
+        push_turned(pool, input_words(g, p, PosNo(k as u8), &words.ins), sources)?;
+    }
+    Ok(first)
 }
