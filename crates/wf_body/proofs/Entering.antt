@@ -1,14 +1,14 @@
 -- Words to which entries lead, and words of sources.
-use Rattle.std.proofs.Common.{◌≡◌, ◌↔◌, ℕ, zero, suc, ◌+◌, ◌<◌, ◌≤◌, ◌⊎◌, IsTrue, List, [], ◌∷◌, map, length, get_or, replicate, Option, Some, None, refl, sym, ap, ◌∙◌, subst, inl, inr, ⊎_elim, arith}
+use Rattle.std.proofs.Common.{◌≡◌, ◌↔◌, ℕ, zero, suc, ◌+◌, ◌<◌, ◌≤◌, IsTrue, List, [], ◌∷◌, map, length, get_or, replicate, Option, Some, None, refl, sym, ap, ◌∙◌, subst, inl, inr, ⊎_elim, arith}
 use Rattle.std.proofs.lemmas.List.{length-map}
 use Rattle.wf_model.specs.declared.body.Inner.{Inner as InnerHeld}
 use Rattle.wf_model.specs.declared.numbers.PosNo.{PosNo}
-use Rattle.wf_model.specs.Lists.{IsIn, IsAt}
+use Rattle.wf_model.specs.Lists.{IsAt}
 use Rattle.wf_model.specs.Grammar.{Grammar, Inner, production_at, inputs_of, head_of, module_at}
-use Rattle.wf_model.specs.Links.{Port, input, output}
+use Rattle.wf_model.specs.Links.{Port, output}
 use Rattle.wf_model.specs.Meaning.{inner_of}
 use Rattle.wf_model.specs.WellFormed.{IsWellFormed}
-use Rattle.wf_model.proofs.Lists.{at_below, at_in, at_is, is_at, in_map}
+use Rattle.wf_model.proofs.Lists.{at_below, at_in, at_is, is_at}
 use Rattle.bool_mat.specs.Matrix.{has}
 use Rattle.bool_mat.proofs.Rows.{has_none, same_or_not}
 use Rattle.wf_body.specs.Body.{at_port}

@@ -1,12 +1,12 @@
 -- Edges and the ports of a well-formed body, and words to which edges add.
 use Rattle.std.proofs.Common.{◌≡◌, ◌↔◌, ℕ, zero, suc, ◌+◌, ◌<◌, ◌≤◌, ◌⊎◌, IsTrue, List, [], ◌∷◌, ◌++◌, map, length, get_or, take, replicate, refl, sym, ap, ◌∙◌, subst, inl, inr, ⊎_elim, arith}
 use Rattle.std.proofs.lemmas.Bool.{cases_lt}
-use Rattle.std.proofs.lemmas.List.{get_or-replicate, get_or_past, take_all}
+use Rattle.std.proofs.lemmas.List.{get_or-replicate}
 use Rattle.wf_model.specs.declared.body.Edge.{Edge as EdgeHeld}
 use Rattle.wf_model.specs.Lists.{IsIn, IsAt}
 use Rattle.wf_model.specs.Grammar.{Grammar, Edge, production_at, inputs_of, outputs_of, module_at, body_of}
 use Rattle.wf_model.specs.Meaning.{edge_of}
-use Rattle.wf_model.specs.WellFormed.{IsWellFormed, IsWellFormedBody, IsWellFormedModule}
+use Rattle.wf_model.specs.WellFormed.{IsWellFormed}
 use Rattle.wf_model.proofs.Lists.{in_append_left, in_append_right, in_append_cases, at_below, at_in, is_at}
 use Rattle.wf_spec.proofs.Graphs.{edge_there, edges_more}
 use Rattle.bool_mat.specs.Matrix.{has}

@@ -10,3 +10,4 @@ pub mod Passing
 pub mod Rowing
 pub mod Telling
 pub mod Turning
+pub mod Twisting

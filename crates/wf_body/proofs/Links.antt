@@ -9,6 +9,7 @@ use Rattle.wf_model.proofs.Lists.{in_append_left, in_append_right, in_append_cas
 use Rattle.wf_model.proofs.Level.{pair_links_from, pair_links_in, place_links_from, place_links_in}
 use Rattle.wf_model.proofs.Walks.{walk-append, walk_one}
 use Rattle.wf_body.specs.Body.{ToInput, ToOutput, ToExit, at_port, BodyLaw}
+
 -- the last step of a walk
 last_step : {A : Type 0} {R : A → A → Type 0} {x y : A} → Walk R x y → (x ≡ y) ⊎ ((z : A) × Walk R x z × R z y)
 last_step here = inl refl

@@ -6,7 +6,7 @@ use Rattle.wf_model.specs.declared.body.Inner.{Inner as InnerHeld}
 use Rattle.wf_model.specs.declared.numbers.PosNo.{PosNo}
 use Rattle.wf_model.specs.Meaning.{inner_of}
 use Rattle.wf_model.specs.declared.numbers.Side.TheVariants.{Input, Output}
-use Rattle.wf_model.specs.Lists.{IsIn, IsAt, here, onward}
+use Rattle.wf_model.specs.Lists.{IsAt, here, onward}
 use Rattle.wf_model.specs.Grammar.{Grammar, Assignment, Inner, module_at, production_at, body_of, head_of, inputs_of, outputs_of}
 use Rattle.wf_model.specs.Links.{Port, Link, input, output, wiring, place_links, body_links, IsLinked, Path}
 use Rattle.wf_model.specs.WellFormed.{IsWellFormed, IsWellFormedBody}
@@ -82,9 +82,10 @@ inputs_mean g d p k n count from ins outs wf told b size all i j = (
     | inr l ↦ absurd (past_words n j i (get_or ins k []) l r.1)
   ]),
   λ h. let t = ((told.each k b).inputs j i).1 h in
-      let l : j < n = subst (λ z. j < z) (sym size) (input_below g d p from i k j wf h) in
-      (subst (λ z. i < z) (sym all) (source_below g d p from i (source from i) (input (Some k) j) wf refl h (source_apart from k j i)),
-      subst (λ z. IsTrue (has z i)) (sym (get_or-take n (get_or ins k []) j 0 l)) t),
+      let l : j < n = subst (λ z. j < z) (sym size) (input_below g d p from i k j wf h) in (
+        subst (λ z. i < z) (sym all) (source_below g d p from i (source from i) (input (Some k) j) wf refl h (source_apart from k j i)),
+        subst (λ z. IsTrue (has z i)) (sym (get_or-take n (get_or ins k []) j 0 l)) t,
+      ),
 )
 
 -- no source is an output of the head
@@ -101,17 +102,22 @@ exits_mean g d p n count from ins outs row wf told words size all i o = (
         let at : IsAt (the_exit o) o (production_at g p).exits = is_at o (production_at g p).exits no_port l' in
         let f = wf.exits_from (the_exit o) (at_in (the_exit o) o (production_at g p).exits at) in
         let b = at_below f.0 (the_exit o).position (body_of g p) f.1 in
-        law.1 (inr (the_exit o, at, ((told.each (the_exit o).position b).outputs f.0 (the_exit o).port i f.1 f.2).0
-        (subst (λ z. IsTrue (has z i)) (get_or-take n row o 0 l ∙ words o (the_exit o) at) r.1)))
+        law.1 (inr (
+          the_exit o,
+          at,
+          ((told.each (the_exit o).position b).outputs f.0 (the_exit o).port i f.1 f.2).0
+              (subst (λ z. IsTrue (has z i)) (get_or-take n row o 0 l ∙ words o (the_exit o) at) r.1),
+        ))
     | inr l ↦ absurd (past_words n o i row l r.1)
   ]),
   λ h. ⊎_elim (λ e. absurd (exit_apart from o i e))
       (λ s. let f = wf.exits_from s.0 (at_in s.0 o (production_at g p).exits s.1) in
       let b = at_below f.0 s.0.position (body_of g p) f.1 in
       let l' = at_below s.0 o (production_at g p).exits s.1 in
-      let l : o < n = omega arith in
-      (subst (λ z. i < z) (sym all) (source_below g d p from i (source from i) (output None o) wf refl h (exit_apart from o i)),
-      subst (λ z. IsTrue (has z i)) (sym (get_or-take n row o 0 l ∙ words o s.0 s.1)) (((told.each s.0.position b).outputs f.0 s.0.port i f.1 f.2).1 s.2)))
+      let l : o < n = omega arith in (
+        subst (λ z. i < z) (sym all) (source_below g d p from i (source from i) (output None o) wf refl h (exit_apart from o i)),
+        subst (λ z. IsTrue (has z i)) (sym (get_or-take n row o 0 l ∙ words o s.0 s.1)) (((told.each s.0.position b).outputs f.0 s.0.port i f.1 f.2).1 s.2),
+      ))
       (law.0 h),
 )
   where

@@ -1,12 +1,12 @@
 -- Positions are placed one after another, each after its feeders, until none is left.
-use Rattle.std.proofs.Common.{◌≡◌, ◌≢◌, ◌↔◌, ℕ, zero, suc, ◌+◌, ◌-◌, ◌<◌, ◌≤◌, ◌⊎◌, Bool, true, false, IsTrue, List, [], ◌∷◌, ◌++◌, map, length, get_or, take, bit_or, refl, sym, ap, ◌∙◌, subst, inl, inr, ⊎_elim, arith, length-append, append-nil}
+use Rattle.std.proofs.Common.{◌≡◌, ◌↔◌, ℕ, zero, suc, ◌+◌, ◌-◌, ◌<◌, ◌≤◌, ◌⊎◌, Bool, true, false, IsTrue, List, [], ◌∷◌, ◌++◌, map, length, get_or, take, bit_or, refl, sym, ap, ◌∙◌, subst, inl, inr, ⊎_elim, arith, length-append, append-nil}
 use Rattle.std.proofs.lemmas.Bool.{cases_lt}
 use Rattle.std.proofs.lemmas.List.{get_or_append_left, get_or_push, take-append-le, length-map, map-append}
 use Rattle.wf_model.specs.declared.body.Position.{Position as PositionHeld}
 use Rattle.wf_model.specs.declared.numbers.PosNo.{PosNo}
 use Rattle.wf_model.specs.Meaning.{position_of}
 use Rattle.std.proofs.Math.Seq.{take-append_seam}
-use Rattle.wf_model.specs.Lists.{IsIn, IsAt, AllDiffer, Walk, here, onward, numbers_from}
+use Rattle.wf_model.specs.Lists.{IsIn, AllDiffer, Walk, here, onward, numbers_from}
 use Rattle.wf_model.specs.Grammar.{Grammar, Edge, Position, Production, production_at, body_of}
 use Rattle.wf_model.specs.WellFormed.{IsFollowedBy, IsWellFormedBody}
 use Rattle.wf_model.proofs.Lists.{in_append_left, in_append_right, in_append_cases, at_below, in_at, at_is}

@@ -1,11 +1,10 @@
 -- Words of the outputs of one position, from those of its inputs.
-use Rattle.std.proofs.Common.{◌≡◌, ◌↔◌, ℕ, zero, suc, ◌+◌, ◌<◌, ◌≤◌, ◌⊎◌, Bool, IsTrue, List, [], ◌∷◌, map, length, get_or, set, bit_or, Option, Some, None, refl, sym, ap, ◌∙◌, subst, inl, inr, ⊎_elim, arith}
-use Rattle.std.specs.List.{All}
+use Rattle.std.proofs.Common.{◌≡◌, ◌↔◌, ℕ, zero, suc, ◌+◌, ◌<◌, ◌≤◌, ◌⊎◌, IsTrue, List, [], ◌∷◌, map, length, get_or, set, bit_or, Option, Some, None, refl, sym, ap, ◌∙◌, subst, inl, inr, ⊎_elim, arith}
 use Rattle.std.proofs.lemmas.Bool.{cases_lt}
-use Rattle.std.proofs.lemmas.List.{get_or-set_same, get_or-set_other, get_or_past, get_or_default, length-map}
+use Rattle.std.proofs.lemmas.List.{get_or-set_same, get_or-set_other, get_or_past, get_or_default}
 use Rattle.wf_model.specs.declared.body.Position.{Position as PositionHeld}
 use Rattle.wf_model.specs.declared.numbers.PosNo.{PosNo}
-use Rattle.wf_model.specs.Lists.{IsIn, IsAt}
+use Rattle.wf_model.specs.Lists.{IsAt}
 use Rattle.wf_model.specs.Grammar.{Grammar, Module, Position, Production, module_at, production_at, body_of, inputs_of, outputs_of}
 use Rattle.wf_model.specs.Links.{output}
 use Rattle.wf_model.specs.Meaning.{position_of, bit_of, pairs_of}
@@ -13,12 +12,9 @@ use Rattle.wf_model.specs.WellFormed.{IsWellFormed}
 use Rattle.wf_model.proofs.Lists.{at_in, at_is, is_at}
 use Rattle.bool_mat.specs.Matrix.{has, IsUnion}
 use Rattle.bool_mat.proofs.Rows.{has_none, has_or, same_or_not}
-use Rattle.wf_body.specs.Matrices.{HasRows, HaveRows}
+use Rattle.wf_body.specs.Matrices.{HasRows}
 use Rattle.wf_body.specs.Words.{AreFirstOutputs, AreOutputs, Leaves, source}
 use Rattle.wf_body.proofs.Feeding.{few_at}
-
-pub outs_none : (from : Option PosNo) (k : ℕ) (ins rows outs : List ℕ) → AreFirstOutputs from k ins rows 0 outs
-outs_none from k ins rows outs o x h = absurd (omega arith)
 
 -- the word of one output
 pub one_out : (from : Option PosNo) (k o columns column union itself : ℕ) (ins rows : List ℕ) → IsUnion column (record { rows = ins; columns = columns }) union → ((i : ℕ) → IsTrue (has column i) ↔ IsTrue (has (get_or rows i 0) o)) → ((x : ℕ) → IsTrue (has itself x) ↔ (source from x ≡ output (Some k) o)) → (x : ℕ) → IsTrue (has (bit_or union itself) x) ↔ Leaves from k ins rows o x

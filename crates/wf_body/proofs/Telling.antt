@@ -1,18 +1,18 @@
 -- Words of sources tell the paths from them, position after position.
-use Rattle.std.proofs.Common.{◌≡◌, ◌↔◌, ℕ, ◌+◌, ◌<◌, ◌≤◌, ◌⊎◌, ◌++◌, IsTrue, List, [], ◌∷◌, length, get_or, set, take, Option, Some, None, refl, sym, ap, ◌∙◌, subst, inl, inr, ⊎_elim, arith, length-set}
+use Rattle.std.proofs.Common.{◌≡◌, ◌↔◌, ℕ, ◌+◌, ◌<◌, ◌≤◌, ◌++◌, IsTrue, List, [], ◌∷◌, length, get_or, set, take, Option, Some, None, refl, sym, ap, ◌∙◌, subst, inl, inr, ⊎_elim, arith, length-set}
 use Rattle.std.proofs.lemmas.List.{get_or-map, get_or-set_same, get_or-set_other, length-map, take_all, take_more}
 use Rattle.wf_model.specs.declared.numbers.PosNo.{PosNo}
 use Rattle.wf_model.specs.declared.numbers.Side.TheVariants.{Input, Output}
 use Rattle.wf_model.specs.Lists.{IsIn, IsAt}
-use Rattle.wf_model.specs.Grammar.{Grammar, Assignment, Inner, Edge, production_at, body_of, inputs_of, outputs_of}
-use Rattle.wf_model.specs.Links.{Port, input, output}
+use Rattle.wf_model.specs.Grammar.{Grammar, Assignment, Inner, body_of, inputs_of, outputs_of}
+use Rattle.wf_model.specs.Links.{Port, input}
 use Rattle.wf_model.specs.WellFormed.{IsFollowedBy, IsWellFormedBody}
 use Rattle.wf_model.proofs.Lists.{at_is, in_append_cases}
 use Rattle.bool_mat.specs.Matrix.{has}
 use Rattle.bool_mat.proofs.Rows.{same_or_not}
-use Rattle.wf_body.specs.Body.{ToInput, ToOutput, at_port}
+use Rattle.wf_body.specs.Body.{ToInput, ToOutput}
 use Rattle.wf_body.specs.Order.{IsOrder, positions_of}
-use Rattle.wf_body.specs.Words.{AreInputs, AreOutputs, AreTold, AreToldAt, source, word_at}
+use Rattle.wf_body.specs.Words.{AreInputs, AreOutputs, AreTold, AreToldAt, source}
 use Rattle.wf_body.proofs.Links.{led_to}
 
 -- no source is an input of a position

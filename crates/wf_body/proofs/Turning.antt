@@ -1,8 +1,8 @@
 -- Words of sources as matrices.
-use Rattle.std.proofs.Common.{◌≡◌, ◌↔◌, ℕ, ◌<◌, ◌≤◌, ◌⊎◌, IsTrue, List, length, get_or, take, refl, sym, ◌∙◌, subst, inl, inr, ⊎_elim, arith, length-take}
+use Rattle.std.proofs.Common.{◌≡◌, ◌↔◌, ℕ, ◌<◌, ◌≤◌, IsTrue, List, length, get_or, take, refl, sym, ◌∙◌, subst, inl, inr, arith, length-take}
 use Rattle.std.proofs.lemmas.Bool.{cases_lt}
 use Rattle.std.proofs.lemmas.List.{get_or-take, get_or_past}
-use Rattle.bool_mat.specs.Matrix.{Matrix, IsMatrix, has}
+use Rattle.bool_mat.specs.Matrix.{Matrix, has}
 use Rattle.bool_mat.proofs.Rows.{has_none}
 use Rattle.bool_mat.proofs.Products.{Turned, front_is_matrix}
 use Rattle.wf_body.specs.Matrices.{IsMatrixOf}
@@ -22,13 +22,13 @@ turned_words words rows count e l m t =
       has_columns = refl;
       pairs = λ i j. elim (cases_lt i count) [
         | inl b ↦ let u = t.each i b j in let same = get_or-take count rows i 0 b in (
-              (λ h. (b, u.0 (subst (λ z. IsTrue (has z j)) same h))),
-              λ h. subst (λ z. IsTrue (has z j)) (sym same) (u.1 h.1),
-            )
+          (λ h. (b, u.0 (subst (λ z. IsTrue (has z j)) same h))),
+          λ h. subst (λ z. IsTrue (has z j)) (sym same) (u.1 h.1),
+        )
         | inr b ↦ let past : length (take count rows) ≤ i = omega arith in (
-              (λ h. absurd (has_none j (subst (λ z. IsTrue (has z j)) (get_or_past (take count rows) i 0 past) h))),
-              λ h. absurd (let c = h.0 in omega arith),
-            )
+          (λ h. absurd (has_none j (subst (λ z. IsTrue (has z j)) (get_or_past (take count rows) i 0 past) h))),
+          λ h. absurd (let c = h.0 in omega arith),
+        )
       ];
     }
 

@@ -1,5 +1,5 @@
 -- Orders of the positions of a body.
-use Rattle.std.specs.Prelude.{◌≡◌, ◌↔◌, ℕ, ◌<◌, IsTrue, List, map, length, get_or, take}
+use Rattle.std.specs.Prelude.{◌↔◌, ℕ, ◌<◌, IsTrue, List, map, length, get_or, take}
 use Rattle.wf_model.specs.declared.numbers.PosNo.{PosNo}
 use Rattle.wf_model.specs.Lists.{IsIn}
 use Rattle.wf_model.specs.Grammar.{Grammar, body_of}

@@ -3,7 +3,7 @@ use Rattle.std.specs.Prelude.{◌≡◌, ℕ, zero, suc, ◌<◌, ◌↔◌, ◌
 use Rattle.std.specs.declared.alloc.Global.{Global}
 use Rattle.wf_model.specs.declared.body.Edge.{Edge as EdgeHeld}
 use Rattle.wf_model.specs.declared.numbers.PosNo.{PosNo}
-use Rattle.wf_model.specs.Grammar.{Grammar, Assignment, Inner, Edge, production_at, body_of, inputs_of, outputs_of}
+use Rattle.wf_model.specs.Grammar.{Grammar, Assignment, Edge, production_at, body_of, inputs_of, outputs_of}
 use Rattle.wf_model.specs.Meaning.{edge_of}
 use Rattle.wf_model.specs.Lists.{IsIn, IsAt}
 use Rattle.wf_model.specs.Links.{Port, input, output}

@@ -1,8 +1,5 @@
 // An order of the positions of a body.
-ghost use Rattle.std.specs.Prelude.{◌≡◌, ◌<◌, ◌≤◌, ◌↔◌, ℕ, IsTrue, length, slice_index, IfOk, MatchOption};
-ghost use Rattle.wf_model.specs.Grammar.{body_of};
-ghost use Rattle.wf_model.specs.WellFormed.{IsFollowedBy, IsWellFormed};
-ghost use Rattle.bool_mat.specs.Matrix.{has};
+ghost use Rattle.std.specs.Prelude.{◌<◌, ◌≤◌, ℕ, length, IfOk, MatchOption};
 ghost use Rattle.wf_body.specs.Order.{AreFeeders, IsNext, IsOrder, positions_of};
 
 use crate::word::{add, is_within};

@@ -9,11 +9,7 @@ use std::alloc::AllocError;
 /// Pushes the matrix of words of sources: it joins source `i` to word `j` exactly if the word has bit `i`.
 ///
 /// Fails only for want of memory, and the pool is then as before. Cost: one look at each word for each source.
-pub fn push_turned(
-    pool: &mut MatPool,
-    words: &[u64],
-    sources: usize,
-) -> Result<MatNo, AllocError>
+pub fn push_turned(pool: &mut MatPool, words: &[u64], sources: usize) -> Result<MatNo, AllocError>
     requires words { length words.now ≤ 64 }
     requires sources { sources ≤ 64 }
     ensures added { IfOk result (λ m. Adds pool.old pool.new m.0 1) }

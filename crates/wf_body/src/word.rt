@@ -1,5 +1,5 @@
 // Words of bits.
-ghost use Rattle.std.specs.Prelude.{◌≡◌, ◌<◌, ◌≤◌, ◌↔◌, ℕ, IsTrue, length};
+ghost use Rattle.std.specs.Prelude.{◌<◌, ◌↔◌, ℕ, IsTrue, length};
 ghost use Rattle.bool_mat.specs.Matrix.{has};
 ghost use Rattle.wf_body.specs.Words.{Gains};
 

@@ -1,6 +1,6 @@
-use Rattle.std.proofs.Common.{◌≡◌, ◌<◌, ℕ, sym, ap, subst, ◌∙◌, get_or, length, map, take, List}
+use Rattle.std.proofs.Common.{ap, subst, ◌∙◌, map}
 use Rattle.std.proofs.lemmas.List.{take_all}
-use Rattle.wf_model.specs.Grammar.{Production, body_of}
+use Rattle.wf_model.specs.Grammar.{Production}
 use Rattle.wf_model.specs.Meaning.{edge_of}
 use Rattle.wf_body.proofs.Feeding.{held_within}
 use Rattle.wf_body.proofs.Listing.{AreListed, listed_next}

@@ -1,4 +1,4 @@
-use Rattle.std.proofs.Common.{◌≡◌, ◌<◌, ◌∙◌, refl, ap, sym, subst, length, map, arith, length-set}
+use Rattle.std.proofs.Common.{◌∙◌, refl, ap, subst, map, arith, length-set}
 use Rattle.wf_model.specs.Grammar.{Production, production_at}
 use Rattle.wf_model.specs.Meaning.{inner_of}
 use Rattle.wf_model.proofs.Lists.{at_below}

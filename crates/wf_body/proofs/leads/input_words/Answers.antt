@@ -1,4 +1,4 @@
-use Rattle.std.proofs.Common.{◌≡◌, ◌<◌, ◌∙◌, ap, sym, subst, length, get_or, take, [], List, ℕ, arith, length-take}
+use Rattle.std.proofs.Common.{◌≡◌, ◌∙◌, ap, sym, length, get_or, take, [], arith, length-take}
 use Rattle.wf_model.specs.Grammar.{body_of, inputs_of}
 use Rattle.wf_model.proofs.Lists.{at_is}
 use Rattle.wf_body.proofs.leads.input_words.Goals as goal

@@ -1,4 +1,4 @@
-use Rattle.std.proofs.Common.{◌≡◌, ◌<◌, ◌∙◌, ap, sym, subst, length, take, get_or, [], List, ℕ}
+use Rattle.std.proofs.Common.{◌<◌, ◌∙◌, ap, subst, length, take, get_or, [], List, ℕ}
 use Rattle.std.proofs.lemmas.Result.{err_from_is_err_and}
 use Rattle.wf_model.specs.Grammar.{inputs_of, body_of}
 use Rattle.wf_model.specs.Meaning.{pairs_of}

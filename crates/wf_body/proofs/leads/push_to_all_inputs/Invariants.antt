@@ -1,4 +1,4 @@
-use Rattle.std.proofs.Common.{◌≡◌, ◌+◌, ◌<◌, ℕ, length}
+use Rattle.std.proofs.Common.{◌+◌, ◌<◌, ℕ}
 use Rattle.wf_model.specs.Meaning.{pairs_of}
 use Rattle.bool_mat.specs.Matrix.{Adds, matrix_at}
 use Rattle.wf_body.specs.Matrices.{LeadsToInputs}

@@ -1,9 +1,9 @@
-use Rattle.std.proofs.Common.{◌≡◌, ◌<◌, ◌≤◌, ◌∙◌, IsTrue, ap, sym, subst, length, take, get_or, List, ℕ, arith}
+use Rattle.std.proofs.Common.{◌≡◌, ◌∙◌, ap, subst, get_or, List, ℕ, arith}
 use Rattle.std.proofs.lemmas.Result.{IfOk-weaker}
 use Rattle.wf_model.specs.Grammar.{Inner, Production, production_at, outputs_of}
 use Rattle.wf_model.specs.Lists.{IsAt}
 use Rattle.wf_model.specs.Meaning.{pairs_of}
-use Rattle.bool_mat.specs.Matrix.{has, matrix_at}
+use Rattle.bool_mat.specs.Matrix.{matrix_at}
 use Rattle.bool_mat.specs.declared.pool.MatNo.{MatNo}
 use Rattle.wf_body.specs.Matrices.{LeadsToExits}
 use Rattle.wf_body.specs.Words.{word_at}

@@ -1,4 +1,4 @@
-use Rattle.std.proofs.Common.{◌≡◌, ◌∙◌, ap, sym, subst, length, take, get_or, [], List, ℕ}
+use Rattle.std.proofs.Common.{◌∙◌, ap, take, get_or, [], List, ℕ}
 use Rattle.std.proofs.lemmas.Result.{IfOk-weaker}
 use Rattle.wf_model.specs.Grammar.{inputs_of, body_of}
 use Rattle.wf_model.specs.Meaning.{pairs_of}

@@ -1,7 +1,6 @@
-use Rattle.std.proofs.Common.{◌≡◌, ◌+◌, length, sym, ap, ◌∙◌, subst, refl, arith, length-append, ◌∷◌, [], ◌<◌}
+use Rattle.std.proofs.Common.{◌≡◌, length, sym, ap, ◌∙◌, subst, arith, length-append, ◌∷◌, [], ◌<◌}
 use Rattle.std.proofs.lemmas.List.{length-map}
-use Rattle.wf_model.specs.Grammar.{body_of}
-use Rattle.wf_body.specs.Order.{positions_of, IsOrder}
+use Rattle.wf_body.specs.Order.{positions_of}
 use Rattle.wf_body.proofs.Ordering.{IsSoFar, so_far_none, so_far_more, more_room, all_placed, count_is, falls, held_push}
 use Rattle.wf_body.proofs.order.order.Goals as goal
 
@@ -13,7 +12,7 @@ loop-k-smaller c =
     let count = count_is c.args.g.now.core c.args.p.0 c.positions-count.result.now c.production.result.now.core c.positions-count.ensures c.production.ensures.core in
     let next = c.in-Some.ensures in
     let room = more_room c.args.g.now.core c.args.p.0 c.feeders-feeders.result c.loop-k.placed c.in-Some.k.0 c.single-placed.result (positions_of c.loop-k.order.items) c.loop-k.invariant
-      c.feeders-feeders.ensures next.1 (subst (λ n. c.in-Some.k.0 < n) count next.0) c.single-placed.ensures.columns in
+    c.feeders-feeders.ensures next.1 (subst (λ n. c.in-Some.k.0 < n) count next.0) c.single-placed.ensures.columns in
     let more = ap length c.in_ok-push.ensures.items ∙ length-append c.loop-k.order.items (c.in-Some.k ∷ []) in
     let same : length (positions_of c.loop-k.order.items) ≡ length c.loop-k.order.items = length-map c.loop-k.order.items _ in
     falls (length c.positions-count.result.now) (length c.loop-k.order.items) (length c.push.new.self.items) (omega arith) (omega arith)

@@ -1,5 +1,4 @@
 use Rattle.std.proofs.Common.{◌-◌, length}
-use Rattle.wf_model.specs.Grammar.{body_of}
 use Rattle.wf_body.specs.Order.{positions_of}
 use Rattle.wf_body.proofs.Ordering.{IsSoFar}
 use Rattle.wf_body.proofs.order.order.Given as goal

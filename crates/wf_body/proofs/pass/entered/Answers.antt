@@ -1,4 +1,4 @@
-use Rattle.std.proofs.Common.{◌≡◌, ◌<◌, ◌+◌, refl, ℕ, length, map, sym, ap, subst, ◌∙◌, arith}
+use Rattle.std.proofs.Common.{◌+◌, refl, map, sym, ap, subst, ◌∙◌, arith}
 use Rattle.wf_model.specs.Grammar.{Production, production_at}
 use Rattle.wf_model.specs.Meaning.{inner_of}
 use Rattle.wf_body.proofs.Entering.{EnteredBelow, entered_none, entered_in, entered_out, entered_whole, held_at, few_entries, entry_small, whole_below}

@@ -1,4 +1,4 @@
-use Rattle.std.proofs.Common.{rules, ◌≡◌, refl, length, map, take, ap, sym, subst, ◌∙◌, get_or, List, ℕ, []}
+use Rattle.std.proofs.Common.{rules, refl, map, subst, ◌∙◌}
 use Rattle.std.proofs.lemmas.List.{take_all}
 use Rattle.wf_model.specs.Meaning.{edge_of}
 use Rattle.wf_body.proofs.Passing.{ReachBy, reach_none, reach_next, reach_all, leads_within, leads_small}

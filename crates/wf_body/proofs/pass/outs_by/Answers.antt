@@ -1,5 +1,5 @@
-use Rattle.std.proofs.Common.{◌∙◌, ◌<◌, length, arith, length-set}
-use Rattle.wf_body.proofs.Rowing.{outs_none, one_out, outs_more}
+use Rattle.std.proofs.Common.{◌∙◌, arith, length-set}
+use Rattle.wf_body.proofs.Rowing.{one_out, outs_more}
 use Rattle.wf_body.proofs.pass.outs_by.Goals as goal
 
 pub loop-o-preserved : goal.loop-o-preserved

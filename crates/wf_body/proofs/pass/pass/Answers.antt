@@ -1,8 +1,7 @@
-use Rattle.std.proofs.Common.{◌≡◌, ◌<◌, ◌∙◌, ℕ, List, replicate, length, get_or, sym, ap, subst}
-use Rattle.wf_model.specs.Grammar.{body_of}
+use Rattle.std.proofs.Common.{◌∙◌, ℕ, List, length, get_or, sym, ap, subst}
 use Rattle.wf_model.specs.Meaning.{pairs_of}
 use Rattle.wf_model.specs.declared.numbers.PosNo.{PosNo}
-use Rattle.wf_body.specs.Words.{AreInputs, edges_in}
+use Rattle.wf_body.specs.Words.{AreInputs}
 use Rattle.wf_body.proofs.Listing.{leading_read}
 use Rattle.wf_body.proofs.Ordering.{count_is}
 use Rattle.wf_body.proofs.Telling.{told_none, held_order_within, held_next, held_all}

@@ -1,4 +1,4 @@
-use Rattle.std.proofs.Common.{◌≡◌, ◌<◌, ◌≤◌, length, take, subst, sym, ◌∙◌, arith, refl, length-set, get_or, IsTrue}
+use Rattle.std.proofs.Common.{◌≡◌, ◌<◌, length, take, subst, sym, ◌∙◌, arith, refl, length-set, get_or, IsTrue}
 use Rattle.std.proofs.lemmas.Result.{IfOk-weaker}
 use Rattle.bool_mat.specs.Matrix.{has, matrix_at}
 use Rattle.bool_mat.specs.declared.pool.MatNo.{MatNo}
