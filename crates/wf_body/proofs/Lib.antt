@@ -1,0 +1,13 @@
+pub mod Bits
+pub mod Calls
+pub mod Entering
+pub mod Feeding
+pub mod Meaning
+pub mod Links
+pub mod Listing
+pub mod Ordering
+pub mod Passing
+pub mod Rowing
+pub mod Telling
+pub mod Turning
+pub mod Twisting
