@@ -1,4 +1,4 @@
-// Specifications that are refused, each for the first fault in the order of trial, with the next one present too.
+// Specifications that are refused for their form or for a size, each for the first fault in the order of trial, with the next one present too.
 use super::Status::Refused;
 use super::*;
 use crate::tests::{contents, name, words};
@@ -6,171 +6,6 @@ use std::alloc::{AllocError, Global};
 use std::test::Fail;
 use wf_io::{MemFile, MemShelf, MemSink};
 use wf_model::Seq;
-
-/// Parts of specifications, by the words that the rows use.
-const PARTS: [(&str, &str); 30] = [
-    ("S", r#"{"name":"S","in":["a"],"out":["b"]}"#),
-    ("K", r#"{"name":"K","in":["a"],"out":["b"]}"#),
-    ("L", r#"{"name":"L","in":["a"],"out":["b"]}"#),
-    ("P", r#"{"name":"P","in":["x"],"out":["y"]}"#),
-    ("P-xx", r#"{"name":"P","in":["x"],"out":["x"]}"#),
-    ("?", r#"{"name":"?"}"#),
-    (
-        "S=P",
-        r#"{"head":"S","body":[["u","P"]],"in":[["a","u.x"]],"out":[["u.y","b"]]}"#,
-    ),
-    (
-        "K=P",
-        r#"{"head":"K","body":[["u","P"]],"in":[["a","u.x"]],"out":[["u.y","b"]]}"#,
-    ),
-    (
-        "S=K",
-        r#"{"head":"S","body":[["u","K"]],"in":[["a","u.a"]],"out":[["u.b","b"]]}"#,
-    ),
-    (
-        "K=K",
-        r#"{"head":"K","body":[["u","K"]],"in":[["a","u.a"]],"out":[["u.b","b"]]}"#,
-    ),
-    (
-        "K=L",
-        r#"{"head":"K","body":[["u","L"]],"in":[["a","u.a"]],"out":[["u.b","b"]]}"#,
-    ),
-    (
-        "L=K",
-        r#"{"head":"L","body":[["u","K"]],"in":[["a","u.a"]],"out":[["u.b","b"]]}"#,
-    ),
-    (
-        "K=P,K",
-        r#"{"head":"K","body":[["u","P"],["v","K"]],"edges":[["u.y","v.a"]],"in":[["a","u.x"]],"out":[["v.b","b"]]}"#,
-    ),
-    (
-        "K=K,K",
-        r#"{"head":"K","body":[["u","K"],["v","K"]],"edges":[["u.b","v.a"]],"in":[["a","u.a"]],"out":[["v.b","b"]]}"#,
-    ),
-    ("S=?", r#"{"head":"S","body":[["?","P"]]}"#),
-    ("S=Z", r#"{"head":"S","body":[["u","Z"]]}"#),
-    ("Y=P", r#"{"head":"Y","body":[["u","P"]]}"#),
-    ("S=", r#"{"head":"S","body":[]}"#),
-    ("S=u,u", r#"{"head":"S","body":[["u","P"],["u","P"]]}"#),
-    (
-        "S=P-to-v",
-        r#"{"head":"S","body":[["u","P"]],"in":[["a","v.x"]],"out":[["u.y","b"]]}"#,
-    ),
-    (
-        "S=P-to-output",
-        r#"{"head":"S","body":[["u","P"]],"in":[["a","u.y"]],"out":[["u.y","b"]]}"#,
-    ),
-    (
-        "S=P-twice",
-        r#"{"head":"S","body":[["u","P"]],"in":[["a","u.x"],["a","u.x"]],"out":[["u.y","b"]]}"#,
-    ),
-    (
-        "S=P-without",
-        r#"{"head":"S","body":[["u","P"]],"out":[["u.y","b"]]}"#,
-    ),
-    (
-        "S=P-around",
-        r#"{"head":"S","body":[["u","P"],["v","P"],["w","P"]],"edges":[["u.y","v.x"],["v.y","u.x"]],"in":[["a","w.x"]],"out":[["w.y","b"]]}"#,
-    ),
-    ("of-Z", r#"{"module":"Z","pairs":[]}"#),
-    ("of-S", r#"{"module":"S","pairs":[]}"#),
-    ("of-P", r#"{"module":"P","pairs":[]}"#),
-    ("of-P-zz", r#"{"module":"P","pairs":[["zz","y"]]}"#),
-    ("of-P-aa", r#"{"module":"P","pairs":[["x","aa"]]}"#),
-    ("of-P-yx", r#"{"module":"P","pairs":[["y","x"]]}"#),
-];
-
-/// Each line: the start, the modules, the productions, the deps, and the fault that is told.
-const ROWS: [(&str, &str, &str, &str, &str); 28] = [
-    ("S", "S ?", "S=?", "", "NameBad module 1"),
-    ("S", "S P S", "S=P S=?", "", "NameBad production 1"),
-    ("S", "S P-xx S", "", "", "NameTwice module 2"),
-    ("S", "S P P-xx", "", "", "NameTwice module 2"),
-    ("Z", "S P-xx", "Y=P", "", "PortTwice module 1"),
-    ("Z", "S P", "Y=P", "", "UnknownModule start"),
-    ("S", "S P", "S=P Y=P", "of-Z", "UnknownModule production 1"),
-    ("S", "S P", "S=Z", "of-Z", "UnknownModule production 0"),
-    ("S", "S P", "S=", "of-P of-Z", "UnknownModule deps 1"),
-    ("S", "S P", "S=u,u S=", "", "EmptyBody production 1"),
-    (
-        "S",
-        "S P",
-        "S=P-to-v S=u,u",
-        "",
-        "PositionTwice production 1",
-    ),
-    (
-        "S",
-        "S P",
-        "S=P S=P-to-v",
-        "of-P-zz",
-        "UnknownPort production 1",
-    ),
-    (
-        "S",
-        "S P",
-        "S=P-to-output",
-        "of-P-zz",
-        "UnknownPort production 0",
-    ),
-    ("S", "S P", "S=P-twice", "of-P-zz", "UnknownPort deps 0"),
-    ("S", "S P", "S=P", "of-P of-P-aa of-S", "UnknownPort deps 1"),
-    ("S", "S P", "S=P", "of-P of-P-yx of-S", "UnknownPort deps 1"),
-    (
-        "S",
-        "S P",
-        "S=P-without S=P-twice",
-        "",
-        "PortLinkedTwice production 1",
-    ),
-    (
-        "S",
-        "S P",
-        "S=P-around S=P-without",
-        "",
-        "PortUnlinked production 1",
-    ),
-    ("S", "S P", "S=P-around", "of-S", "BodyCycle production 0"),
-    (
-        "S",
-        "S P K",
-        "S=P K=P",
-        "of-P of-S",
-        "DepsOnComposite deps 1",
-    ),
-    ("S", "S P K", "S=P K=K", "", "Unreachable K"),
-    ("S", "S K P", "S=K K=K", "", "Unproductive S"),
-    ("K", "S K P", "K=K", "", "Unproductive K"),
-    ("S", "S K P", "S=K K=P K=K", "", "UnitCycle productions 2"),
-    (
-        "S",
-        "S K L P",
-        "S=K K=P L=K K=L",
-        "",
-        "UnitCycle productions 3 2",
-    ),
-    (
-        "S",
-        "S K P",
-        "S=K K=P K=K K=K,K",
-        "",
-        "UnitCycle productions 2",
-    ),
-    (
-        "S",
-        "S K P",
-        "S=K K=P K=K,K",
-        "",
-        "TwoLoops K first 2 u second 2 v",
-    ),
-    (
-        "S",
-        "P K S",
-        "K=P,K S=K K=P K=P,K K=K,K",
-        "",
-        "TwoLoops K first 0 v second 3 v",
-    ),
-];
 
 /// Texts that say no parts, and the fault that is told.
 const TEXTS: [(&str, &str); 12] = [
@@ -223,22 +58,6 @@ fn checked(alloc: Global, text: &str) -> Result<Ended, AllocError> {
     Ok(Ended { status, out, err })
 }
 
-/// The parts that words name, with commas between.
-fn parts(alloc: Global, names: &str) -> Result<String, AllocError> {
-    let mut text = String::new(alloc);
-    for called in names.split_whitespace() {
-        for (part, form) in PARTS {
-            if part == called {
-                if !text.is_empty() {
-                    text.push_str(",")?;
-                }
-                text.push_str(form)?;
-            }
-        }
-    }
-    Ok(text)
-}
-
 /// The numbers below a count, each with a text before and behind it, with commas between.
 fn numbered(alloc: Global, before: &str, count: u32, behind: &str) -> Result<String, AllocError> {
     let mut text = String::new(alloc);
@@ -277,22 +96,6 @@ fn texts_that_say_no_parts_are_refused(rt: HostRuntime) -> Result<(), Fail> {
 }
 
 #[test]
-fn the_first_fault_is_told(rt: HostRuntime) -> Result<(), Fail> {
-    let alloc = rt.alloc();
-    for (start, modules, productions, deps, fault) in ROWS {
-        let modules = parts(alloc, modules)?;
-        let productions = parts(alloc, productions)?;
-        let deps = parts(alloc, deps)?;
-        let text = specification(alloc, start, &modules, &productions, &deps)?;
-        let got = checked(alloc, &text)?;
-        let line = format!(in alloc; "refused: spec: {fault}\n")?;
-        assert_eq!(rt; got.status, Refused, "at {fault:?}");
-        assert_eq!(rt; got.err.bytes(), line.as_bytes(), "at {fault:?}");
-    }
-    Ok(())
-}
-
-#[test]
 fn sizes_are_tried_in_order(rt: HostRuntime) -> Result<(), Fail> {
     let alloc = rt.alloc();
     let ports = numbered(alloc, "\"p", 65, "\"")?;
@@ -313,25 +116,20 @@ fn sizes_are_tried_in_order(rt: HostRuntime) -> Result<(), Fail> {
     let full_and_long = format!(in alloc; "{bodies}{long_body}")?;
     let twice = "{\"head\":\"S\",\"body\":[[\"u\",\"P\"],[\"u\",\"P\"]]}";
     let full_and_twice = format!(in alloc; "{bodies}{twice}")?;
-    let two = parts(alloc, "S P")?;
+    let two = "{\"name\":\"S\"},{\"name\":\"P\"}";
     for (start, modules, productions, fault) in [
         ("S", wide_and_twice.as_str(), "", "PortTwice module 1"),
         ("S", many_and_wide.as_str(), "", "TooManyPorts module 1025"),
         ("S", many.as_str(), rules.as_str(), "TooManyModules"),
-        ("Z", two.as_str(), rules.as_str(), "TooManyProductions"),
+        ("Z", two, rules.as_str(), "TooManyProductions"),
+        ("S", two, long_and_empty.as_str(), "EmptyBody production 1"),
         (
             "S",
-            two.as_str(),
-            long_and_empty.as_str(),
-            "EmptyBody production 1",
-        ),
-        (
-            "S",
-            two.as_str(),
+            two,
             full_and_long.as_str(),
             "BodyTooLong production 17",
         ),
-        ("S", two.as_str(), full_and_twice.as_str(), "BodiesTooLarge"),
+        ("S", two, full_and_twice.as_str(), "BodiesTooLarge"),
     ] {
         let text = specification(alloc, start, modules, productions, "")?;
         let got = checked(alloc, &text)?;
