@@ -15,14 +15,12 @@ Call it from anywhere, after the program was built: bench/chain.py [--small] [--
 
 import argparse
 import json
-import os
-import subprocess
 import sys
 import tempfile
-import time
 from pathlib import Path
 
-TOP = Path(__file__).resolve().parent.parent
+from measure import PROGRAM, built, others, read_lines, run
+
 QUERIES = 100
 
 
@@ -82,34 +80,10 @@ def links(length):
     return length * (4 + 2 + 2) + 4 + 2 * (2 * length) + 2
 
 
-def run(program, folder, queries):
-    with tempfile.TemporaryFile() as out, tempfile.TemporaryFile() as err:
-        begun = time.perf_counter()
-        child = subprocess.Popen([program, "trace", "spec", "view", "events", queries], cwd=folder, stdout=out, stderr=err)
-        _, status, usage = os.wait4(child.pid, 0)
-        seconds = time.perf_counter() - begun
-        child.returncode = os.waitstatus_to_exitcode(status)
-        if child.returncode != 0:
-            sys.exit(f"{program} ended with {child.returncode}")
-        out.seek(0)
-        return seconds, usage.ru_maxrss * 1024, out.read().decode().splitlines()
-
-
-def clock(work):
-    """The least time of three tries."""
-    best = None
-    for _ in range(3):
-        begun = time.perf_counter()
-        work()
-        seconds = time.perf_counter() - begun
-        best = seconds if best is None else min(best, seconds)
-    return best
-
-
-def read_json(path):
-    with open(path, "rb") as lines:
-        for line in lines:
-            json.loads(line)
+def trace(program, folder, queries):
+    """Runs `trace`. Gives the seconds, the peak of memory in bytes and the answers."""
+    seconds, peak, out, _ = run([program, "trace", "spec", "view", "events", queries], folder)
+    return seconds, peak, out.splitlines()
 
 
 def measure(program, folder, length):
@@ -117,8 +91,8 @@ def measure(program, folder, length):
     count = write_events(events, length)
     answers = write_queries(folder / "queries", length)
     (folder / "none").write_text("")
-    base = min(run(program, folder, "none")[0] for _ in range(3))
-    seconds, memory, told = run(program, folder, "queries")
+    base = min(trace(program, folder, "none")[0] for _ in range(3))
+    seconds, memory, told = trace(program, folder, "queries")
     if told != answers:
         sys.exit("the answers are not those of the definition")
     each = (seconds - base) / QUERIES
@@ -127,22 +101,16 @@ def measure(program, folder, length):
         f" {count / base:.0f} events a second; {each * 1e3:.2f} ms a query,"
         f" {each * 1e9 / links(length):.1f} microseconds for a thousand links; peak {memory / 1e6:.0f} MB"
     )
-    others = {
-        "wc -l": clock(lambda: subprocess.run(["wc", "-l", events], stdout=subprocess.DEVNULL, check=True)),
-        "sha256sum": clock(lambda: subprocess.run(["sha256sum", events], stdout=subprocess.DEVNULL, check=True)),
-        "Python's JSON reader": clock(lambda: read_json(events)),
-    }
-    print("  beside " + ", ".join(f"{name}: {base / other:.1f} times" for name, other in others.items()))
+    beside = others(events, read_lines)
+    print("  beside " + ", ".join(f"{name}: {base / other:.1f} times" for name, other in beside.items()))
 
 
 def main():
     words = argparse.ArgumentParser(description=__doc__.splitlines()[0])
     words.add_argument("--small", action="store_true", help="lengths divided by 100, to try the script")
-    words.add_argument("--program", default=str(TOP / "crates/wfprov/out/wfprov"))
+    words.add_argument("--program", default=str(PROGRAM))
     args = words.parse_args()
-    program = str(Path(args.program).resolve())
-    if not os.access(program, os.X_OK):
-        sys.exit(f"{program} is not built; call ./wfprov once")
+    program = built(args.program)
     with tempfile.TemporaryDirectory(prefix="wfprov-bench-") as name:
         folder = Path(name)
         (folder / "spec").write_text(json.dumps(SPEC))

@@ -21,15 +21,14 @@ Call it from anywhere, after the program was built: bench/check.py [--small] [--
 
 import argparse
 import json
-import os
-import subprocess
 import sys
 import tempfile
-import time
 from pathlib import Path
 
-TOP = Path(__file__).resolve().parent.parent
+from measure import PROGRAM, built, others, run
+
 MEBIBYTE = 1 << 20
+READER = "Python's JSON reader"
 
 
 def compact(value):
@@ -146,54 +145,30 @@ def hostile(length):
     )
 
 
-def run(program, spec, folder):
-    """Runs `check`. Gives the seconds, the peak of memory in bytes, the status and the message."""
-    with tempfile.TemporaryFile() as out, tempfile.TemporaryFile() as err:
-        begun = time.perf_counter()
-        child = subprocess.Popen([program, "check", spec], cwd=folder, stdout=out, stderr=err)
-        _, status, usage = os.wait4(child.pid, 0)
-        seconds = time.perf_counter() - begun
-        child.returncode = os.waitstatus_to_exitcode(status)
-        err.seek(0)
-        return seconds, usage.ru_maxrss * 1024, (child.returncode, err.read().decode())
-
-
-def clock(work):
-    """The least time of three tries."""
-    best = None
-    for _ in range(3):
-        begun = time.perf_counter()
-        work()
-        seconds = time.perf_counter() - begun
-        best = seconds if best is None else min(best, seconds)
-    return best
-
-
 def measure(program, folder, name, text, wanted):
     path = folder / "spec"
     path.write_text(text)
-    tries = [run(program, "spec", folder) for _ in range(3)]
-    for _, _, ended in tries:
-        if ended != wanted:
-            sys.exit(f"{name}: ended with {ended}, and not with {wanted}")
-    seconds = min(t[0] for t in tries)
-    peak = max(t[1] for t in tries)
-    digest = clock(lambda: subprocess.run(["sha256sum", path], stdout=subprocess.DEVNULL, check=True))
-    reader = clock(lambda: json.loads(path.read_bytes()))
+    status, message = wanted
+    tries = [run([program, "check", "spec"], folder, status) for _ in range(3)]
+    for told in tries:
+        if told[3] != message:
+            sys.exit(f"{name}: said {told[3]}, and not {message}")
+    seconds = min(told[0] for told in tries)
+    peak = max(told[1] for told in tries)
+    beside = others(path, lambda file: json.loads(file.read_bytes()))
     print(
         f"{name}: {len(text) / MEBIBYTE:.2f} MiB, {seconds:.3f} s, {len(text) / seconds / 1e6:.1f} MB a second,"
-        f" peak {peak / 1e6:.0f} MB; {seconds / digest:.1f} times sha256sum, {seconds / reader:.1f} times Python's JSON reader"
+        f" peak {peak / 1e6:.0f} MB; {seconds / beside['sha256sum']:.1f} times sha256sum,"
+        f" {seconds / beside[READER]:.1f} times {READER}"
     )
 
 
 def main():
     words = argparse.ArgumentParser(description=__doc__.splitlines()[0])
     words.add_argument("--small", action="store_true", help="sizes divided by 16, to try the script")
-    words.add_argument("--program", default=str(TOP / "crates/wfprov/out/wfprov"))
+    words.add_argument("--program", default=str(PROGRAM))
     args = words.parse_args()
-    program = str(Path(args.program).resolve())
-    if not os.access(program, os.X_OK):
-        sys.exit(f"{program} is not built; call ./wfprov once")
+    program = built(args.program)
     whole = MEBIBYTE if args.small else 16 * MEBIBYTE
     with tempfile.TemporaryDirectory(prefix="wfprov-bench-") as name:
         folder = Path(name)

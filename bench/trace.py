@@ -16,16 +16,13 @@ Call it from anywhere, after the program was built: bench/trace.py [--small] [--
 
 import argparse
 import json
-import os
 import random
 import shutil
-import subprocess
-import sys
 import tempfile
-import time
 from pathlib import Path
 
-TOP = Path(__file__).resolve().parent.parent
+from measure import PROGRAM, built, others, read_lines, run
+
 WORKERS = 6
 
 
@@ -112,48 +109,19 @@ def make_queries(items, count, draw, path):
             out.write(f"{first} {second}\n")
 
 
-def run(program, events, queries, folder, wanted=0):
-    """Runs the program. Gives the seconds, the peak of memory in bytes and the answers."""
-    with tempfile.TemporaryFile() as out, tempfile.TemporaryFile() as err:
-        begun = time.perf_counter()
-        words = [program, "trace", "spec", "view", events, queries]
-        child = subprocess.Popen(words, cwd=folder, stdout=out, stderr=err)
-        _, status, usage = os.wait4(child.pid, 0)
-        seconds = time.perf_counter() - begun
-        child.returncode = os.waitstatus_to_exitcode(status)
-        if child.returncode != wanted:
-            sys.exit(f"{program} ended with {child.returncode}")
-        out.seek(0)
-        answers = out.read().decode().splitlines()
-    return seconds, usage.ru_maxrss * 1024, answers
-
-
-def clock(work):
-    """The least time of three tries."""
-    best = None
-    for _ in range(3):
-        begun = time.perf_counter()
-        work()
-        seconds = time.perf_counter() - begun
-        best = seconds if best is None else min(best, seconds)
-    return best
-
-
-def read_json(path):
-    with open(path, "rb") as lines:
-        for line in lines:
-            json.loads(line)
+def trace(program, events, queries, folder, wanted=0):
+    """Runs `trace`. Gives the seconds, the peak of memory in bytes and the answers."""
+    seconds, peak, out, _ = run([program, "trace", "spec", "view", events, queries], folder, wanted)
+    return seconds, peak, out.splitlines()
 
 
 def main():
     words = argparse.ArgumentParser(description=__doc__.splitlines()[0])
     words.add_argument("--small", action="store_true", help="a run of 85 expansions, to try the script")
     words.add_argument("--keep", help="make the files in this folder and leave them there")
-    words.add_argument("--program", default=str(TOP / "crates/wfprov/out/wfprov"))
+    words.add_argument("--program", default=str(PROGRAM))
     args = words.parse_args()
-    program = str(Path(args.program).resolve())
-    if not os.access(program, os.X_OK):
-        sys.exit(f"{program} is not built; call ./wfprov once")
+    program = built(args.program)
     folder = Path(args.keep or tempfile.mkdtemp(prefix="wfprov-bench-"))
     folder.mkdir(exist_ok=True)
     try:
@@ -175,8 +143,8 @@ def measure(program, folder, size):
     (folder / "none").write_text("")
     with open(events) as whole, open(folder / "cut", "w") as cut:
         cut.writelines(whole.readlines()[:-1])
-    reading = min(run(program, "cut", "none", folder, wanted=2)[0] for _ in range(3))
-    base = min(run(program, "events", "none", folder)[0] for _ in range(3))
+    reading = min(trace(program, "cut", "none", folder, wanted=2)[0] for _ in range(3))
+    base = min(trace(program, "events", "none", folder)[0] for _ in range(3))
     print(f"specification and events read, run taken: {reading:.2f} s, {lines / reading:.0f} events a second")
     print(f"links and index made: {base - reading:.2f} s")
     print(f"trace without queries: {base:.2f} s, {lines / base:.0f} events a second, {length / base / 1e6:.1f} MB a second")
@@ -184,7 +152,7 @@ def measure(program, folder, size):
     peak = 0
     for count in (10, 100, 1000):
         make_queries(items, count, draw, folder / "queries")
-        seconds, memory, answers = run(program, "events", "queries", folder)
+        seconds, memory, answers = trace(program, "events", "queries", folder)
         assert len(answers) == count
         peak = max(peak, memory)
         print(
@@ -194,12 +162,7 @@ def measure(program, folder, size):
         )
     print(f"peak of memory: {peak / 1e6:.0f} MB, {peak / instances:.0f} bytes an instance")
 
-    others = {
-        "wc -l": clock(lambda: subprocess.run(["wc", "-l", events], stdout=subprocess.DEVNULL, check=True)),
-        "sha256sum": clock(lambda: subprocess.run(["sha256sum", events], stdout=subprocess.DEVNULL, check=True)),
-        "Python's JSON reader": clock(lambda: read_json(events)),
-    }
-    for name, seconds in others.items():
+    for name, seconds in others(events, read_lines).items():
         print(f"{name} on the events: {seconds:.3f} s; trace without queries takes {base / seconds:.1f} times as long")
 
 

@@ -1,0 +1,62 @@
+"""What the scripts of this folder share: running the program, and timing other work beside it."""
+
+import json
+import os
+import subprocess
+import sys
+import tempfile
+import time
+from pathlib import Path
+
+PROGRAM = Path(__file__).resolve().parent.parent / "crates/wfprov/out/wfprov"
+
+
+def built(path):
+    """The whole path of the program, which must be built."""
+    program = str(Path(path).resolve())
+    if not os.access(program, os.X_OK):
+        sys.exit(f"{program} is not built; call ./wfprov once")
+    return program
+
+
+def run(words, folder, wanted=0):
+    """Runs a command, which must end with a status. Gives the seconds, the peak of memory in bytes, and both texts."""
+    with tempfile.TemporaryFile() as out, tempfile.TemporaryFile() as err:
+        begun = time.perf_counter()
+        child = subprocess.Popen(words, cwd=folder, stdout=out, stderr=err)
+        _, status, usage = os.wait4(child.pid, 0)
+        seconds = time.perf_counter() - begun
+        child.returncode = os.waitstatus_to_exitcode(status)
+        out.seek(0)
+        err.seek(0)
+        message = err.read().decode()
+        if child.returncode != wanted:
+            sys.exit(f"{' '.join(words)} ended with {child.returncode}, and not with {wanted}: {message}")
+        return seconds, usage.ru_maxrss * 1024, out.read().decode(), message
+
+
+def clock(work):
+    """The least time of three tries."""
+    best = None
+    for _ in range(3):
+        begun = time.perf_counter()
+        work()
+        seconds = time.perf_counter() - begun
+        best = seconds if best is None else min(best, seconds)
+    return best
+
+
+def read_lines(path):
+    """Reads each line as JSON."""
+    with open(path, "rb") as lines:
+        for line in lines:
+            json.loads(line)
+
+
+def others(path, reader):
+    """The seconds that other programs take on a file: `wc -l`, `sha256sum`, and Python's JSON reader by this function."""
+    return {
+        "wc -l": clock(lambda: subprocess.run(["wc", "-l", path], stdout=subprocess.DEVNULL, check=True)),
+        "sha256sum": clock(lambda: subprocess.run(["sha256sum", path], stdout=subprocess.DEVNULL, check=True)),
+        "Python's JSON reader": clock(lambda: reader(path)),
+    }
