@@ -4,14 +4,7 @@ set -euo pipefail
 
 cd "$(dirname "${BASH_SOURCE[0]}")/.."
 . checks/count.sh
-
-program=$PWD/crates/wfprov/out/wfprov
-if [ ! -x "$program" ]; then
-    program=$PWD/wfprov
-fi
-
-work=$(mktemp -d)
-trap 'rm -rf "$work"' EXIT
+. checks/built.sh
 
 # Runs the program, and keeps its text, its message and its status.
 run() {
@@ -111,6 +104,8 @@ line_but() {
 
 check "a form is told by its member" says 2 'refused: spec: WrongShape modules\n' check "$(line_but shape '\["y"\]' '"y"')"
 check "a name is told by its place" says 2 'refused: spec: NameBad module 1\n' check "$(line_but name '"name":"P"' '"name":"P!"')"
+check "pairs that are no list are told by their member" says 2 'refused: spec: WrongShape deps\n' check "$(line_but pairs '"start"' '"deps":[{"module":"P","pairs":3}],"start"')"
+check "a specification that is too long is told before its form" says 2 'refused: spec: TooLong\n' check "$( (cat $line/spec; head -c 16777216 /dev/zero | tr '\0' '[') >"$work/over"; echo "$work/over")"
 check "an unknown port is told by its production" \
     says 2 'refused: spec: UnknownPort production 0\n' check "$(line_but port '"u.y","v.x"' '"u.z","v.x"')"
 check "a module that is not reached is told by its name" says 2 'refused: spec: Unreachable R\n' \

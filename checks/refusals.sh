@@ -4,14 +4,7 @@ set -euo pipefail
 
 cd "$(dirname "${BASH_SOURCE[0]}")/.."
 . checks/count.sh
-
-program=$PWD/crates/wfprov/out/wfprov
-if [ ! -x "$program" ]; then
-    program=$PWD/wfprov
-fi
-
-work=$(mktemp -d)
-trap 'rm -rf "$work"' EXIT
+. checks/built.sh
 
 # Parts of specifications, by the words that the cases use.
 declare -A part=(
