@@ -10,7 +10,9 @@ pub mod CheckText
 pub mod Outcome
 pub mod Meets
 pub mod Stages
-pub mod Leaf
+pub mod Viewed
+pub mod ViewTold
+pub mod ViewText
 pub mod Prepared
 pub mod Asked
 pub mod Laws

@@ -1,9 +1,10 @@
 -- What the program does, by its words and the files that they name: how it ends, and the text that it writes to out.
-use Rattle.std.specs.Prelude.{◌≡◌, ◌⊎◌, ◌<◌, ◌≤◌, ℕ, true, false, List, [], ◌∷◌, ◌++◌, length, Option, Some, None, codes}
+use Rattle.std.specs.Prelude.{◌≡◌, ◌⊎◌, ◌<◌, ◌≤◌, ℕ, Bool, true, false, List, [], ◌∷◌, ◌++◌, length, Option, Some, None, codes}
 use Rattle.wf_model.specs.declared.event.Event.{Event}
 use Rattle.wf_model.specs.Grammar.{Grammar}
 use Rattle.wf_model.specs.View.{View as ViewOf}
-use Rattle.wf_model.specs.DefaultView.{default_view}
+use Rattle.wf_model.specs.Grammar.{Assignment}
+use Rattle.wf_model.specs.Safe.{IsFull}
 use Rattle.wf_io.specs.Told.{File}
 use Rattle.wf_io.specs.Lines.{Line, is_too_long, text_of, lines_of}
 use Rattle.wf_query.specs.Line.{IsQuery}
@@ -13,16 +14,18 @@ use Rattle.wf_top.specs.declared.ending.Place.{Place}
 use Rattle.wf_top.specs.declared.ending.Place.TheVariants.{Spec, View, Events, Queries}
 use Rattle.wf_top.specs.Endings.{End, Done, Usage, Refused, ReadFault}
 use Rattle.wf_top.specs.Specification.{TellsGrammar, RefusesSpec}
+use Rattle.wf_top.specs.ViewTold.{TellsView, RefusesView}
+use Rattle.wf_top.specs.ViewText.{IsSeenTest, view_text_of}
 use Rattle.wf_top.specs.Telling.{IsNotBuilt, OfWhole}
 use Rattle.wf_top.specs.RunTold.{TellsRun, RefusesRun}
 use Rattle.wf_top.specs.CheckText.{check_text_of}
 use Rattle.wf_top.specs.Answers.{IsAnswer}
-use Rattle.wf_top.specs.Words.{Command, Check, Trace, command_of}
+use Rattle.wf_top.specs.Words.{Command, Check, View as ViewCommand, Trace, command_of}
 
 -- the fault of a file that is too long
 abbrev pub long_fault : Place → List ℕ
 long_fault Spec = codes "TooLong"
-long_fault View = codes "NotBuilt"
+long_fault View = codes "TooLong"
 long_fault Events = codes "NotBuilt"
 long_fault Queries = codes "NotBuilt"
 
@@ -33,14 +36,6 @@ pub data Stage {A : Type 0} (most : ℕ) (place : Place) (file : File) (Tells : 
   broken : length file.bytes ≤ most → file.broken ≡ true → ending ≡ ReadFault place → text ≡ [] → Stage most place file Tells Refuses Next ending text
   refused : length file.bytes ≤ most → file.broken ≡ false → (line : Option ℕ) (fault : List ℕ) → Refuses file.bytes line fault → ending ≡ Refused place line fault → text ≡ [] → Stage most place file Tells Refuses Next ending text
   goes_on : length file.bytes ≤ most → file.broken ≡ false → (a : A) → Tells file.bytes a → Next a ending text → Stage most place file Tells Refuses Next ending text
-
--- the text of the default view: `{}`, with or without a newline
-abbrev pub IsDefaultText : List ℕ → Type 0
-IsDefaultText bytes = (bytes ≡ codes "{}") ⊎ (bytes ≡ codes "{}\n")
-
--- the bytes are the text of this view, which is the default view
-abbrev pub TellsView : Grammar → List ℕ → ViewOf → Type 0
-TellsView g bytes u = IsDefaultText bytes × (u ≡ default_view g)
 
 -- the line is not too long, and asks whether the second item depends on the first
 abbrev pub IsQueryLine : Line → List ℕ → List ℕ → Type 0
@@ -88,6 +83,19 @@ IsChecked g ending text = (ending ≡ Done) × ((r : Ranking) × (c : CyclesSeen
 abbrev pub Checks : File → End → List ℕ → Type 0
 Checks spec = SpecStage spec IsChecked
 
+-- VIEW of a grammar, as every command takes it
+abbrev pub ViewStage : Grammar → File → (ViewOf → End → List ℕ → Type 0) → End → List ℕ → Type 0
+ViewStage g view = Stage short_most View view (TellsView g) (OfWhole (RefusesView g))
+
+-- the seen modules, with the pairs that each of their expansions joins, are written
+abbrev pub IsViewWritten : Grammar → ViewOf → End → List ℕ → Type 0
+IsViewWritten g u ending text =
+    (ending ≡ Done) × ((seen : ℕ → Bool) × (d : Assignment) × IsSeenTest g u seen × IsFull g u d × (text ≡ view_text_of g u seen d))
+
+-- `view` over SPEC and VIEW: the text of the view
+abbrev pub Views : File → File → End → List ℕ → Type 0
+Views spec view = SpecStage spec (λ g. ViewStage g view (IsViewWritten g))
+
 -- QUERIES, answered on a run under a view
 abbrev pub AnswersQueries : Grammar → ViewOf → List Event → File → End → List ℕ → Type 0
 AnswersQueries g u e queries = Stage long_most Queries queries TellsLines (OfWhole (IsNotBuilt TellsLines)) (AreAnswered g u e)
@@ -98,7 +106,7 @@ AnswersRun g u events queries = Stage long_most Events events (TellsRun g u inst
 
 -- VIEW, EVENTS and QUERIES of a grammar
 abbrev pub AnswersView : Grammar → File → File → File → End → List ℕ → Type 0
-AnswersView g view events queries = Stage short_most View view (TellsView g) (OfWhole (IsNotBuilt (TellsView g))) (λ u. AnswersRun g u events queries)
+AnswersView g view events queries = ViewStage g view (λ u. AnswersRun g u events queries)
 
 -- `trace` over the four files
 abbrev pub Traces : File → File → File → File → End → List ℕ → Type 0
@@ -108,6 +116,7 @@ Traces spec view events queries = SpecStage spec (λ g. AnswersView g view event
 abbrev pub Does : (List ℕ → File) → Option Command → End → List ℕ → Type 0
 Does files None ending text = (ending ≡ Usage) × (text ≡ [])
 Does files (Some (Check s)) ending text = Checks (files s) ending text
+Does files (Some (ViewCommand s v)) ending text = Views (files s) (files v) ending text
 Does files (Some (Trace s v e q)) ending text = Traces (files s) (files v) (files e) (files q) ending text
 
 -- how the program ends over files, and the text that it writes to out

@@ -1,5 +1,5 @@
 -- The texts of refusals: the name of the fault, and behind it what it is about.
-use Rattle.std.specs.Prelude.{ℕ, List, [], ◌++◌, map, flat_map, Option, Some, None, codes, decimal}
+use Rattle.std.specs.Prelude.{ℕ, Bool, true, false, List, [], ◌++◌, map, flat_map, Option, Some, None, codes, decimal}
 use Rattle.wf_model.specs.declared.numbers.ProdNo.{ProdNo}
 use Rattle.wf_model.specs.declared.event.RunFault.{RunFault}
 use Rattle.wf_model.specs.declared.event.RunFault.TheVariants.{NotStarted, StartedTwice, UnknownInstance, UnknownProduction, WrongHead, AlreadyExpanded, PositionsWrong, NameBad as NameBadOfRun, NameTwice as NameTwiceOfRun, TooManyInstances, NoMemory as NoMemoryOfRun}
@@ -17,8 +17,15 @@ use Rattle.wf_check.specs.declared.fault.CheckFault.TheVariants.{Unreachable, Un
 use Rattle.wf_recur.specs.declared.fault.RecurFault.{RecurFault}
 use Rattle.wf_recur.specs.declared.fault.RecurFault.TheVariants.{TwoLoops, NoMemory as NoMemoryOfRecur}
 use Rattle.wf_recur.specs.Cycles.{step_of}
+use Rattle.wf_view.specs.declared.fault.ViewSpot.{ViewSpot}
+use Rattle.wf_view.specs.declared.fault.ViewSpot.TheVariants.{ExpandAt, DepsAt as DepsAtOfView}
+use Rattle.wf_view.specs.declared.fault.ViewFault.{ViewFault}
+use Rattle.wf_view.specs.declared.fault.ViewFault.TheVariants.{UnknownModule as UnknownModuleOfView, NotComposite, DepsOnExpanded, UnknownPort as UnknownPortOfView, ModuleTwice, NoMemory as NoMemoryOfView}
+use Rattle.wf_view.specs.Viewing.{name_of, input_name, output_name}
+use Rattle.wf_safe.specs.declared.witness.Choice.{Choice}
+use Rattle.wf_safe.specs.declared.witness.Witness.{Witness}
 use Rattle.wf_top.specs.declared.refusal.Refusal.{Refusal}
-use Rattle.wf_top.specs.declared.refusal.Refusal.TheVariants.{TooLong, NotJson, WrongShape, Form, Check, Recur, Run, NotBuilt}
+use Rattle.wf_top.specs.declared.refusal.Refusal.TheVariants.{TooLong, NotJson, WrongShape, Form, Check, Recur, View, Unsafe, Run, NotBuilt}
 
 -- the word of a member
 abbrev pub member_word : Member → List ℕ
@@ -127,6 +134,55 @@ run_name NameTwiceOfRun = codes "NameTwice"
 run_name TooManyInstances = codes "TooManyInstances"
 run_name NoMemoryOfRun = codes "NoMemory"
 
+-- the name of a fault of the parts of a view
+abbrev pub view_name : ViewFault → List ℕ
+view_name (UnknownModuleOfView s) = codes "UnknownModule"
+view_name (NotComposite n) = codes "NotComposite"
+view_name (DepsOnExpanded n) = codes "DepsOnExpanded"
+view_name (UnknownPortOfView n) = codes "UnknownPort"
+view_name (ModuleTwice s) = codes "ModuleTwice"
+view_name NoMemoryOfView = codes "NoMemory"
+
+-- the place in the view that it is about
+abbrev pub view_spot : ViewFault → Option ViewSpot
+view_spot (UnknownModuleOfView s) = Some s
+view_spot (NotComposite n) = Some (ExpandAt n)
+view_spot (DepsOnExpanded n) = Some (DepsAtOfView n)
+view_spot (UnknownPortOfView n) = Some (DepsAtOfView n)
+view_spot (ModuleTwice s) = Some s
+view_spot NoMemoryOfView = None
+
+-- a place in a view behind a space: the word of its list and its number; nothing where there is none
+abbrev pub behind_view_spot : Option ViewSpot → List ℕ
+behind_view_spot None = []
+behind_view_spot (Some (ExpandAt n)) = codes " expand " ++ decimal n
+behind_view_spot (Some (DepsAtOfView n)) = codes " deps " ++ decimal n
+
+-- a fault of the parts of a view: its name, and the place that it is about
+abbrev pub view_text : ViewFault → List ℕ
+view_text f = view_name f ++ behind_view_spot (view_spot f)
+
+-- which of the two expansions of a witness joins the pair
+abbrev pub joined_text : Bool → List ℕ
+joined_text true = codes " joined one"
+joined_text false = codes " joined other"
+
+-- choices, each behind a space: the name of the module and the number of its production
+abbrev pub choices_text : Grammar → List Choice → List ℕ
+choices_text g = flat_map (λ (c : Choice). (codes " " ++ name_of g c.«module».0) ++ (codes "=" ++ decimal c.production.0))
+
+-- the pair of a witness: the names of its ports
+abbrev pub ports_text : Grammar → Witness → List ℕ
+ports_text g w = (codes " input " ++ input_name g w.«module».0 w.input.0) ++ (codes " output " ++ output_name g w.«module».0 w.output.0)
+
+-- the module of a witness and its two productions
+abbrev pub productions_text : Grammar → Witness → List ℕ
+productions_text g w = (codes "Unsafe module " ++ name_of g w.«module».0) ++ ((codes " one " ++ decimal w.one.0) ++ (codes " other " ++ decimal w.other.0))
+
+-- why a view is not safe: the name of the fault, and the witness
+abbrev pub unsafe_text : Grammar → Witness → List ℕ
+unsafe_text g w = productions_text g w ++ (ports_text g w ++ (joined_text w.joined_by_one ++ (codes " choice" ++ choices_text g w.choice)))
+
 -- the text of a refusal
 abbrev pub refusal_text : Refusal → List ℕ
 refusal_text TooLong = codes "TooLong"
@@ -135,5 +191,7 @@ refusal_text (WrongShape m) = shape_text m
 refusal_text (Form f) = form_text f
 refusal_text (Check g f) = check_text g.core f
 refusal_text (Recur g f) = recur_text g.core f
+refusal_text (View f) = view_text f
+refusal_text (Unsafe g w) = unsafe_text g.core w
 refusal_text (Run f) = run_name f
 refusal_text NotBuilt = codes "NotBuilt"

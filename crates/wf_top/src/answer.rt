@@ -1,6 +1,5 @@
 // The answer to one query.
 ghost use Rattle.std.specs.Prelude.{◌≡◌, ℕ, List, IfOk, length, option_map, codes};
-ghost use Rattle.wf_model.specs.DefaultView.{default_view};
 ghost use Rattle.wf_flat.specs.Table.{events_of, names_in};
 ghost use Rattle.wf_flat.specs.Graph.{named_port};
 ghost use Rattle.wf_flat.specs.Item.{IsItemWithin};
@@ -17,10 +16,10 @@ fn verdict(
     first: Item,
     second: Item,
 ) -> Result<&'static [u8], AllocError>
-    requires prepared { IsPrepared p.now.grammar.now.core p.now.run.now p.now.flat }
+    requires prepared { IsPrepared p.now.viewed.now.grammar.core p.now.viewed.now.view.core p.now.run.now p.now.flat }
     requires first { IsItemWithin (length p.now.run.now.instances) first }
     requires second { IsItemWithin (length p.now.run.now.instances) second }
-    ensures { IfOk result (λ line. IsVerdictLine p.now.grammar.now.core (default_view p.now.grammar.now.core) (events_of p.now.run.now) (option_map (named_port (names_in p.now.run.now.instances)) first.to) (option_map (named_port (names_in p.now.run.now.instances)) second.from) line.now) }
+    ensures { IfOk result (λ line. IsVerdictLine p.now.viewed.now.grammar.core p.now.viewed.now.view.core (events_of p.now.run.now) (option_map (named_port (names_in p.now.run.now.instances)) first.to) (option_map (named_port (names_in p.now.run.now.instances)) second.from) line.now) }
 {
     let Some(from) = first.to else {
         return Ok(b"no\n");
@@ -35,7 +34,7 @@ fn verdict(
     Ok(b"no\n")
 }
 
-/// The line that answers a query, whether the second item depends on the first: `unknown` where either name is that of no item, and else `yes` or `no`. No item is hidden, since the default view shows all.
+/// The line that answers a query, whether the second item depends on the first: `unknown` where either name is that of no item; `hidden` where either item is not visible under the view; and else `yes` or `no`.
 ///
 /// Cost: two items found by hashing, and one search in the links of the run. Fails only for want of memory.
 pub fn answer(
@@ -44,15 +43,21 @@ pub fn answer(
     first: &[u8],
     second: &[u8],
 ) -> Result<&'static [u8], AllocError>
-    requires { IsPrepared p.now.grammar.now.core p.now.run.now p.now.flat }
-    ensures { IfOk result (λ line. IsAnswerLine p.now.grammar.now.core (default_view p.now.grammar.now.core) (events_of p.now.run.now) first.now second.now line.now) }
+    requires { IsPrepared p.now.viewed.now.grammar.core p.now.viewed.now.view.core p.now.run.now p.now.flat }
+    ensures { IfOk result (λ line. IsAnswerLine p.now.viewed.now.grammar.core p.now.viewed.now.view.core (events_of p.now.run.now) first.now second.now line.now) }
 {
-    let Some(a) = find_item(p.grammar, p.run, first) else {
+    let Some(a) = find_item(&p.viewed.grammar, p.run, first) else {
         return Ok(b"unknown\n");
     };
-    let Some(b) = find_item(p.grammar, p.run, second) else {
+    let Some(b) = find_item(&p.viewed.grammar, p.run, second) else {
         return Ok(b"unknown\n");
     };
+    if !p.flat.shows(&a) {
+        return Ok(b"hidden\n");
+    }
+    if !p.flat.shows(&b) {
+        return Ok(b"hidden\n");
+    }
     let line = verdict(alloc, p, a, b)?;
     Ok(line)
 }

@@ -16,6 +16,7 @@ pub struct TraceWords<'w> {
 #[derive(Clone, Copy)]
 pub enum Command<'w> {
     Check { spec: &'w str },
+    View { spec: &'w str, view: &'w str },
     Trace { words: TraceWords<'w> },
 }
 
@@ -27,6 +28,13 @@ pub fn command_of<'w>(words: &'w [&'w str]) -> Option<Command<'w>>
         [command, spec] => {
             if *command == "check" {
                 Some(Command::Check { spec })
+            } else {
+                None
+            }
+        }
+        [command, spec, view] => {
+            if *command == "view" {
+                Some(Command::View { spec, view })
             } else {
                 None
             }

@@ -2,6 +2,7 @@
 ghost use Rattle.std.specs.Prelude.{◌≡◌, None, codes};
 ghost use Rattle.wf_top.specs.Endings.{end_of, Refused};
 ghost use Rattle.wf_top.specs.Outcome.{long_fault};
+ghost use Rattle.wf_top.specs.Refusals.{refusal_text};
 
 use crate::refusal::Refusal;
 
@@ -32,15 +33,22 @@ pub enum Ending {
     NoMemory,
 }
 
-/// The ending at a file of a form that is not built yet.
-pub fn not_built(place: Place) -> Ending
-    ensures { end_of result ≡ Refused place None (codes "NotBuilt") }
+/// The ending at a file that is refused, and no line of it is named.
+pub fn refused_whole(place: Place, refusal: Refusal) -> Ending
+    ensures { end_of result ≡ Refused place None (refusal_text refusal) }
 {
     Ending::Refused {
         place,
         line: None,
-        refusal: Refusal::NotBuilt,
+        refusal,
     }
+}
+
+/// The ending at a file of a form that is not built yet.
+pub fn not_built(place: Place) -> Ending
+    ensures { end_of result ≡ Refused place None (codes "NotBuilt") }
+{
+    refused_whole(place, Refusal::NotBuilt)
 }
 
 /// The ending at a file that is too long.
@@ -48,12 +56,8 @@ pub fn too_long(place: Place) -> Ending
     ensures { end_of result ≡ Refused place None (long_fault place) }
 {
     match place {
-        Place::Spec => Ending::Refused {
-            place,
-            line: None,
-            refusal: Refusal::TooLong,
-        },
-        Place::View => not_built(place),
+        Place::Spec => refused_whole(place, Refusal::TooLong),
+        Place::View => refused_whole(place, Refusal::TooLong),
         Place::Events => not_built(place),
         Place::Queries => not_built(place),
     }

@@ -1,11 +1,10 @@
 // EVENTS: from bytes to a finished run.
 ghost use Rattle.std.specs.Prelude.{◌≡◌, ◌++◌, ◌∷◌, [], Some, None, IfOk, IfErr, OnOk};
-ghost use Rattle.wf_model.specs.DefaultView.{default_view};
+ghost use Rattle.wf_top.specs.Viewed.{IsViewedBy};
 ghost use Rattle.wf_model.specs.Faults.{fault_of};
 ghost use Rattle.wf_io.specs.Lines.{lines_of};
 ghost use Rattle.wf_model.specs.declared.event.Event.{Event};
 ghost use Rattle.wf_flat.specs.Table.{IsRunOf, events_of};
-ghost use Rattle.wf_flat.specs.Graph.{Marks};
 ghost use Rattle.wf_top.specs.Endings.{end_of, Refused};
 ghost use Rattle.wf_top.specs.Refusals.{run_name};
 ghost use Rattle.wf_top.specs.Telling.{IsNotBuilt, OfWhole};
@@ -16,6 +15,7 @@ ghost use Rattle.wf_top.specs.declared.ending.Place.TheVariants.{Events};
 
 use crate::ending::{Ending, Place, not_built};
 use crate::refusal::Refusal;
+use crate::view::Viewed;
 use std::alloc::Global;
 use wf_events::{EventFault, read_event};
 use wf_flat::{PlainRun, is_finished};
@@ -93,24 +93,18 @@ fn take_lines(alloc: Global, g: &Grammar, bytes: &[u8]) -> Result<PlainRun, Endi
     }
 }
 
-/// The run that events tell, which is finished under the default view, whose modules are marked.
+/// The run that events tell, which is finished under a view.
 ///
 /// Refused at the first line that is too long or no event, which is not named; at the first whose event the run refuses, which is named by its number, with the fault; and at the end where the run is not finished. `NoMemory` may come at any line.
 ///
 /// Cost: linear in the bytes.
-pub fn run_of_bytes(
-    alloc: Global,
-    g: &Grammar,
-    marks: &[bool],
-    bytes: &[u8],
-) -> Result<PlainRun, Ending>
-    requires { Marks marks.now (default_view g.now.core) }
-    ensures run { IfOk result (λ r. IsRunOf g.now.core r) }
-    ensures ok { IfOk result (λ r. TellsRun g.now.core (default_view g.now.core) instance_most bytes.now (events_of r)) }
-    ensures declines { IfErr result (λ e. Declines Events (RefusesRun g.now.core (default_view g.now.core) instance_most bytes.now) (end_of e)) }
+pub fn run_of_bytes(alloc: Global, v: &Viewed, bytes: &[u8]) -> Result<PlainRun, Ending>
+    ensures run { IfOk result (λ r. IsRunOf v.now.grammar.core r) }
+    ensures ok { IfOk result (λ r. TellsRun v.now.grammar.core v.now.view.core instance_most bytes.now (events_of r)) }
+    ensures declines { IfErr result (λ e. Declines Events (RefusesRun v.now.grammar.core v.now.view.core instance_most bytes.now) (end_of e)) }
 {
-    let run = take_lines(alloc, g, bytes)?;
-    let Ok(finished) = is_finished(alloc, g, &run, marks) else {
+    let run = take_lines(alloc, &v.grammar, bytes)?;
+    let Ok(finished) = is_finished(alloc, &v.grammar, &run, v.view.marks()) else {
         return Err(Ending::NoMemory);
     };
     if !finished {

@@ -14,12 +14,14 @@ mod program;
 mod put;
 mod queries;
 mod refusal;
+mod show;
 mod spec;
 mod status;
 mod tell;
 mod told;
 mod trace;
 mod view;
+mod view_text;
 
 pub use law::one_outcome_law;
 pub use program::run;

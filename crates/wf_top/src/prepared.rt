@@ -1,11 +1,11 @@
 // What queries are answered from.
+use crate::view::Viewed;
 use wf_flat::{Flat, PlainRun};
-use wf_spec::Grammar;
 
-/// A grammar, a finished run of it and the links of the run under the default view.
+/// A grammar with a view, a finished run and the links of the run under the view.
 #[derive(Drop)]
 pub struct Prepared<'p> {
-    pub grammar: &'p Grammar,
+    pub viewed: &'p Viewed,
     pub run: &'p PlainRun,
     pub flat: Flat,
 }

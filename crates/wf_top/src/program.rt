@@ -11,6 +11,7 @@ ghost use Rattle.wf_top.specs.Stages.{IsCause, IsStop};
 use crate::check::check;
 use crate::command::{Command, command_of};
 use crate::ending::Ending;
+use crate::show::show;
 use crate::status::Status;
 use crate::tell::{status_of, tell};
 use crate::trace::trace;
@@ -19,9 +20,11 @@ use wf_io::{Shelf, Sink};
 
 /// Does what the words say over the files of a shelf: text goes to `out`, and a line on a refusal or a fault to `err`.
 ///
-/// `check SPEC` writes the canonical text of a grammar, and the rank and the choice of each composite module.
+/// `check SPEC` writes the canonical text of a grammar, and the rank, the choice and the cycle of each composite module.
 ///
-/// `trace SPEC VIEW EVENTS QUERIES` answers each query line by `yes`, `no` or `unknown`: whether the second item depends on the first, however the run is finished.
+/// `view SPEC VIEW` writes each module that is seen under a safe view, whether it is expanded, and the pairs of its ports that each of its expansions joins.
+///
+/// `trace SPEC VIEW EVENTS QUERIES` answers each query line by `yes`, `no`, `hidden` or `unknown`: whether the second item depends on the first, however the run is finished under the view.
 pub fn run<H: Shelf, O: Sink, E: Sink>(
     alloc: Global,
     words: &[&str],
@@ -73,6 +76,7 @@ fn obey<H: Shelf, O: Sink>(
 {
     match command {
         Command::Check { spec } => check(alloc, spec, shelf, out),
+        Command::View { spec, view } => show(alloc, spec, view, shelf, out),
         Command::Trace { words } => trace(alloc, words, shelf, out),
     }
 }

@@ -1,6 +1,5 @@
 // QUERIES: lines answered one by one.
 ghost use Rattle.std.specs.Prelude.{◌≡◌, ℕ, List, IfErr, OnOk};
-ghost use Rattle.wf_model.specs.DefaultView.{default_view};
 ghost use Rattle.wf_io.specs.Lines.{lines_of};
 ghost use Rattle.wf_flat.specs.Table.{events_of};
 ghost use Rattle.wf_top.specs.Outcome.{AreAnswered};
@@ -24,9 +23,9 @@ fn answer_line<O: Sink>(
     line: &[u8],
     out: &mut O,
 ) -> Result<(), Ending>
-    requires { IsPrepared p.now.grammar.now.core p.now.run.now p.now.flat }
-    ensures asked { OnOk result ((written : List ℕ) × IsAsked p.now.grammar.now.core (default_view p.now.grammar.now.core) (events_of p.now.run.now) line.now written × Appended written (O.put_bytes out.old) (O.put_bytes out.new)) }
-    ensures ends { IfErr result (λ d. EndsAt p.now.grammar.now.core (default_view p.now.grammar.now.core) (events_of p.now.run.now) line.now (end_of d) (O.put_bytes out.old) (O.put_bytes out.new)) }
+    requires { IsPrepared p.now.viewed.now.grammar.core p.now.viewed.now.view.core p.now.run.now p.now.flat }
+    ensures asked { OnOk result ((written : List ℕ) × IsAsked p.now.viewed.now.grammar.core p.now.viewed.now.view.core (events_of p.now.run.now) line.now written × Appended written (O.put_bytes out.old) (O.put_bytes out.new)) }
+    ensures ends { IfErr result (λ d. EndsAt p.now.viewed.now.grammar.core p.now.viewed.now.view.core (events_of p.now.run.now) line.now (end_of d) (O.put_bytes out.old) (O.put_bytes out.new)) }
     ensures count { OnOk result (O.faults out.new ≡ O.faults out.old) }
     ensures cause { IfErr result (λ d. IsWritingCause (O.faults out.old) (O.faults out.new) (O.at_last out.new) (end_of d)) }
 {
@@ -49,8 +48,8 @@ pub fn answer_lines<O: Sink>(
     bytes: &[u8],
     out: &mut O,
 ) -> Result<(), Ending>
-    requires { IsPrepared p.now.grammar.now.core p.now.run.now p.now.flat }
-    ensures ends { EndsBy (AreAnswered p.now.grammar.now.core (default_view p.now.grammar.now.core) (events_of p.now.run.now) (lines_of bytes.now)) (end_after result) (O.put_bytes out.old) (O.put_bytes out.new) }
+    requires { IsPrepared p.now.viewed.now.grammar.core p.now.viewed.now.view.core p.now.run.now p.now.flat }
+    ensures ends { EndsBy (AreAnswered p.now.viewed.now.grammar.core p.now.viewed.now.view.core (events_of p.now.run.now) (lines_of bytes.now)) (end_after result) (O.put_bytes out.old) (O.put_bytes out.new) }
     ensures cause { IfErr result (λ e. IsWritingCause (O.faults out.old) (O.faults out.new) (O.at_last out.new) (end_of e)) }
 {
     let mut lines = WholeLines::open(bytes);

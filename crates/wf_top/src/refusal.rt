@@ -2,7 +2,9 @@
 use wf_check::CheckFault;
 use wf_json::Member;
 use wf_recur::RecurFault;
+use wf_safe::Witness;
 use wf_spec::{FormFault, Grammar, RunFault};
+use wf_view::ViewFault;
 
 /// Why a file is refused. Want of memory is none of these: it is an ending of its own.
 #[derive(Drop)]
@@ -19,6 +21,10 @@ pub enum Refusal {
     Check { grammar: Grammar, fault: CheckFault },
     /// The grammar is proper, and not strictly linear. It is kept for the names of its modules and positions.
     Recur { grammar: Grammar, fault: RecurFault },
+    /// The parts of a view describe no view of the grammar.
+    View { fault: ViewFault },
+    /// The view is not safe. The grammar is kept for the names of its modules and ports.
+    Unsafe { grammar: Grammar, witness: Witness },
     /// A run refuses the event of a line.
     Run { fault: RunFault },
     /// The file has a form that is not built yet.

@@ -1,83 +1,126 @@
-// VIEW: the default view, and what it marks and shows.
-ghost use Rattle.std.specs.Prelude.{◌≡◌, ◌⊎◌, ◌↔◌, ◌<◌, ◌+◌, ℕ, [], IsTrue, IfOk, OnOk, length, map, codes};
-ghost use Rattle.wf_model.specs.Lists.{IsIn};
-ghost use Rattle.wf_spec.specs.Held.{HeldProduction};
-ghost use Rattle.wf_model.specs.WellFormed.{IsWellFormed};
-ghost use Rattle.wf_model.specs.DefaultView.{default_view};
-ghost use Rattle.wf_flat.specs.Graph.{Agree, Marks, flag_of, IsMadeFor};
-ghost use Rattle.wf_top.specs.Outcome.{IsDefaultText};
-ghost use Rattle.wf_top.specs.Leaf.{ShowsBelow, ShowsGiven};
+// VIEW: from bytes to a safe view of a grammar.
+ghost use Rattle.std.specs.Prelude.{◌≡◌, ◌≤◌, ℕ, List, Some, None, IfOk, IfErr, OnOk};
+ghost use Rattle.wf_model.specs.Safe.{IsSafe};
+ghost use Rattle.wf_io.specs.Told.{File};
+ghost use Rattle.wf_check.specs.Proper.{IsRankingOf};
+ghost use Rattle.wf_view.specs.Viewing.{view_of};
+ghost use Rattle.wf_view.specs.Rules.{IsViewed};
+ghost use Rattle.wf_view.specs.Held.{IsHeldFor};
+ghost use Rattle.wf_top.specs.declared.ending.Place.TheVariants.{View as AtView};
+ghost use Rattle.wf_top.specs.Endings.{end_of};
+ghost use Rattle.wf_top.specs.ViewTold.{IsViewText, TellsView, RefusesView, RefusesViewParts, RefusesUnsafe};
+ghost use Rattle.wf_top.specs.Viewed.{IsViewedBy};
+ghost use Rattle.wf_top.specs.Telling.{OfWhole};
+ghost use Rattle.wf_top.specs.Outcome.{short_most};
+ghost use Rattle.wf_top.specs.Stages.{Declines, IsTold, StopsAt, IsReadingCause};
 
-use std::alloc::{AllocError, Global};
-use wf_spec::{Deps, Grammar, ModNo, Production};
+use crate::ending::{Ending, Place, refused_whole};
+use crate::file::{SHORT, read_file};
+use crate::refusal::Refusal;
+use crate::spec::Spec;
+use std::alloc::Global;
+use wf_io::Shelf;
+use wf_json::{JsonFault, read_view};
+use wf_safe::{FullDeps, SafeFault, full_deps};
+use wf_spec::{Grammar, ViewParts};
+use wf_view::{View, ViewFault};
 
-/// Whether the bytes are those of the default view.
-pub fn is_default_text(bytes: &[u8]) -> bool
-    ensures { IsTrue result ↔ IsDefaultText bytes.now }
-{
-    bytes == b"{}".as_slice() || bytes == b"{}\n".as_slice()
+/// A grammar with a safe view of it, and the pairs that every expansion of a seen module joins.
+#[derive(Drop)]
+pub struct Viewed {
+    pub grammar: Grammar,
+    pub view: View,
+    pub full: FullDeps,
 }
 
-/// Marks the heads of productions.
-fn mark_heads(marks: &mut Vec<bool>, productions: &[Production])
-    requires within { (r : HeldProduction) → IsIn r productions.now → r.core.head < length marks.old.items }
-    requires unmarked { Agree marks.old.items [] }
-    ensures { Agree marks.new.items (map (λ r. r.core.head) productions.now) }
+/// The parts of a view in JSON.
+fn parts_of_bytes(alloc: Global, bytes: &[u8]) -> Result<ViewParts, Ending>
+    ensures ok { IfOk result (λ p. IsViewText bytes.now p) }
+    ensures declines { IfErr result (λ e. (g : _) → Declines AtView (OfWhole (RefusesView g) bytes.now) (end_of e)) }
 {
-    for rule in productions {
-        marks[rule.head().0 as usize] = true;
+    match read_view(alloc, bytes) {
+        Ok(parts) => Ok(parts),
+        Err(JsonFault::NotJson) => Err(refused_whole(Place::View, Refusal::NotJson)),
+        Err(JsonFault::WrongShape { member }) => Err(refused_whole(
+            Place::View,
+            Refusal::WrongShape { member },
+        )),
+        Err(JsonFault::NoMemory) => Err(Ending::NoMemory),
     }
 }
 
-/// Marks the composite modules of a grammar, which are those that the default view expands.
+/// The view of a grammar that parts describe.
+fn view_of_parts(alloc: Global, g: &Grammar, parts: &ViewParts) -> Result<View, Ending>
+    ensures ok { IfOk result (λ v. (v.core ≡ view_of g.now.core parts.now) × IsViewed g.now.core parts.now) }
+    ensures held { IfOk result (λ v. IsHeldFor g.now.core v) }
+    ensures declines { IfErr result (λ e. Declines AtView (OfWhole (RefusesViewParts g.now.core) parts.now) (end_of e)) }
+{
+    match View::build(alloc, g, parts) {
+        Ok(view) => Ok(view),
+        Err(ViewFault::NoMemory) => Err(Ending::NoMemory),
+        Err(fault) => Err(refused_whole(Place::View, Refusal::View { fault })),
+    }
+}
+
+/// A view that is safe, with its full assignment.
+fn viewed(alloc: Global, spec: Spec, view: View) -> Result<Viewed, Ending>
+    requires ranking { IsRankingOf spec.grammar.core spec.ranking }
+    requires held { IsHeldFor spec.grammar.core view }
+    ensures grammar { IfOk result (λ v. (v.grammar ≡ spec.grammar) × (v.view ≡ view)) }
+    ensures viewed { IfOk result (λ v. IsViewedBy v.grammar.core v.view v.full) }
+    ensures declines { IfErr result (λ e. Declines AtView (OfWhole (RefusesUnsafe spec.grammar.core) view.core) (end_of e)) }
+{
+    match full_deps(alloc, &spec.grammar, &spec.ranking, &view) {
+        Ok(full) => Ok(Viewed {
+            grammar: spec.grammar,
+            view,
+            full,
+        }),
+        Err(SafeFault::Unsafe { witness }) => Err(refused_whole(
+            Place::View,
+            Refusal::Unsafe {
+                grammar: spec.grammar,
+                witness,
+            },
+        )),
+        Err(SafeFault::NoMemory) => Err(Ending::NoMemory),
+    }
+}
+
+/// The safe view of a grammar that bytes tell, with its full assignment.
 ///
-/// Cost: linear in the modules and productions. Fails only for want of memory.
-pub fn composite_marks(alloc: Global, g: &Grammar) -> Result<Vec<bool>, AllocError>
-    ensures { IfOk result (λ v. Marks v.items (default_view g.now.core)) }
-{
-    let mut marks = vec![in alloc; false; g.modules().len()]?;
-    mark_heads(&mut marks, g.productions());
-    Ok(marks)
-}
-
-/// Whether a module is marked.
-fn is_marked(marks: &[bool], m: ModNo) -> bool
-    ensures { result ≡ flag_of marks.now m.0 }
-{
-    let m = m.0 as usize;
-    m < marks.len() && marks[m]
-}
-
-/// Sets the rows of a module to its pairs by the grammar, unless it is marked.
-fn set_given(rows: &mut Deps, g: &Grammar, marks: &[bool], m: ModNo) -> Result<(), AllocError>
-    requires marks { Marks marks.now (default_view g.now.core) }
-    requires in_range { m.0 < length g.now.core.modules }
-    requires made_for { IsMadeFor g.now.core rows.old }
-    ensures made_for { OnOk result (IsMadeFor g.now.core rows.new) }
-    ensures shows { OnOk result (ShowsBelow g.now.core m.0 rows.old → ShowsBelow g.now.core (m.0 + 1) rows.new) }
-{
-    if is_marked(marks, m) {
-        return Ok(());
-    }
-    rows.set(m, g.rows(m))?;
-    Ok(())
-}
-
-/// Rows for the atomic modules: their pairs by the grammar. The other modules, which are marked, get none.
+/// Refused with the first that there is of: NotJson; WrongShape; the fault of the parts; and Unsafe where the view is not safe. `NoMemory` may come at any time.
 ///
-/// Cost: linear in the modules and their inputs. Fails only for want of memory.
-pub fn given_rows(alloc: Global, g: &Grammar, marks: &[bool]) -> Result<Deps, AllocError>
-    requires { Marks marks.now (default_view g.now.core) }
-    ensures formed { IsWellFormed g.now.core }
-    ensures made_for { IfOk result (λ d. IsMadeFor g.now.core d) }
-    ensures shows { IfOk result (λ d. ShowsGiven g.now.core d) }
+/// Cost: those of `read_view`, `View::build` and `full_deps`.
+fn view_of_bytes(alloc: Global, spec: Spec, bytes: &[u8]) -> Result<Viewed, Ending>
+    requires ranking { IsRankingOf spec.grammar.core spec.ranking }
+    ensures grammar { IfOk result (λ v. v.grammar ≡ spec.grammar) }
+    ensures viewed { IfOk result (λ v. IsViewedBy v.grammar.core v.view v.full) }
+    ensures ok { IfOk result (λ v. TellsView spec.grammar.core bytes.now v.view.core) }
+    ensures declines { IfErr result (λ e. Declines AtView (OfWhole (RefusesView spec.grammar.core) bytes.now) (end_of e)) }
 {
-    let modules = g.modules().len();
-    prove!(modules <= 1024);
-    let count = modules as u16;
-    let mut rows = Deps::new(alloc, count)?;
-    for k in 0..count {
-        set_given(&mut rows, g, marks, ModNo(k))?;
-    }
-    Ok(rows)
+    let parts = parts_of_bytes(alloc, bytes)?;
+    let view = view_of_parts(alloc, &spec.grammar, &parts)?;
+    viewed(alloc, spec, view)
+}
+
+/// The safe view of VIEW, of the grammar of SPEC.
+pub fn view_stage<H: Shelf>(
+    alloc: Global,
+    shelf: &mut H,
+    name: &str,
+    spec: Spec,
+) -> Result<Viewed, Ending>
+    requires ranking { IsRankingOf spec.grammar.core spec.ranking }
+    ensures grammar { IfOk result (λ v. v.grammar ≡ spec.grammar) }
+    ensures viewed { IfOk result (λ v. IsViewedBy v.grammar.core v.view v.full) }
+    ensures ok { IfOk result (λ v. (f : List ℕ → File) → H.files shelf.old ≡ Some f → IsTold short_most (f name.now) (TellsView spec.grammar.core) v.view.core) }
+    ensures stops { IfErr result (λ e. (f : List ℕ → File) → H.files shelf.old ≡ Some f → StopsAt short_most AtView (f name.now) (OfWhole (RefusesView spec.grammar.core)) (end_of e)) }
+    ensures cause { IfErr result (λ e. IsReadingCause (H.faults shelf.old) (H.faults shelf.new) (H.at_last shelf.new) (end_of e)) }
+    ensures count { OnOk result (H.faults shelf.new ≡ H.faults shelf.old) }
+    ensures same { H.files shelf.new ≡ H.files shelf.old }
+    ensures later { H.faults shelf.old ≤ H.faults shelf.new }
+{
+    let bytes = read_file(alloc, shelf, name, SHORT, Place::View)?;
+    view_of_bytes(alloc, spec, &bytes)
 }
