@@ -47,3 +47,7 @@ member_form key form d = option_and_then form (get key d)
 -- a member that is a list; one that is not there is an empty list
 abbrev pub list_member : {A : Type 0} → List ℕ → (Data → Option A) → Data → Option (List A)
 list_member key form d = unwrap_or (option_map (list_form form) (get key d)) (Some [])
+
+-- a member that has the form, if it is there; one that is not there is none
+abbrev pub optional_member : {A : Type 0} → List ℕ → (Data → Option A) → Data → Option (Option A)
+optional_member key form d = unwrap_or (option_map (λ v. option_map (λ x. Some x) (form v)) (get key d)) (Some None)

@@ -2,4 +2,6 @@ pub mod Canonical
 pub mod Writing
 pub mod Reading
 pub mod Forms
+pub mod Telling
 pub mod SpecForm
+pub mod ViewForm

@@ -1,7 +1,7 @@
 -- The form of a specification.
-use Rattle.std.specs.Prelude.{◌≡◌, ℕ, List, Option, Some, None, option_map, option_and_then, codes}
+use Rattle.std.specs.Prelude.{ℕ, List, Option, option_map, option_and_then, codes}
 use Rattle.std.specs.declared.result.Result.{Result}
-use Rattle.std.specs.declared.result.Result.TheVariants.{Ok, Err}
+use Rattle.std.specs.declared.result.Result.TheVariants.{Ok}
 use Rattle.serde_json.specs.Data.{Data}
 use Rattle.serde_json.specs.Find.{as_object}
 use Rattle.wf_model.specs.declared.parts.Parts.{Parts}
@@ -14,11 +14,10 @@ use Rattle.wf_model.specs.declared.parts.ExitPart.{ExitPart}
 use Rattle.wf_model.specs.declared.parts.DepsPart.{DepsPart}
 use Rattle.wf_model.specs.declared.parts.PairPart.{PairPart}
 use Rattle.wf_json.specs.declared.fault.JsonFault.{JsonFault}
-use Rattle.wf_json.specs.declared.fault.JsonFault.TheVariants.{NotJson, WrongShape, NoMemory}
 use Rattle.wf_json.specs.declared.fault.Member.{Member}
 use Rattle.wf_json.specs.declared.fault.Member.TheVariants.{Top, Start, Modules, Productions, DepsList}
-use Rattle.wf_json.specs.Reading.{IsReading, HasNoReading}
 use Rattle.wf_json.specs.Forms.{text_form, list_form, pair_form, port_form, member_form, list_member}
+use Rattle.wf_json.specs.Telling.{require, IsRefusalBy, IsSaidBy}
 
 -- an object with `name`, `in` and `out`
 abbrev pub module_form : Data → Option ModulePart
@@ -65,11 +64,6 @@ deps_form d =
     (member_form (codes "pairs") (list_form ports_form) d))
     (member_form (codes "module") text_form d)
 
--- a member that has not its form is told, and else what it says is used
-abbrev pub require : {A B : Type 0} → Member → Option A → (A → Result B Member) → Result B Member
-require m None next = Err m
-require m (Some x) next = next x
-
 -- the specification that a value is, or the first member that has not its form
 abbrev pub spec_of : Data → Result Parts Member
 spec_of d =
@@ -82,13 +76,8 @@ spec_of d =
 
 -- what a refusal of a specification says of its bytes
 abbrev pub IsRefusal : List ℕ → JsonFault → Type 0
-IsRefusal bytes NotJson = HasNoReading bytes
-IsRefusal bytes (WrongShape m) = (d : Data) × IsReading bytes d × (spec_of d ≡ Err m)
-IsRefusal bytes NoMemory = Unit {0}
+IsRefusal bytes f = IsRefusalBy spec_of bytes f
 
--- a result says what the value is; want of memory says nothing
+-- a result says what specification the value is; want of memory says nothing
 abbrev pub IsToldBy : Data → Result Parts JsonFault → Type 0
-IsToldBy d (Ok p) = spec_of d ≡ Ok p
-IsToldBy d (Err NotJson) = ⊥
-IsToldBy d (Err (WrongShape m)) = spec_of d ≡ Err m
-IsToldBy d (Err NoMemory) = Unit {0}
+IsToldBy d r = IsSaidBy spec_of d r

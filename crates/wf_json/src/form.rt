@@ -2,7 +2,7 @@
 ghost use Rattle.std.specs.Prelude.{◌≡◌, Option, IfOk};
 ghost use Rattle.serde_json.specs.Data.{Data};
 ghost use Rattle.serde_json.specs.View.{view, items_view};
-ghost use Rattle.wf_json.specs.Forms.{text_form, items_form, list_form, two_items, pair_form, member_form, list_member};
+ghost use Rattle.wf_json.specs.Forms.{text_form, items_form, list_form, two_items, pair_form, member_form, list_member, optional_member};
 
 use serde_json::Value;
 use std::alloc::{AllocError, Global};
@@ -123,4 +123,21 @@ pub fn member_list<T: FromJson + Drop>(
         Some(one) => <Seq<T>>::from_json(alloc, one),
         None => Ok(Some(Seq::from_vec(Vec::new(alloc)))),
     }
+}
+
+/// Reads the member of this key, if it is there; None where it has not the form, and an error where memory was refused.
+pub fn optional<T: FromJson + Drop>(
+    alloc: Global,
+    value: &Value,
+    key: &str,
+) -> Result<Option<Option<T>>, AllocError>
+    ensures { IfOk result (λ o. o ≡ optional_member key.now T.form (view value.now)) }
+{
+    let Some(one) = value.get(key) else {
+        return Ok(Some(None));
+    };
+    let Some(found) = T::from_json(alloc, one)? else {
+        return Ok(None);
+    };
+    Ok(Some(Some(found)))
 }

@@ -1,4 +1,4 @@
-//! Specifications in JSON: reading them, and the canonical text of a grammar with its digest.
+//! Specifications and views in JSON: reading them, and the canonical text of a grammar with its digest.
 #![tactic(auto)]
 
 mod fault;
@@ -7,6 +7,7 @@ mod hashing;
 mod parts;
 mod reading;
 mod spec;
+mod view;
 mod writing;
 
 pub use fault::{JsonFault, Member};
@@ -14,6 +15,7 @@ pub use form::{FromJson, member, member_list, pair};
 pub use hashing::digest;
 pub use reading::{TextFault, read_value};
 pub use spec::read_spec;
+pub use view::read_view;
 pub use writing::canonical;
 
 #[cfg(test)]

@@ -1,7 +1,7 @@
-// Texts that are specifications, texts that are not, and canonical texts.
+// Texts that are specifications, texts that are views, texts that are neither, and canonical texts.
 use super::*;
 use std::test::Fail;
-use wf_model::{EdgePart, EntryPart, ExitPart, Parts, ProdPart};
+use wf_model::{EdgePart, EntryPart, ExitPart, Parts, ProdPart, ViewParts};
 use wf_spec::Grammar;
 
 const LINE: &[u8] =
@@ -201,6 +201,145 @@ fn other_bytes_are_no_json(rt: HostRuntime) -> Result<(), Fail> {
         b"{\"start\":\"S\",\"modules\":[],\"a\":1e999}",
     ] {
         assert!(rt; matches!(read_spec(rt.alloc(), text), Err(JsonFault::NotJson)));
+    }
+    for text in [
+        b"".as_slice(),
+        b"{",
+        b"{} {}",
+        b"{\"expand\":null} x",
+        b"{\"expand\":[\"S\",]}",
+        b"{\"expand\":[\"\xff\"]}",
+        b"{\"deps\":[],}",
+        b"{expand:[]}",
+        b"{\"expand\":1e999}",
+    ] {
+        assert!(rt; matches!(read_view(rt.alloc(), text), Err(JsonFault::NotJson)));
+    }
+    Ok(())
+}
+
+#[test]
+fn views_are_read(rt: HostRuntime) -> Result<(), Fail> {
+    for (text, expanded, deps) in [
+        (b"{}".as_slice(), None, 0),
+        (b" {\"expand\":[]}\n", Some(0), 0),
+        (b"{\"expand\":[\"\",\"S.a\",\"S.a\"]}", Some(3), 0),
+        (b"{\"deps\":[]}", None, 0),
+        (b"{\"deps\":[{\"module\":\"P\",\"pairs\":[]}]}", None, 1),
+        (
+            b"{\"deps\":[{\"module\":\"P\",\"pairs\":[[\"a\",\"b\"]]},{\"pairs\":[],\"module\":\"P\",\"color\":null}],\"expand\":[\"S\"]}",
+            Some(1),
+            2,
+        ),
+        (
+            b"{\"start\":null,\"Expand\":1,\"dep\":{},\"expand\":[]}",
+            Some(0),
+            0,
+        ),
+        (b"{\"expand\":3,\"expand\":[\"S\"]}", Some(1), 0),
+        (b"{\"expand\":[\"S\",\"T\"],\"expand\":[]}", Some(0), 0),
+        (b"{\"deps\":null,\"deps\":[]}", None, 0),
+        (
+            b"{\"deps\":[{\"module\":1,\"pairs\":null,\"module\":\"P\",\"pairs\":[]}]}",
+            None,
+            1,
+        ),
+    ] {
+        let parts = read_view(rt.alloc(), text)?;
+        assert_eq!(rt; count_expanded(&parts), expanded);
+        assert_eq!(rt; parts.deps.items().len(), deps);
+    }
+    Ok(())
+}
+
+fn count_expanded(parts: &ViewParts) -> Option<usize> {
+    match &parts.expand {
+        Some(names) => Some(names.items().len()),
+        None => None,
+    }
+}
+
+#[test]
+fn the_parts_of_a_view_are_read(rt: HostRuntime) -> Result<(), Fail> {
+    let text =
+        b"{\"expand\":[\"Main\",\"Refine\"],\"deps\":[{\"module\":\"Build\",\"pairs\":[[\"m\",\"t\"],[\"m\",\"n\"]]}]}";
+    let parts = read_view(rt.alloc(), text)?;
+    let Some(names) = &parts.expand else {
+        return Err(Fail::new("names"));
+    };
+    let [first, second] = names.items() else {
+        return Err(Fail::new("two names"));
+    };
+    assert_eq!(rt; first.bytes(), b"Main".as_slice());
+    assert_eq!(rt; second.bytes(), b"Refine".as_slice());
+    let [build] = parts.deps.items() else {
+        return Err(Fail::new("one part of dependencies"));
+    };
+    assert_eq!(rt; build.module.bytes(), b"Build".as_slice());
+    let [_, last] = build.pairs.items() else {
+        return Err(Fail::new("two pairs"));
+    };
+    assert_eq!(rt; last.input.bytes(), b"m".as_slice());
+    assert_eq!(rt; last.output.bytes(), b"n".as_slice());
+    Ok(())
+}
+
+#[test]
+fn the_first_wrong_member_of_a_view_is_told(rt: HostRuntime) -> Result<(), Fail> {
+    for (text, member) in [
+        (b"null".as_slice(), Member::Top),
+        (b"3", Member::Top),
+        (b"\"expand\"", Member::Top),
+        (b"[]", Member::Top),
+        (b"[{\"expand\":null}]", Member::Top),
+        (b"{\"expand\":null}", Member::Expand),
+        (b"{\"expand\":false}", Member::Expand),
+        (b"{\"expand\":\"S\"}", Member::Expand),
+        (b"{\"expand\":{}}", Member::Expand),
+        (b"{\"expand\":[null]}", Member::Expand),
+        (b"{\"expand\":[\"S\",1]}", Member::Expand),
+        (b"{\"expand\":[[\"S\"]]}", Member::Expand),
+        (b"{\"expand\":null,\"deps\":[]}", Member::Expand),
+        (b"{\"deps\":1,\"expand\":1}", Member::Expand),
+        (b"{\"deps\":null,\"expand\":null}", Member::Expand),
+        (b"{\"expand\":[],\"expand\":3,\"deps\":[]}", Member::Expand),
+        (b"{\"deps\":null}", Member::DepsList),
+        (b"{\"deps\":0,\"expand\":[]}", Member::DepsList),
+        (b"{\"expand\":[\"S\"],\"deps\":{}}", Member::DepsList),
+        (b"{\"deps\":[\"P\"]}", Member::DepsList),
+        (b"{\"deps\":[{}]}", Member::DepsList),
+        (b"{\"deps\":[{\"pairs\":[]}]}", Member::DepsList),
+        (b"{\"deps\":[{\"module\":\"P\"}]}", Member::DepsList),
+        (
+            b"{\"deps\":[{\"module\":null,\"pairs\":[]}]}",
+            Member::DepsList,
+        ),
+        (
+            b"{\"deps\":[{\"module\":\"P\",\"pairs\":null}]}",
+            Member::DepsList,
+        ),
+        (
+            b"{\"deps\":[{\"module\":\"P\",\"pairs\":[[\"a\"]]}]}",
+            Member::DepsList,
+        ),
+        (
+            b"{\"deps\":[{\"module\":\"P\",\"pairs\":[[\"a\",\"b\",\"c\"]]}]}",
+            Member::DepsList,
+        ),
+        (
+            b"{\"deps\":[{\"module\":\"P\",\"pairs\":[[\"a\",1]]}]}",
+            Member::DepsList,
+        ),
+        (
+            b"{\"deps\":[{\"module\":\"P\",\"pairs\":[]},null]}",
+            Member::DepsList,
+        ),
+        (b"{\"deps\":[],\"deps\":null}", Member::DepsList),
+    ] {
+        match read_view(rt.alloc(), text) {
+            Ok(_) => assert!(rt; false),
+            Err(fault) => assert_eq!(rt; fault, JsonFault::WrongShape { member }),
+        }
     }
     Ok(())
 }

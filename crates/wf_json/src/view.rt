@@ -1,0 +1,53 @@
+// Reading a view.
+ghost use Rattle.std.specs.Prelude.{◌≡◌, IfOk, IfErr};
+ghost use Rattle.serde_json.specs.Data.{Data};
+ghost use Rattle.serde_json.specs.View.{view};
+ghost use Rattle.wf_json.specs.Reading.{IsReading};
+ghost use Rattle.wf_json.specs.ViewForm.{view_of, IsRefusal, IsToldBy};
+
+use crate::fault::{JsonFault, Member};
+use crate::form::{member_list, optional};
+use crate::reading::{TextFault, read_value};
+use serde_json::Value;
+use std::alloc::Global;
+use wf_model::{DepsPart, Name, Seq, ViewParts};
+
+/// Reads a view from a JSON text.
+///
+/// Names may hold any bytes. Further members are ignored. Of a member that is given twice the last counts, and one that is null is there and has not its form. Without `expand` every composite module is expanded.
+///
+/// Errors: NotJson where the bytes are not UTF-8 or no JSON value of at most 127 levels; WrongShape with the first of top, `expand` and `deps` that has not its form; NoMemory where memory was refused.
+///
+/// Cost: one reading of the text by `serde_json`, and one pass over the value.
+pub fn read_view(alloc: Global, bytes: &[u8]) -> Result<ViewParts, JsonFault>
+    ensures ok { IfOk result (λ p. (d : Data) × IsReading bytes.now d × (view_of d ≡ Ok p)) }
+    ensures refused { IfErr result (λ f. IsRefusal bytes.now f) }
+{
+    match read_value(alloc, bytes) {
+        Ok(value) => view_in(alloc, &value),
+        Err(TextFault::NotJson) => Err(JsonFault::NotJson),
+        Err(TextFault::NoMemory) => Err(JsonFault::NoMemory),
+    }
+}
+
+/// Reads a view from a value.
+fn view_in(alloc: Global, value: &Value) -> Result<ViewParts, JsonFault>
+    ensures { IsToldBy (view value.now) result }
+{
+    if !value.is_object() {
+        return Err(JsonFault::WrongShape {
+            member: Member::Top,
+        });
+    }
+    let Some(expand) = optional::<Seq<Name>>(alloc, value, "expand")? else {
+        return Err(JsonFault::WrongShape {
+            member: Member::Expand,
+        });
+    };
+    let Some(deps) = member_list::<DepsPart>(alloc, value, "deps")? else {
+        return Err(JsonFault::WrongShape {
+            member: Member::DepsList,
+        });
+    };
+    Ok(ViewParts { expand, deps })
+}
