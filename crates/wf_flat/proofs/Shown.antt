@@ -8,7 +8,7 @@ use Rattle.wf_model.specs.Run.{Instance, opens, seen_in}
 use Rattle.wf_model.specs.Items.{IsMadeOpen, IsVisible}
 use Rattle.wf_flat.specs.declared.item.Item.{Item as ItemHeld}
 use Rattle.wf_flat.specs.Table.{Table, IsRunOf, names_in, events_of, no_instance}
-use Rattle.wf_flat.specs.Graph.{flag_of, Marks, MarkOpen, inst_at}
+use Rattle.wf_flat.specs.Graph.{Marks, MarkOpen, inst_at}
 use Rattle.wf_flat.specs.Item.{named_item, IsItemWithin}
 use Rattle.wf_flat.specs.Flat.{is_shown}
 use Rattle.wf_flat.proofs.SeenNumbers.{opens_number, name_at}

@@ -1,4 +1,4 @@
-use Rattle.std.proofs.Common.{sym, subst}
+use Rattle.std.proofs.Common.{subst}
 use Rattle.wf_model.specs.Lists.{IsIn}
 use Rattle.wf_flat.specs.Graph.{MarkOpen}
 use Rattle.wf_flat.proofs.Shown.{open_told}
