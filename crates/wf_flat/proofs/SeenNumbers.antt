@@ -19,26 +19,34 @@ some-append : {A : Type 0} (p : A → Bool) (xs ys : List A) → some p (xs ++ y
 some-append p [] ys = refl
 some-append p (x ∷ xs) ys = grind (arith, some-append p xs ys)
 
--- one number more is marked
-pub agree_more : (flags : List Bool) (seen : List ℕ) (c : ℕ) → c < length flags → Agree flags seen → Agree (set flags c true) (seen ++ c ∷ [])
-agree_more flags seen c h a j = go (c == j) refl
+-- one number more has its flag, where those of the list have theirs and all others have none
+pub flag_more : (w : ℕ → Bool) (flags : List Bool) (seen : List ℕ) (c : ℕ) → c < length flags → ((j : ℕ) → flag_of flags j ≡ some (λ z. z == j) seen && w j) → (j : ℕ) → flag_of (set flags c (w c)) j ≡ some (λ z. z == j) (seen ++ c ∷ []) && w j
+flag_more w flags seen c h a j = go (c == j) refl
   where
-    go : (b : Bool) → c == j ≡ b → flag_of (set flags c true) j ≡ some (λ z. z == j) (seen ++ c ∷ [])
+    go : (b : Bool) → c == j ≡ b → flag_of (set flags c (w c)) j ≡ some (λ z. z == j) (seen ++ c ∷ []) && w j
     go true e =
         let d : c ≡ j = grind (arith, nat_tests) in
-        let f : flag_of (set flags c true) j ≡ true = subst (λ z. flag_of (set flags c true) z ≡ true) d (get_or-set_same flags c true false h) in
-        f ∙ sym (some-append (λ z. z == j) seen (c ∷ []) ∙ (ap (λ b. some (λ z. z == j) seen || (b || false)) e ∙ by (some (λ z. z == j) seen)))
+        let f : flag_of (set flags c (w c)) j ≡ w j = subst (λ z. flag_of (set flags c (w c)) z ≡ w z) d (get_or-set_same flags c (w c) false h) in
+        f ∙ sym (ap (λ b. b && w j) (some-append (λ z. z == j) seen (c ∷ []) ∙ ap (λ b. some (λ z. z == j) seen || (b || false)) e) ∙ by (some (λ z. z == j) seen) (w j))
       where
-        by : (b : Bool) → b || (true || false) ≡ true
-        by true = refl
-        by false = refl
+        by : (s b : Bool) → (s || (true || false)) && b ≡ b
+        by true b = refl
+        by false b = refl
     go false e =
         let d : j ≡ c → ⊥ = λ (q : j ≡ c). (let z : c == j ≡ true = grind (arith, nat_tests) in true≢false (sym z ∙ e)) in
-        get_or-set_other flags c j true false d ∙ (a j ∙ sym (some-append (λ z. z == j) seen (c ∷ []) ∙ (ap (λ b. some (λ z. z == j) seen || (b || false)) e ∙ by (some (λ z. z == j) seen))))
+        get_or-set_other flags c j (w c) false d ∙ (a j ∙ sym (ap (λ b. b && w j) (some-append (λ z. z == j) seen (c ∷ []) ∙ (ap (λ b. some (λ z. z == j) seen || (b || false)) e ∙ by (some (λ z. z == j) seen)))))
       where
         by : (b : Bool) → b || (false || false) ≡ b
         by true = refl
         by false = refl
+
+-- one number more is marked
+pub agree_more : (flags : List Bool) (seen : List ℕ) (c : ℕ) → c < length flags → Agree flags seen → Agree (set flags c true) (seen ++ c ∷ [])
+agree_more flags seen c h a j = flag_more (λ j. true) flags seen c h (λ k. a k ∙ sym (by (some (λ z. z == k) seen))) j ∙ by (some (λ z. z == j) (seen ++ c ∷ []))
+  where
+    by : (b : Bool) → b && true ≡ b
+    by true = refl
+    by false = refl
 
 -- a range of numbers, as a part of a list
 pub range_part : {A B : Type 0} (f : A → B) (xs : List A) (d : A) (a n : ℕ) → a + n ≤ length xs → map (λ k. f (get_or xs k d)) (numbers_from a n) ≡ take n (drop a (map f xs))
@@ -71,7 +79,8 @@ module _ (g : Grammar) (t : Table) (run : IsRunOf g t) where
       (subst (λ z. IsAt z c (names_in t.instances)) e (at_map (λ (x : Inst). x.name) (get_or t.instances c no_instance) c t.instances (is_at c t.instances no_instance h)))
       (at_map (λ (x : Inst). x.name) (get_or t.instances k no_instance) k t.instances (is_at k t.instances no_instance l))
 
-  opens_number : (u : View) (seen : List ℕ) (k : ℕ) → k < length t.instances → ((c : ℕ) → IsIn c seen → c < length t.instances) →
+  -- an instance is open where it is among those seen and the view expands its module
+  pub opens_number : (u : View) (seen : List ℕ) (k : ℕ) → k < length t.instances → ((c : ℕ) → IsIn c seen → c < length t.instances) →
       opens u (map (inst_at t.instances) seen) (get_or t.instances k no_instance).name ≡ some (λ c. c == k) seen && expands u (get_or t.instances k no_instance).module.0
   opens_number u [] k h l = refl
   opens_number u (c ∷ seen) k h l = go (opens_number u seen k h (λ z i. l z (inr i))) (c == k) refl
@@ -102,7 +111,7 @@ module _ (g : Grammar) (t : Table) (run : IsRunOf g t) where
           far false q = q
           far true q = let d : c ≡ k = same_number c k (l c (inl refl)) h (same_bytes (name c) (name k) q) in let z : c == k ≡ true = grind (arith, nat_tests) in absurd (true≢false (sym z ∙ e))
 
-  name_at : (k : ℕ) → k < length t.instances → get_or (names_in t.instances) k [] ≡ (get_or t.instances k no_instance).name
+  pub name_at : (k : ℕ) → k < length t.instances → get_or (names_in t.instances) k [] ≡ (get_or t.instances k no_instance).name
   name_at k h = get_or-map (λ (x : Inst). x.name) t.instances k no_instance [] h
 
   -- one expansion more

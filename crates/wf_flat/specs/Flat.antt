@@ -1,5 +1,5 @@
--- The flat graph of a run: its links, and paths between its ports.
-use Rattle.std.specs.Prelude.{◌≡◌, ◌<◌, ◌≤◌, ◌^◌, ◌++◌, ◌∷◌, [], ◌↔◌, Bool, IsTrue, ℕ, List, Vec, map, length}
+-- The flat graph of a run: its links, paths between its ports, and the items that are shown.
+use Rattle.std.specs.Prelude.{◌≡◌, ◌<◌, ◌≤◌, ◌^◌, ◌++◌, ◌∷◌, [], ◌↔◌, Bool, true, false, IsTrue, ℕ, List, Vec, map, length, get_or, Option, Some, None}
 use Rattle.std.specs.declared.alloc.Global.{Global}
 use Rattle.wf_model.specs.Lists.{IsIn, IsAt, AllDiffer}
 use Rattle.wf_model.specs.Links.{Port, Link, Path}
@@ -7,9 +7,15 @@ use Rattle.wf_graph.specs.Graph.{HasEdge}
 use Rattle.wf_flat.specs.declared.graph.Port.{Port as PortHeld}
 use Rattle.wf_flat.specs.declared.graph.Link.{Link as LinkHeld}
 
--- what contracts see of a flat graph: its links, in order
+-- what contracts see of a flat graph: its links, in order, and for each instance whether it is seen and of an expanded module
 pub record FlatSeen : Type 0 where
   pub links : List LinkHeld
+  pub opens : List Bool
+
+-- what no instance made is shown, and what an instance made is shown where the flag of that instance is set
+abbrev pub is_shown : List Bool → Option ℕ → Bool
+is_shown opens None = true
+is_shown opens (Some k) = get_or opens k false
 
 -- a port of an instance that is known by its number
 abbrev pub numbered : PortHeld → Port ℕ

@@ -84,6 +84,10 @@ pub record IsMadeFor (g : Grammar) (leaf : List (Option (List ℕ))) : Type 0 wh
 abbrev pub Agree : List Bool → List ℕ → Type 0
 Agree flags seen = (j : ℕ) → flag_of flags j ≡ some (λ c. c == j) seen
 
+-- flags mark those numbers of a list whose instances are of marked modules
+abbrev pub MarkOpen : List Bool → List Bool → List Inst → List ℕ → Type 0
+MarkOpen flags marks xs seen = (j : ℕ) → flag_of flags j ≡ some (λ c. c == j) seen && flag_of marks (get_or xs j no_instance).module.0
+
 -- the instance of a number, by its name and module
 abbrev pub inst_at : List Inst → ℕ → Instance
 inst_at xs k = instance_of (get_or xs k no_instance)

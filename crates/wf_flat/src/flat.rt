@@ -1,15 +1,19 @@
 // The flat graph of a run.
-ghost use Rattle.std.specs.Prelude.{◌≡◌, ◌<◌, ◌≤◌, ◌^◌, ◌↔◌, ◌⊎◌, List, [], ℕ, length, IfOk, OnOk, IsTrue};
+ghost use Rattle.std.specs.Prelude.{◌≡◌, ◌<◌, ◌≤◌, ◌^◌, ◌↔◌, ◌⊎◌, List, [], ℕ, false, length, get_or, IfOk, OnOk, IsTrue};
 ghost use Rattle.wf_model.specs.Lists.{IsAt, AllDiffer};
 ghost use Rattle.wf_model.specs.View.{View};
+ghost use Rattle.wf_model.specs.Run.{opens, seen_in};
 ghost use Rattle.wf_model.specs.Links.{Path, links_with};
 ghost use Rattle.wf_model.specs.Meaning.{pairs_of};
 ghost use Rattle.wf_flat.specs.Table.{IsRunOf, events_of, names_in};
 ghost use Rattle.wf_flat.specs.Graph.{named_links, named_port, Marks, IsMadeFor};
 ghost use Rattle.wf_graph.specs.Graph.{HasEdge, InRange};
-ghost use Rattle.wf_flat.specs.Flat.{AreWithin, numbered, numbered_links, IsIndex, KeepsIndex, KeepsPlaces, AddsLink, TellsPath};
+ghost use Rattle.wf_flat.specs.Flat.{AreWithin, numbered, numbered_links, IsIndex, KeepsIndex, KeepsPlaces, AddsLink, TellsPath, is_shown};
 
 use crate::graph::{Link, Port, links};
+use crate::item::Item;
+use crate::open::opens;
+use crate::seen::{is_set, seen};
 use crate::table::PlainRun;
 use indexmap::IndexSet;
 use std::alloc::{AllocError, Global};
@@ -111,10 +115,11 @@ fn is_joined(
     Ok(is_reached)
 }
 
-/// The links of a run, with an index by which paths are searched.
+/// The links of a run, with an index by which paths are searched, and a flag for each instance: whether it is seen and of a marked module.
 #[derive(Drop)]
 pub struct Flat {
     links: Vec<Link>,
+    opens: Vec<bool>,
     ports: IndexSet<Port>,
     graph: Vec<Vec<u32>>,
 }
@@ -124,7 +129,7 @@ impl Model for Flat {
 
     ghost Value = { FlatSeen };
 
-    ghost view = { λ f. record { links = f.links.items } };
+    ghost view = { λ f. record { links = f.links.items; opens = f.opens.items } };
 
     ghost invariant = { λ f. IsIndex f.links.items f.ports.keys f.graph.items };
 }
@@ -144,13 +149,18 @@ impl Flat {
         requires made_for { IsMadeFor g.now.core leaf.now }
         ensures links { IfOk result (λ f. (u : View) → Marks expanded.now u → named_links (names_in run.now.instances) f.links ≡ links_with g.now.core u (pairs_of leaf.now) g.now.core.start (events_of run.now)) }
         ensures within { IfOk result (λ f. AreWithin (length run.now.instances) f.links) }
+        ensures opens { IfOk result (λ f. (u : View) → Marks expanded.now u → (k : ℕ) → k < length run.now.instances →
+            get_or f.opens k false ≡ opens u (seen_in g.now.core u g.now.core.start (events_of run.now)) (get_or (names_in run.now.instances) k [])) }
     {
-        let links = links(alloc, g, run, expanded, leaf)?;
+        let all = seen(alloc, g, run, expanded)?;
+        let links = links(alloc, g, run, &all, expanded, leaf)?;
+        let opens = opens(alloc, run, &all, expanded)?;
         let mut ports = IndexSet::new(alloc);
         let mut graph = Vec::new(alloc);
         add_links(alloc, &mut ports, &mut graph, &links)?;
         Ok(Flat {
             links,
+            opens,
             ports,
             graph,
         })
@@ -161,6 +171,18 @@ impl Flat {
         ensures { result.now ≡ self.now.links }
     {
         self.links.as_slice()
+    }
+
+    /// Whether an item of the run is visible: a port of the root, or made by an open instance.
+    ///
+    /// Cost: one flag is looked at. Takes no memory.
+    pub fn shows(&self, item: &Item) -> bool
+        ensures { result ≡ is_shown self.now.opens item.now.maker }
+    {
+        let Some(k) = item.maker else {
+            return true;
+        };
+        is_set(&self.opens, k as usize)
     }
 
     /// Whether a path of links leads from a port to a port. A path may be one port, so each port is joined to itself.

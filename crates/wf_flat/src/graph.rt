@@ -1,14 +1,15 @@
 // The links of a run.
-ghost use Rattle.std.specs.Prelude.{◌≡◌, ◌<◌, ◌≤◌, ◌+◌, ◌^◌, ◌==◌, ◌++◌, ◌∷◌, [], List, ℕ, length, take, drop, map, get_or, IfOk, OnOk, cond};
+ghost use Rattle.std.specs.Prelude.{◌≡◌, ◌<◌, ◌≤◌, ◌+◌, ◌^◌, ◌==◌, ◌++◌, ◌∷◌, [], List, ℕ, length, take, drop, map, flat_map, get_or, IfOk, OnOk, cond};
 ghost use Rattle.std.specs.Int.{bit_at};
+ghost use Rattle.wf_model.specs.Lists.{IsIn};
 ghost use Rattle.wf_model.specs.View.{View};
-ghost use Rattle.wf_model.specs.Links.{pair_links, links_of, links_with, move_link, instance_at};
+ghost use Rattle.wf_model.specs.Links.{pair_links, links_of, move_link, instance_at};
 ghost use Rattle.wf_model.specs.Meaning.{pairs_of};
 ghost use Rattle.wf_flat.specs.Table.{IsRunOf, events_of, names_in};
 ghost use Rattle.wf_flat.specs.Graph.{named_links, Marks, row_links, matrix_links, edge_at, entries_at, exits_at, AreBelow, wiring_of, IsMadeFor, inst_at};
 ghost use Rattle.wf_flat.specs.Flat.{AreWithin};
 
-use crate::seen::{is_marked, seen};
+use crate::seen::is_marked;
 use crate::table::PlainRun;
 use std::alloc::{AllocError, Global};
 use wf_spec::{Deps, Edge, Grammar, Inner, ModNo, PortNo, Production, Side};
@@ -228,22 +229,24 @@ fn add_instance(
     Ok(())
 }
 
-/// The links of a run, in order.
+/// The links of the instances that are seen, in order, where their numbers are given.
 pub fn links(
     alloc: Global,
     g: &Grammar,
     run: &PlainRun,
+    seen: &[u32],
     expanded: &[bool],
     leaf: &Deps,
 ) -> Result<Vec<Link>, AllocError>
     requires run { IsRunOf g.now.core run.now }
     requires made_for { IsMadeFor g.now.core leaf.now }
+    requires there { (k : ℕ) → IsIn k seen.now → k < length run.now.instances }
     ensures within { IfOk result (λ ls. AreWithin (length run.now.instances) ls.items) }
-    ensures links { IfOk result (λ ls. (u : View) → Marks expanded.now u → named_links (names_in run.now.instances) ls.items ≡ links_with g.now.core u (pairs_of leaf.now) g.now.core.start (events_of run.now)) }
+    ensures links { IfOk result (λ ls. (u : View) → Marks expanded.now u →
+        named_links (names_in run.now.instances) ls.items ≡ flat_map (links_of g.now.core u (pairs_of leaf.now) (events_of run.now)) (map (inst_at run.now.instances) seen.now)) }
 {
-    let all = seen(alloc, g, run, expanded)?;
     let mut links = Vec::new(alloc);
-    for k in all.as_slice() {
+    for k in seen {
         add_instance(&mut links, g, run, *k, expanded, leaf)?;
     }
     Ok(links)

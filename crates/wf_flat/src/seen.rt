@@ -10,12 +10,18 @@ use crate::table::{Inst, Opened, PlainRun};
 use std::alloc::{AllocError, Global};
 use wf_spec::{Grammar, ModNo};
 
+/// Whether a flag is set. Past the end none is.
+pub fn is_set(flags: &[bool], k: usize) -> bool
+    ensures { result ≡ flag_of flags.now k }
+{
+    k < flags.len() && flags[k]
+}
+
 /// Whether a module is marked.
 pub fn is_marked(flags: &[bool], m: ModNo) -> bool
     ensures { result ≡ flag_of flags.now m.0 }
 {
-    let m = m.0 as usize;
-    m < flags.len() && flags[m]
+    is_set(flags, m.0 as usize)
 }
 
 /// Marks the children of an opened instance.

@@ -11,6 +11,6 @@ abbrev pub invariant-loop-k : goal.invariant-loop-k
 invariant-loop-k l = record {
   within : AreWithin (length l.run.instances) l.links.items;
   links : (u : View) → Marks l.expanded u →
-      named_links (names_in l.run.instances) l.links.items ++ flat_map (links_of l.g.core u (pairs_of l.leaf) (events_of l.run)) (map (inst_at l.run.instances) (drop l.k-index l.k-items))
-      ≡ flat_map (links_of l.g.core u (pairs_of l.leaf) (events_of l.run)) (map (inst_at l.run.instances) l.k-items);
+      named_links (names_in l.run.instances) l.links.items ++ flat_map (links_of l.g.core u (pairs_of l.leaf) (events_of l.run)) (map (inst_at l.run.instances) (drop l.k-index l.seen))
+      ≡ flat_map (links_of l.g.core u (pairs_of l.leaf) (events_of l.run)) (map (inst_at l.run.instances) l.seen);
 }

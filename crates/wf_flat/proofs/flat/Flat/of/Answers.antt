@@ -1,0 +1,17 @@
+use Rattle.std.proofs.Common.{subst}
+use Rattle.wf_model.specs.Lists.{IsIn}
+use Rattle.wf_flat.specs.Graph.{MarkOpen}
+use Rattle.wf_flat.proofs.Shown.{open_told}
+use Rattle.wf_flat.proofs.flat.Flat.of.Goals as goal
+
+pub links-requires-clause-there : goal.links-requires-clause-there
+links-requires-clause-there c = λ k i. c.in_ok-all.ensures.there k (subst (IsIn k) c.deref.ensures.value i)
+
+pub opens-requires : goal.opens-requires
+opens-requires c = λ k i. c.in_ok-all.ensures.there k (subst (IsIn k) c.deref-2.ensures.value i)
+
+pub returns-clause-opens : goal.returns-clause-opens
+returns-clause-opens c = λ u m.
+    let t = c.args.run.now in
+    open_told c.args.g.now.core t c.requires.run u c.in_ok-opens.opens.items c.args.expanded.now c.in_ok-all.all.items m (c.in_ok-all.ensures.seen u m) c.in_ok-all.ensures.there
+    (subst (MarkOpen c.in_ok-opens.opens.items c.args.expanded.now t.instances) c.deref-2.ensures.value c.in_ok-opens.ensures)
