@@ -1,0 +1,30 @@
+-- Lists whose elements differ: they are no longer than a list that has all their elements.
+use Rattle.std.proofs.Common.{◌≡◌, ℕ, ◌<◌, ◌≤◌, Bool, true, List, [], ◌∷◌, ◌++◌, length, filter, count_by, refl, sym, ap, subst, inl, inr, ⊎_elim, arith, length-append}
+use Rattle.std.proofs.lemmas.List.Sums.{length-filter}
+use Rattle.wf_model.specs.Lists.{IsIn, AllDiffer, numbers_from}
+use Rattle.wf_model.proofs.Lists.{in_append_left, in_append_right, in_append_cases, in_filter}
+use Rattle.wf_model.proofs.Level.{numbers_in}
+
+-- a list is split at an element of it
+split_at : {A : Type 0} (x : A) (ys : List A) → IsIn x ys → (l : List A) × (r : List A) × (ys ≡ l ++ x ∷ r)
+split_at x [] h = absurd h
+split_at x (y ∷ ys) (inl e) = ([], ys, ap (λ z. z ∷ ys) (sym e))
+split_at x (y ∷ ys) (inr h) = let r = split_at x ys h in (y ∷ r.0, r.1, ap (λ z. y ∷ z) r.2)
+
+-- elements that differ are no more than the elements of a list that has them all
+pub no_more : {A : Type 0} (xs ys : List A) → AllDiffer xs → ((x : A) → IsIn x xs → IsIn x ys) → length xs ≤ length ys
+no_more [] ys d h = omega arith
+no_more {A} (x ∷ xs) ys d h =
+    let s = split_at x ys (h x (inl refl)) in
+    let rest : (z : A) → IsIn z xs → IsIn z (s.0 ++ s.1) = λ z i.
+    ⊎_elim (λ a. in_append_left z s.0 s.1 a)
+    (λ b. ⊎_elim (λ (e : z ≡ x). absurd (d.0 (subst (λ w. IsIn w xs) e i))) (λ c. in_append_right z s.0 s.1 c) b)
+    (in_append_cases z s.0 (x ∷ s.1) (subst (λ l. IsIn z l) s.2 (h z (inr i)))) in
+    let r = no_more xs (s.0 ++ s.1) d.1 rest in
+    omega (arith, r, ap length s.2, length-append s.0 (x ∷ s.1), length-append s.0 s.1)
+
+-- numbers below n that differ and pass a test are no more than those that pass
+pub no_more_below : (p : ℕ → Bool) (n : ℕ) (xs : List ℕ) → AllDiffer xs → ((x : ℕ) → IsIn x xs → (x < n) × (p x ≡ true)) → length xs ≤ count_by p (numbers_from 0 n)
+no_more_below p n xs d h =
+    let r = no_more xs (filter p (numbers_from 0 n)) d (λ x i. in_filter p x (numbers_from 0 n) (let q = (h x i).0 in numbers_in x 0 n (omega arith) (omega arith)) (h x i).1) in
+    omega (arith, r, length-filter p (numbers_from 0 n))

@@ -1,0 +1,9 @@
+//! The places and labels of data items, the label files of runs, and their laws: each law is the contract of a function that does nothing.
+//!
+//! A label tells where in the derivation of a run an item was made, so that two labels and a view tell whether one item depends on the other.
+//! A chain of steps along one cycle of the grammar is told as one number.
+#![tactic(auto)]
+
+mod continuing;
+
+pub use continuing::derives_law;
