@@ -1,3 +1,5 @@
 pub mod Differing
 pub mod Finding
 pub mod Deriving
+pub mod ContinuingSteps
+pub mod Periods
