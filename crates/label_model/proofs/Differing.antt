@@ -1,8 +1,8 @@
 -- Lists whose elements differ: they are no longer than a list that has all their elements.
-use Rattle.std.proofs.Common.{◌≡◌, ℕ, ◌<◌, ◌≤◌, Bool, true, List, [], ◌∷◌, ◌++◌, length, filter, count_by, refl, sym, ap, subst, inl, inr, ⊎_elim, arith, length-append}
+use Rattle.std.proofs.Common.{◌≡◌, ℕ, zero, suc, ◌<◌, ◌≤◌, Bool, true, false, cond, List, [], ◌∷◌, ◌++◌, length, filter, count_by, refl, sym, ap, subst, inl, inr, ⊎_elim, arith, length-append}
 use Rattle.std.proofs.lemmas.List.Sums.{length-filter}
-use Rattle.wf_model.specs.Lists.{IsIn, AllDiffer, numbers_from}
-use Rattle.wf_model.proofs.Lists.{in_append_left, in_append_right, in_append_cases, in_filter}
+use Rattle.wf_model.specs.Lists.{IsIn, IsAt, AllDiffer, numbers_from}
+use Rattle.wf_model.proofs.Lists.{in_append_left, in_append_right, in_append_cases, in_filter, in_filter_from, in_at}
 use Rattle.wf_model.proofs.Level.{numbers_in}
 
 -- a list is split at an element of it
@@ -28,3 +28,28 @@ pub no_more_below : (p : ℕ → Bool) (n : ℕ) (xs : List ℕ) → AllDiffer x
 no_more_below p n xs d h =
     let r = no_more xs (filter p (numbers_from 0 n)) d (λ x i. in_filter p x (numbers_from 0 n) (let q = (h x i).0 in numbers_in x 0 n (omega arith) (omega arith)) (h x i).1) in
     omega (arith, r, length-filter p (numbers_from 0 n))
+
+-- numbers that grow differ
+pub in_order_differ : (xs : List ℕ) → ((j k a b : ℕ) → j < k → IsAt a j xs → IsAt b k xs → a < b) → AllDiffer xs
+in_order_differ [] h = tt
+in_order_differ (x ∷ xs) h = (
+  (λ i. let k = in_at x xs i in let l : x < x = h 0 (suc k.0) x x (omega arith) refl k.1 in absurd (omega arith)),
+  in_order_differ xs (λ j k a b l p q. h (suc j) (suc k) a b (omega arith) p q),
+)
+
+pub numbers_differ : (k n : ℕ) → AllDiffer (numbers_from k n)
+numbers_differ k zero = tt
+numbers_differ k (suc n) = ((λ i. over k (suc k) n i (omega arith)), numbers_differ (suc k) n)
+  where
+    over : (x j n : ℕ) → IsIn x (numbers_from j n) → x < j → ⊥
+    over x j zero i l = i
+    over x j (suc n) (inl e) l = absurd (omega arith)
+    over x j (suc n) (inr i) l = over x (suc j) n i (omega arith)
+
+pub differ_filter : (p : ℕ → Bool) (xs : List ℕ) → AllDiffer xs → AllDiffer (filter p xs)
+differ_filter p [] d = tt
+differ_filter p (x ∷ xs) d = go (p x) (differ_filter p xs d.1)
+  where
+    go : (b : Bool) → AllDiffer (filter p xs) → AllDiffer (cond b (x ∷ filter p xs) (filter p xs))
+    go true r = ((λ i. d.0 (in_filter_from p x xs i).0), r)
+    go false r = r

@@ -3,3 +3,4 @@ pub mod Finding
 pub mod Deriving
 pub mod ContinuingSteps
 pub mod Periods
+pub mod CycleCounts

@@ -1,5 +1,5 @@
 // Laws of continuing steps and of the cycles along which they lead.
-ghost use Rattle.label_model.specs.ContinuingLaws.{ContinuingLaw, DerivesLaw, PeriodLaw};
+ghost use Rattle.label_model.specs.ContinuingLaws.{ContinuingLaw, CyclesLaw, DerivesLaw, PeriodLaw};
 
 /// What is computed to be derived is derived, and nothing else is.
 pub fn derives_law()
@@ -18,4 +18,9 @@ pub fn continuing_law()
 /// Source of the idea: Bao, Davidson, Milo, "Labeling Recursive Workflow Executions On-the-Fly", SIGMOD 2011 (a chain of a cycle is told as one number).
 pub fn period_law()
     ensures { PeriodLaw }
+{}
+
+/// The cycles that the bound of labels counts are those that are numbered.
+pub fn cycles_law()
+    ensures { CyclesLaw }
 {}

@@ -6,4 +6,4 @@
 
 mod continuing;
 
-pub use continuing::{continuing_law, derives_law, period_law};
+pub use continuing::{continuing_law, cycles_law, derives_law, period_law};
