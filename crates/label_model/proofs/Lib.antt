@@ -4,3 +4,5 @@ pub mod Deriving
 pub mod ContinuingSteps
 pub mod Periods
 pub mod CycleCounts
+pub mod Alternatives
+pub mod LabelBits

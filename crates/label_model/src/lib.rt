@@ -5,5 +5,7 @@
 #![tactic(auto)]
 
 mod continuing;
+mod spelling;
 
 pub use continuing::{continuing_law, cycles_law, derives_law, period_law};
+pub use spelling::{prefix_free_law, whole_law};
