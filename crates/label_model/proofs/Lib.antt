@@ -6,3 +6,5 @@ pub mod Periods
 pub mod CycleCounts
 pub mod Alternatives
 pub mod LabelBits
+pub mod ReadFromFront
+pub mod ReadByParts
