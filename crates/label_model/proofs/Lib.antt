@@ -8,3 +8,7 @@ pub mod Alternatives
 pub mod LabelBits
 pub mod ReadFromFront
 pub mod ReadByParts
+pub mod StepsTold
+pub mod ValidPlaces
+pub mod OneRoute
+pub mod PlaceRoutes

@@ -1,0 +1,14 @@
+// Laws of places.
+ghost use Rattle.label_model.specs.PlaceLaws.{PlaceLaw, PrefixLaw};
+
+/// The places at a module are those of the addresses that leave it, with an edge at the end, and each is that of one address.
+///
+/// Source of the idea: Bao, Davidson, Milo, "Labeling Workflow Views with Fine-Grained Dependencies", VLDB 2012 (labels of data items that name the steps of the derivation).
+pub fn place_law()
+    ensures { PlaceLaw }
+{}
+
+/// What is told of a child is what is told of its parent, with one step more or with a chain number one higher.
+pub fn prefix_law()
+    ensures { PrefixLaw }
+{}
