@@ -5,11 +5,11 @@ use Rattle.wf_model.specs.Grammar.{Grammar}
 use Rattle.wf_model.specs.Reach.{Step, target_of}
 use Rattle.bit_pack.specs.Bits.{bits_of}
 use Rattle.bit_pack.specs.Gamma.{gamma}
+use Rattle.bit_pack.proofs.Codes.{prefix_free_law as gamma_law}
+use Rattle.bit_pack.proofs.Packing.{length-bits_of, bits_of-append}
 use Rattle.label_model.specs.Labels.{PlaceStep, Place, Input, Output, OfEdge, chain_bits, step_bits, ending_bits, label_bits, IsChain, Leaves, Leads}
 use Rattle.label_model.specs.LabelLaws.{PrefixFreeLaw, WholeLaw}
 use Rattle.label_model.proofs.Alternatives.{same_alternative}
-use Rattle.bit_pack.proofs.Codes.{prefix_free_law as gamma_law}
-use Rattle.bit_pack.proofs.Packing.{length-bits_of, bits_of-append}
 
 -- where a chain number leads is told by it
 pub chain_leads : (g : Grammar) (m : ℕ) (c : Option ℕ) (j k : ℕ) → IsChain g m c j → IsChain g m c k → j ≡ k

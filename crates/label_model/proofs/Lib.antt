@@ -12,3 +12,5 @@ pub mod StepsTold
 pub mod ValidPlaces
 pub mod OneRoute
 pub mod PlaceRoutes
+pub mod LeastModules
+pub mod Visits

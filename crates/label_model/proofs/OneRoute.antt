@@ -6,8 +6,8 @@ use Rattle.wf_model.specs.Routes.{IsRoute}
 use Rattle.label_model.specs.Continuing.{continuing, continues}
 use Rattle.label_model.specs.Labels.{PlaceStep}
 use Rattle.label_model.specs.Places.{chain_by, chain_at, steps_from, chain_from}
-use Rattle.label_model.proofs.Alternatives.{same_alternative}
 use Rattle.label_model.proofs.ContinuingSteps.{continues_gives, continues_not}
+use Rattle.label_model.proofs.Alternatives.{same_alternative}
 use Rattle.label_model.proofs.StepsTold.{chain_some}
 
 -- the first step told has a chain number from c on, if it has one

@@ -8,9 +8,9 @@ use Rattle.label_model.specs.Continuing.{continuing, next_by, after}
 use Rattle.label_model.specs.Labels.{PlaceStep, Place, IsChain, Leaves, Leads}
 use Rattle.label_model.specs.Places.{chain_at, steps_from, chain_from}
 use Rattle.label_model.specs.PlaceLaws.{PlaceLaw}
-use Rattle.label_model.proofs.Alternatives.{same_alternative}
 use Rattle.label_model.proofs.Finding.{cases_option}
 use Rattle.label_model.proofs.ContinuingSteps.{continuing_is, target_continues, continues_from}
+use Rattle.label_model.proofs.Alternatives.{same_alternative}
 use Rattle.label_model.proofs.StepsTold.{chain_some, chain_none}
 use Rattle.label_model.proofs.ValidPlaces.{valid_from}
 use Rattle.label_model.proofs.OneRoute.{step_told, IsSplit, split, one_route}

@@ -4,11 +4,11 @@ use Rattle.wf_model.specs.Grammar.{Grammar, production_at, alternative_of, IsPro
 use Rattle.wf_model.specs.Reach.{Step, target_of}
 use Rattle.wf_model.specs.Linear.{IsStepOf}
 use Rattle.bit_pack.specs.Gamma.{gamma}
+use Rattle.bit_pack.proofs.Codes.{prefix_free_law as gamma_law}
 use Rattle.label_model.specs.Continuing.{continuing, after}
 use Rattle.label_model.specs.Labels.{chain_bits, IsChain}
 use Rattle.label_model.specs.Reading.{IsPlaceLeft, IsPartLeft, IsPadding}
 use Rattle.label_model.specs.LabelLaws.{PartsLaw}
-use Rattle.bit_pack.proofs.Codes.{prefix_free_law as gamma_law}
 
 -- two gamma codes after one bit
 two_codes : (b c : Bool) (m n a i : ℕ) (x y : List Bool) → b ∷ (gamma (m + 1) ++ (gamma (n + 1) ++ x)) ≡ c ∷ (gamma (a + 1) ++ (gamma (i + 1) ++ y)) → (b ≡ c) × (m ≡ a) × (n ≡ i) × (x ≡ y)

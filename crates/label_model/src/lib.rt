@@ -10,6 +10,6 @@ mod reading;
 mod spelling;
 
 pub use continuing::{continuing_law, cycles_law, derives_law, period_law};
-pub use places::{place_law, prefix_law};
+pub use places::{one_visit_law, place_law, prefix_law};
 pub use reading::{parts_law, reading_law};
 pub use spelling::{prefix_free_law, whole_law};

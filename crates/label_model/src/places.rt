@@ -1,5 +1,5 @@
 // Laws of places.
-ghost use Rattle.label_model.specs.PlaceLaws.{PlaceLaw, PrefixLaw};
+ghost use Rattle.label_model.specs.PlaceLaws.{OneVisitLaw, PlaceLaw, PrefixLaw};
 
 /// The places at a module are those of the addresses that leave it, with an edge at the end, and each is that of one address.
 ///
@@ -11,4 +11,9 @@ pub fn place_law()
 /// What is told of a child is what is told of its parent, with one step more or with a chain number one higher.
 pub fn prefix_law()
     ensures { PrefixLaw }
+{}
+
+/// A place enters each strong component of the composite modules once, so its length depends on the grammar alone, but for its chain numbers.
+pub fn one_visit_law()
+    ensures { OneVisitLaw }
 {}
