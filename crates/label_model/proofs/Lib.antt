@@ -14,3 +14,5 @@ pub mod OneRoute
 pub mod PlaceRoutes
 pub mod LeastModules
 pub mod Visits
+pub mod GrammarSizes
+pub mod LabelLengths

@@ -4,11 +4,13 @@
 //! A chain of steps along one cycle of the grammar is told as one number.
 #![tactic(auto)]
 
+mod bounds;
 mod continuing;
 mod places;
 mod reading;
 mod spelling;
 
+pub use bounds::length_law;
 pub use continuing::{continuing_law, cycles_law, derives_law, period_law};
 pub use places::{one_visit_law, place_law, prefix_law};
 pub use reading::{parts_law, reading_law};
