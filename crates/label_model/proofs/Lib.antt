@@ -16,3 +16,5 @@ pub mod LeastModules
 pub mod Visits
 pub mod GrammarSizes
 pub mod LabelLengths
+pub mod LookingBack
+pub mod InstanceAddresses

@@ -8,10 +8,12 @@ mod bounds;
 mod continuing;
 mod places;
 mod reading;
+mod runs;
 mod spelling;
 
 pub use bounds::length_law;
 pub use continuing::{continuing_law, cycles_law, derives_law, period_law};
 pub use places::{one_visit_law, place_law, prefix_law};
 pub use reading::{parts_law, reading_law};
+pub use runs::instance_law;
 pub use spelling::{prefix_free_law, whole_law};

@@ -1,0 +1,7 @@
+// Laws of the addresses of instances, and of the labels of the items of a run.
+ghost use Rattle.label_model.specs.RunLaws.{InstanceLaw};
+
+/// An instance has an address, which tells its module and never changes, and which has at most as many steps as there are expand events.
+pub fn instance_law()
+    ensures { InstanceLaw }
+{}
