@@ -18,3 +18,5 @@ pub mod GrammarSizes
 pub mod LabelLengths
 pub mod LookingBack
 pub mod InstanceAddresses
+pub mod TakenEvents
+pub mod FileGrowth

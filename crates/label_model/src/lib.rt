@@ -6,6 +6,7 @@
 
 mod bounds;
 mod continuing;
+mod files;
 mod places;
 mod reading;
 mod runs;
@@ -13,6 +14,7 @@ mod spelling;
 
 pub use bounds::length_law;
 pub use continuing::{continuing_law, cycles_law, derives_law, period_law};
+pub use files::{file_grows_law, file_step_law};
 pub use places::{one_visit_law, place_law, prefix_law};
 pub use reading::{parts_law, reading_law};
 pub use runs::instance_law;
