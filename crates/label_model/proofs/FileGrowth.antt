@@ -15,8 +15,8 @@ use Rattle.label_model.specs.Places.{place_of}
 use Rattle.label_model.specs.RunLabels.{labelled_by, labelled}
 use Rattle.label_model.specs.Files.{entry_bytes, entry_of, head_bytes, label_file}
 use Rattle.label_model.specs.FileLaws.{FileGrowsLaw, FileStepLaw}
-use Rattle.label_model.proofs.TakenEvents.{expansion_of}
 use Rattle.label_model.proofs.InstanceAddresses.{kept_in}
+use Rattle.label_model.proofs.TakenEvents.{expansion_of}
 
 -- an event's items have their labels in each longer run
 pub same_labelled : (g : Grammar) (events more : List Event) → IsRun g g.start (events ++ more) → (e : Event) → IsIn e events → labelled_by g (events ++ more) e ≡ labelled_by g events e

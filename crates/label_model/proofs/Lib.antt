@@ -20,3 +20,6 @@ pub mod LookingBack
 pub mod InstanceAddresses
 pub mod TakenEvents
 pub mod FileGrowth
+pub mod Lists
+pub mod ItemLabels
+pub mod OneItem
