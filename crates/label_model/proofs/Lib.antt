@@ -23,3 +23,5 @@ pub mod FileGrowth
 pub mod Lists
 pub mod ItemLabels
 pub mod OneItem
+pub mod AcceptedLabels
+pub mod RunBounds

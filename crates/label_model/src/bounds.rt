@@ -1,7 +1,16 @@
 // Laws of the lengths of labels.
-ghost use Rattle.label_model.specs.BoundLaws.{LengthLaw};
+ghost use Rattle.label_model.specs.BoundLaws.{BoundLaw, LengthLaw};
 
 /// A label of an edge whose chain numbers are below n is within the bound for n.
 pub fn length_law()
     ensures { LengthLaw }
+{}
+
+/// A label that is made at the n-th expand event is within the bound for n, and one of a port of the root has at most 15 bits.
+///
+/// So a label is as long as the logarithm of the length of the run, but for a factor and a summand that the grammar tells.
+///
+/// Source of the idea: Bao, Davidson, Milo, "Labeling Recursive Workflow Executions On-the-Fly", SIGMOD 2011 (labels of logarithmic length for linear recursion).
+pub fn bound_law()
+    ensures { BoundLaw }
 {}
