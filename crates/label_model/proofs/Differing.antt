@@ -1,8 +1,8 @@
 -- Lists whose elements differ: they are no longer than a list that has all their elements.
-use Rattle.std.proofs.Common.{◌≡◌, ℕ, zero, suc, ◌<◌, ◌≤◌, Bool, true, false, cond, List, [], ◌∷◌, ◌++◌, length, filter, count_by, refl, sym, ap, subst, inl, inr, ⊎_elim, arith, length-append}
+use Rattle.std.proofs.Common.{◌≡◌, ℕ, zero, suc, ◌<◌, ◌≤◌, Bool, true, false, cond, List, [], ◌∷◌, ◌++◌, map, length, filter, count_by, refl, sym, ap, subst, inl, inr, ⊎_elim, arith, length-append}
 use Rattle.std.proofs.lemmas.List.Sums.{length-filter}
 use Rattle.wf_model.specs.Lists.{IsIn, IsAt, AllDiffer, numbers_from}
-use Rattle.wf_model.proofs.Lists.{in_append_left, in_append_right, in_append_cases, in_filter, in_filter_from, in_at}
+use Rattle.wf_model.proofs.Lists.{in_map, in_map_from, in_append_left, in_append_right, in_append_cases, in_filter, in_filter_from, in_at}
 use Rattle.wf_model.proofs.Level.{numbers_in}
 
 -- a list is split at an element of it
@@ -53,3 +53,23 @@ differ_filter p (x ∷ xs) d = go (p x) (differ_filter p xs d.1)
     go : (b : Bool) → AllDiffer (filter p xs) → AllDiffer (cond b (x ∷ filter p xs) (filter p xs))
     go true r = ((λ i. d.0 (in_filter_from p x xs i).0), r)
     go false r = r
+
+-- lists that differ, and have nothing in common
+pub differ-append : {A : Type 0} (xs ys : List A) → AllDiffer xs → AllDiffer ys → ((y : A) → IsIn y xs → IsIn y ys → ⊥) → AllDiffer (xs ++ ys)
+differ-append [] ys d e h = e
+differ-append (x ∷ xs) ys d e h = ((λ i. ⊎_elim d.0 (λ j. h x (inl refl) j) (in_append_cases x xs ys i)), differ-append xs ys d.1 e (λ y i j. h y (inr i) j))
+
+-- and the two parts of such a list
+pub differ_parts : {A : Type 0} (xs ys : List A) → AllDiffer (xs ++ ys) → AllDiffer xs × AllDiffer ys × ((y : A) → IsIn y xs → IsIn y ys → ⊥)
+differ_parts [] ys d = (tt, d, (λ y i j. i))
+differ_parts {A} (x ∷ xs) ys d =
+    let r = differ_parts xs ys d.1 in (
+      ((λ i. d.0 (in_append_left x xs ys i)), r.0),
+      r.1,
+      (λ y i j. ⊎_elim (λ (e : y ≡ x). d.0 (in_append_right x xs ys (subst (λ z. IsIn z ys) e j))) (λ k. r.2 y k j) i),
+    )
+
+-- a map that keeps members apart
+pub differ_map : {A B C : Type 0} (f : A → B) (h : A → C) (xs : List A) → AllDiffer (map f xs) → ((x y : A) → IsIn x xs → IsIn y xs → h x ≡ h y → f x ≡ f y) → AllDiffer (map h xs)
+differ_map f h [] d k = tt
+differ_map f h (x ∷ xs) d k = ((λ i. let r = in_map_from h (h x) xs i in d.0 (subst (λ z. IsIn z (map f xs)) (sym (k x r.0 (inl refl) (inr r.1) r.2)) (in_map f r.0 xs r.1))), differ_map f h xs d.1 (λ y z i j. k y z (inr i) (inr j)))

@@ -25,3 +25,6 @@ pub mod ItemLabels
 pub mod OneItem
 pub mod AcceptedLabels
 pub mod RunBounds
+pub mod EdgeSources
+pub mod GrammarLimits
+pub mod LabelRoom

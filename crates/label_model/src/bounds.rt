@@ -1,5 +1,5 @@
 // Laws of the lengths of labels.
-ghost use Rattle.label_model.specs.BoundLaws.{BoundLaw, LengthLaw};
+ghost use Rattle.label_model.specs.BoundLaws.{BoundLaw, LengthLaw, RoomLaw};
 
 /// A label of an edge whose chain numbers are below n is within the bound for n.
 pub fn length_law()
@@ -13,4 +13,9 @@ pub fn length_law()
 /// Source of the idea: Bao, Davidson, Milo, "Labeling Recursive Workflow Executions On-the-Fly", SIGMOD 2011 (labels of logarithmic length for linear recursion).
 pub fn bound_law()
     ensures { BoundLaw }
+{}
+
+/// Each label of a strictly linear grammar has fewer than 2^17 bits.
+pub fn room_law()
+    ensures { RoomLaw }
 {}

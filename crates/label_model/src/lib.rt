@@ -12,7 +12,7 @@ mod reading;
 mod runs;
 mod spelling;
 
-pub use bounds::{bound_law, length_law};
+pub use bounds::{bound_law, length_law, room_law};
 pub use continuing::{continuing_law, cycles_law, derives_law, period_law};
 pub use files::{file_grows_law, file_step_law};
 pub use places::{one_visit_law, place_law, prefix_law};
