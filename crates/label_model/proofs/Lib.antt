@@ -28,3 +28,5 @@ pub mod RunBounds
 pub mod EdgeSources
 pub mod GrammarLimits
 pub mod LabelRoom
+pub mod FileReadings
+pub mod CutFiles

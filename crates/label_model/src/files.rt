@@ -1,5 +1,5 @@
 // Laws of label files.
-ghost use Rattle.label_model.specs.FileLaws.{FileGrowsLaw, FileStepLaw};
+ghost use Rattle.label_model.specs.FileLaws.{CutEntriesLaw, FileGrowsLaw, FileStepLaw, OneReadingLaw};
 
 /// The label file of a run begins that of each run that goes on from it.
 pub fn file_grows_law()
@@ -9,4 +9,14 @@ pub fn file_grows_law()
 /// An event adds to the label file the entries of the items that it makes, and changes nothing.
 pub fn file_step_law()
     ensures { FileStepLaw }
+{}
+
+/// Bytes are read as a label file in one way.
+pub fn one_reading_law()
+    ensures { OneReadingLaw }
+{}
+
+/// What a file of good entries is read as where it is cut: within the head as no label file, at the end of an entry as the entries before, and within an entry as truncated there.
+pub fn cut_entries_law()
+    ensures { CutEntriesLaw }
 {}
