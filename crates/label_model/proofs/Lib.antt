@@ -30,3 +30,5 @@ pub mod GrammarLimits
 pub mod LabelRoom
 pub mod FileReadings
 pub mod CutFiles
+pub mod NamesDiffer
+pub mod GoodFiles

@@ -1,5 +1,5 @@
 // Laws of label files.
-ghost use Rattle.label_model.specs.FileLaws.{CutEntriesLaw, FileGrowsLaw, FileStepLaw, OneReadingLaw};
+ghost use Rattle.label_model.specs.FileLaws.{CutEntriesLaw, CutLaw, FileGrowsLaw, FileStepLaw, GoodFileLaw, OneReadingLaw};
 
 /// The label file of a run begins that of each run that goes on from it.
 pub fn file_grows_law()
@@ -19,4 +19,14 @@ pub fn one_reading_law()
 /// What a file of good entries is read as where it is cut: within the head as no label file, at the end of an entry as the entries before, and within an entry as truncated there.
 pub fn cut_entries_law()
     ensures { CutEntriesLaw }
+{}
+
+/// The entries of the label file of an accepted run have room for their lengths, names of items, which differ, and labels of the grammar.
+pub fn good_file_law()
+    ensures { GoodFileLaw }
+{}
+
+/// What the label file of an accepted run is read as where it is cut.
+pub fn cut_law()
+    ensures { CutLaw }
 {}

@@ -14,7 +14,9 @@ mod spelling;
 
 pub use bounds::{bound_law, length_law, room_law};
 pub use continuing::{continuing_law, cycles_law, derives_law, period_law};
-pub use files::{cut_entries_law, file_grows_law, file_step_law, one_reading_law};
+pub use files::{
+    cut_entries_law, cut_law, file_grows_law, file_step_law, good_file_law, one_reading_law,
+};
 pub use places::{one_visit_law, place_law, prefix_law};
 pub use reading::{parts_law, reading_law};
 pub use runs::{instance_law, label_law, one_item_law};
