@@ -32,3 +32,4 @@ pub mod FileReadings
 pub mod CutFiles
 pub mod NamesDiffer
 pub mod GoodFiles
+pub mod RunPrefixes

@@ -19,5 +19,5 @@ pub use files::{
 };
 pub use places::{one_visit_law, place_law, prefix_law};
 pub use reading::{parts_law, reading_law};
-pub use runs::{instance_law, label_law, one_item_law};
+pub use runs::{instance_law, label_law, one_item_law, prefix_in_run_law};
 pub use spelling::{prefix_free_law, whole_law};
