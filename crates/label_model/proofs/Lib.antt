@@ -33,3 +33,4 @@ pub mod CutFiles
 pub mod NamesDiffer
 pub mod GoodFiles
 pub mod RunPrefixes
+pub mod WorkedLabels

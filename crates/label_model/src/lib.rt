@@ -6,6 +6,7 @@
 
 mod bounds;
 mod continuing;
+mod examples;
 mod files;
 mod places;
 mod reading;
@@ -14,6 +15,7 @@ mod spelling;
 
 pub use bounds::{bound_law, length_law, room_law};
 pub use continuing::{continuing_law, cycles_law, derives_law, period_law};
+pub use examples::labels_are_worked;
 pub use files::{
     cut_entries_law, cut_law, file_grows_law, file_step_law, good_file_law, one_reading_law,
 };
