@@ -8,7 +8,7 @@ pub fn length_law()
 
 /// A label that is made at the n-th expand event is within the bound for n, and one of a port of the root has at most 15 bits.
 ///
-/// So a label is as long as the logarithm of the length of the run, but for a factor and a summand that the grammar tells.
+/// So a label has at most as many bits as n has binary digits, times a factor and with a summand that the grammar tells.
 ///
 /// Source of the idea: Bao, Davidson, Milo, "Labeling Recursive Workflow Executions On-the-Fly", SIGMOD 2011 (labels of logarithmic length for linear recursion).
 pub fn bound_law()

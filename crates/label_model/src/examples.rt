@@ -1,7 +1,7 @@
 // Worked labels, computed from the definitions.
 ghost use Rattle.label_model.specs.Examples.{LabelsAreWorked};
 
-/// The labels of the runs of five small grammars bit by bit, the entries of two label files, a label that is one and bytes that are none, and the numbers of the bound.
+/// Labels of five small grammars bit by bit, the entries of two label files, a value that is a label and bytes that are none, and the numbers of the bound.
 pub fn labels_are_worked()
     ensures { LabelsAreWorked }
 {}
