@@ -19,7 +19,7 @@ use Rattle.wf_model.proofs.DefaultView.{default_expands_all}
 use Rattle.wf_model.proofs.Open.{open_law}
 use Rattle.wf_laws.specs.Agreeing.{AgreeLaw, RouteLaw}
 
-one_expansion : (o : Option Expanded) (x y : Expanded) → o ≡ Some x → o ≡ Some y → x ≡ y
+pub one_expansion : (o : Option Expanded) (x y : Expanded) → o ≡ Some x → o ≡ Some y → x ≡ y
 one_expansion o x y e f = let z : Some x ≡ Some y = sym e ∙ f in cc
 
 agree_from : (events : List Event) (a b : List Step) (n x y : List ℕ) → IsAddress events n a x → IsAddress events n b y → Agree a b

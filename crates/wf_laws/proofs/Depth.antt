@@ -23,7 +23,7 @@ not_both o y e f = let z : None ≡ Some y = sym e ∙ f in absurd (cc)
 one_expansion : (o : Option Expanded) (x y : Expanded) → o ≡ Some x → o ≡ Some y → x ≡ y
 one_expansion o x y e f = let z : Some x ≡ Some y = sym e ∙ f in cc
 
-root_kept : (b a : List Event) → b ≢ [] → root_of (b ++ a) ≡ root_of b
+pub root_kept : (b a : List Event) → b ≢ [] → root_of (b ++ a) ≡ root_of b
 root_kept [] a n = absurd (n refl)
 root_kept (Start r ∷ b) a n = refl
 root_kept (Expand i p names ∷ b) a n = refl

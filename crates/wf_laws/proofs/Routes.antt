@@ -130,11 +130,11 @@ can_fresh g m events i p hp hd here none = record {
     long : ℕ
     long = suc (longest (names_of (made g m events)))
 
-address_kept : (e more : List Event) (a : List Step) (n x : List ℕ) → IsAddress e n a x → IsAddress (e ++ more) n a x
+pub address_kept : (e more : List Event) (a : List Step) (n x : List ℕ) → IsAddress e n a x → IsAddress (e ++ more) n a x
 address_kept e more [] n x h = h
 address_kept e more (s ∷ a) n x h = (h.0, expansion_kept e more n _ h.1, h.2, address_kept e more a (get_or h.0 s.position []) x h.3)
 
-address_more : (events : List Event) (a : List Step) (n c : List ℕ) (s : Step) (names : List (List ℕ)) → IsAddress events n a c → expanded_by events c ≡ Some (record { production = s.production; names = names }) → s.position < length names → IsAddress events n (a ++ s ∷ []) (get_or names s.position [])
+pub address_more : (events : List Event) (a : List Step) (n c : List ℕ) (s : Step) (names : List (List ℕ)) → IsAddress events n a c → expanded_by events c ≡ Some (record { production = s.production; names = names }) → s.position < length names → IsAddress events n (a ++ s ∷ []) (get_or names s.position [])
 address_more events [] n c s names h e l = (names, ap (expanded_by events) h ∙ e, l, refl)
 address_more events (t ∷ a) n c s names h e l = (h.0, h.1, h.2, address_more events a (get_or h.0 t.position []) c s names h.3 e l)
 

@@ -1,0 +1,14 @@
+pub mod Continuing
+pub mod Labels
+pub mod Places
+pub mod RunLabels
+pub mod Reading
+pub mod Bound
+pub mod Files
+pub mod ContinuingLaws
+pub mod LabelLaws
+pub mod PlaceLaws
+pub mod BoundLaws
+pub mod RunLaws
+pub mod FileLaws
+pub mod Examples
