@@ -63,7 +63,7 @@ fn view_of_parts(alloc: Global, g: &Grammar, parts: &ViewParts) -> Result<View, 
 }
 
 /// A view that is safe, with its full assignment.
-fn viewed(alloc: Global, spec: Spec, view: View) -> Result<Viewed, Ending>
+fn with_full(alloc: Global, spec: Spec, view: View) -> Result<Viewed, Ending>
     requires ranking { IsRankingOf spec.grammar.core spec.ranking }
     requires held { IsHeldFor spec.grammar.core view }
     ensures grammar { IfOk result (λ v. (v.grammar ≡ spec.grammar) × (v.view ≡ view)) }
@@ -101,7 +101,7 @@ fn view_of_bytes(alloc: Global, spec: Spec, bytes: &[u8]) -> Result<Viewed, Endi
 {
     let parts = parts_of_bytes(alloc, bytes)?;
     let view = view_of_parts(alloc, &spec.grammar, &parts)?;
-    viewed(alloc, spec, view)
+    with_full(alloc, spec, view)
 }
 
 /// The safe view of VIEW, of the grammar of SPEC.
