@@ -1,0 +1,4 @@
+pub mod BodyLinks
+pub mod BodyRows
+pub mod LinkGraphs
+pub mod Vertices

@@ -1,2 +1,3 @@
+pub mod BodyGraph
 pub mod Full
 pub mod Witness

@@ -4,6 +4,8 @@ ghost use Rattle.wf_view.specs.Held.{IsHeldFor};
 ghost use Rattle.wf_safe.specs.Witness.{IsWitness};
 
 mod body;
+mod graph;
+mod ports;
 
 use crate::witness::Witness;
 use std::alloc::{AllocError, Global};
