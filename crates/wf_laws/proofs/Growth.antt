@@ -1,5 +1,5 @@
 -- Runs can be carried on: an instance and all below it are expanded as a plan says, with fresh names.
-use Rattle.std.proofs.Common.{◌≡◌, ℕ, zero, suc, ◌+◌, ◌<◌, ◌≤◌, ◌⊎◌, max, Bool, true, false, cond, List, [], ◌∷◌, ◌++◌, length, filter, replicate, Option, Some, None, refl, sym, ap, ◌∙◌, subst, inl, inr, ⊎_elim, arith, true≢false, append_assoc, append-nil, zero-add, suc-add, add_comm, is_none}
+use Rattle.std.proofs.Common.{◌≡◌, ℕ, zero, suc, ◌+◌, ◌<◌, ◌≤◌, ◌⊎◌, max, Bool, true, false, cond, List, [], ◌∷◌, ◌++◌, map, length, filter, replicate, Option, Some, None, refl, sym, ap, ◌∙◌, subst, inl, inr, ⊎_elim, arith, true≢false, append_assoc, append-nil, zero-add, suc-add, add_comm, is_none}
 use Rattle.std.proofs.lemmas.List.{length-replicate}
 use Rattle.wf_model.specs.Lists.{IsIn, AllDiffer}
 use Rattle.wf_model.specs.Grammar.{Grammar, body_of, IsProductionOf}
@@ -10,7 +10,7 @@ use Rattle.wf_model.specs.declared.event.Event.TheVariants.{Expand}
 use Rattle.wf_model.specs.Run.{Instance, Expanded, IsName, named, made, names_of, expanded_by, CanExpand, AllExtend, IsRun, seen_in}
 use Rattle.wf_model.specs.Safe.{Ends}
 use Rattle.wf_model.specs.Finishing.{ExpandsComposites, IsFinishing, FinishingLaw}
-use Rattle.wf_model.proofs.Lists.{in_append_left, in_append_cases, bytes_same, in_filter, in_filter_from, at_in}
+use Rattle.wf_model.proofs.Lists.{in_append_left, in_append_cases, in_map, bytes_same, in_filter, in_filter_from, at_in}
 use Rattle.wf_model.proofs.Differ.{made_differ}
 use Rattle.wf_model.proofs.Runs.{made-append, named_names, names-named, expansion_kept, expansion_later, expansion_other, name_in, name_from, made_new, name_kept, IsState, run_state, at_named}
 
@@ -71,28 +71,28 @@ module _ (g : Grammar) (u : View) (Chosen : ℕ → ℕ → Type 0) where
   ends_up (suc k) n m h = subst (λ z. Plan z m) (sym (suc-add k n)) (ends_more (k + n) m (ends_up k n m h))
 
   -- one number of rounds for all of a list
-  pub ends_bound : (js : List Instance) → ((j : Instance) → IsIn j js → (n : ℕ) × Plan n j.module_no) → (n : ℕ) × ((j : Instance) → IsIn j js → Plan n j.module_no)
-  ends_bound [] h = (0, λ j q. absurd q)
-  ends_bound (i ∷ js) h =
-      let a = h i (inl refl) in
-      let b = ends_bound js (λ j q. h j (inr q)) in (
+  pub ends_bound : (ms : List ℕ) → ((m : ℕ) → IsIn m ms → (n : ℕ) × Plan n m) → (n : ℕ) × ((m : ℕ) → IsIn m ms → Plan n m)
+  ends_bound [] h = (0, λ m q. absurd q)
+  ends_bound (k ∷ ms) h =
+      let a = h k (inl refl) in
+      let b = ends_bound ms (λ m q. h m (inr q)) in (
         a.0 + b.0,
-        λ j q. ⊎_elim
-            (λ e. subst (λ z. Plan z j.module_no) (add_comm b.0 a.0) (ends_up b.0 a.0 j.module_no (subst (λ (z : Instance). Plan a.0 z.module_no) (sym e) a.1)))
-            (λ z. ends_up a.0 b.0 j.module_no (b.1 j z)) q,
+        λ m q. ⊎_elim
+            (λ e. subst (λ z. Plan z m) (add_comm b.0 a.0) (ends_up b.0 a.0 m (subst (λ z. Plan a.0 z) (sym e) a.1)))
+            (λ z. ends_up a.0 b.0 m (b.1 m z)) q,
       )
 
   -- an instance that is not pending, and is expanded as chosen
-  abbrev pub IsSettled : List Event → Instance → Type 0
-  IsSettled events j = expands u j.module_no ≡ true → (p : ℕ) × (names : List (List ℕ)) × (expanded_by events j.name ≡ Some (record { production = p; names = names })) × Chosen j.module_no p
+  abbrev pub IsDone : List Event → Instance → Type 0
+  IsDone events j = expands u j.module_no ≡ true → (p : ℕ) × (names : List (List ℕ)) × (expanded_by events j.name ≡ Some (record { production = p; names = names })) × Chosen j.module_no p
 
   -- further events that settle these instances and those that they make, and leave the others alone
   pub record Settles (m : ℕ) (events : List Event) (js : List Instance) (more : List Event) : Type 0 where
     pub extend : AllExtend g m events more
     pub others : (n : List ℕ) → IsIn n (names_of (made g m events)) → (IsIn n (names_of js) → ⊥) → expanded_by (events ++ more) n ≡ expanded_by events n
-    pub settled : (j : Instance) → IsIn j js ⊎ IsIn j (made g m more) → IsSettled (events ++ more) j
+    pub settled : (j : Instance) → IsIn j js ⊎ IsIn j (made g m more) → IsDone (events ++ more) j
 
-  settled_later : (events more : List Event) (j : Instance) → IsSettled events j → IsSettled (events ++ more) j
+  settled_later : (events more : List Event) (j : Instance) → IsDone events j → IsDone (events ++ more) j
   settled_later events more j s = λ e. let q = s e in (q.0, q.1, expansion_kept events more j.name _ q.2, q.3)
 
   pub joined : (m : ℕ) (more' more b : List Event) → AllExtend g m b more → AllExtend g m (b ++ more) more' → AllExtend g m b (more ++ more')
@@ -111,7 +111,7 @@ module _ (g : Grammar) (u : View) (Chosen : ℕ → ℕ → Type 0) where
     extend = joined m more' more events a.extend b.extend;
     others = λ n h q. subst (λ l. expanded_by l n ≡ expanded_by events n) (append_assoc events more more')
         (b.others n (name_kept_all m more events n h) (λ z. q (inr z)) ∙ a.others n h (λ z. q (⊎_elim (λ e. inl e) (λ e. absurd e) z)));
-    settled = λ j q. subst (λ l. IsSettled l j) (append_assoc events more more')
+    settled = λ j q. subst (λ l. IsDone l j) (append_assoc events more more')
         (⊎_elim
         (λ c. ⊎_elim (λ e. settled_later (events ++ more) more' j (a.settled j (inl (inl e)))) (λ e. b.settled j (inl e)) c)
         (λ c. ⊎_elim (λ e. settled_later (events ++ more) more' j (a.settled j (inr e))) (λ e. b.settled j (inr e))
@@ -188,7 +188,7 @@ module _ (g : Grammar) (u : View) (Chosen : ℕ → ℕ → Type 0) where
               extend = (can, r.1.extend);
               others = λ k h q. subst (λ l. expanded_by l k ≡ expanded_by events k) eq
                   (r.1.others k (name_kept g m events e k h) (λ z. is_new k (subst (IsIn k) (names-named new (body_of g p) one_each) z) h) ∙ expansion_other events i.name p new k (λ z. q (inl (sym z))));
-              settled = λ j q. subst (λ l. IsSettled l j) eq
+              settled = λ j q. subst (λ l. IsDone l j) eq
                   (⊎_elim
                   (λ a. ⊎_elim
                   (λ z. λ t. (
@@ -248,7 +248,9 @@ module _ (g : Grammar) (u : View) (proper : IsProper g) (ec : ExpandsComposites 
       go true e = let r = proper.ranked m (ec m e) in (r.0, plan_of_rank r.0 m r.1)
 
   plans : (js : List Instance) → (n : ℕ) × ((j : Instance) → IsIn j js → Ends g u Any n j.module_no)
-  plans js = ends_bound g u Any js (λ j h. plan j.module_no)
+  plans js =
+      let b = ends_bound g u Any (map (λ (j : Instance). j.module_no) js) (λ m h. plan m) in
+      (b.0, λ j h. b.1 j.module_no (in_map (λ (i : Instance). i.module_no) j js h))
 
   -- not expanded yet
   is_shut : List Event → Instance → Bool

@@ -2,10 +2,13 @@ pub mod Track
 pub mod OwnRun
 pub mod Parts
 pub mod Root
+pub mod Expansions
 pub mod Safe
 pub mod Bodies
 pub mod Reach
 pub mod Growth
+pub mod Making
+pub mod Settled
 pub mod Safety
 pub mod Address
 pub mod Depends

@@ -1,22 +1,21 @@
 -- One test per production suffices: each finished expansion of a seen module joins the pairs assigned.
 use Rattle.std.proofs.Common.{◌≡◌, ℕ, zero, suc, ◌+◌, ◌<◌, ◌≤◌, ◌≢◌, ◌↔◌, Bool, true, false, cond, ◌||◌, ◌&&◌, List, [], ◌∷◌, ◌++◌, length, flat_map, bytes_eq, Option, Some, None, IsTrue, refl, sym, ap, ◌∙◌, subst, inl, inr, ⊎_elim, arith}
-use Rattle.wf_model.specs.Lists.{IsIn, some, Walk, here, onward}
+use Rattle.wf_model.specs.Lists.{Walk, here, onward}
 use Rattle.wf_model.specs.Grammar.{Grammar, Assignment, inputs_of, outputs_of, head_of, body_of}
 use Rattle.wf_model.specs.WellFormed.{IsWellFormed}
 use Rattle.wf_model.specs.View.{View, expands, shows, IsSeenModule, in_body}
 use Rattle.wf_model.specs.declared.event.Event.{Event}
 use Rattle.wf_model.specs.declared.event.Event.TheVariants.{Start, Expand}
-use Rattle.wf_model.specs.Run.{Instance, Expanded, named, expanded_by, AllExtend, IsRun, opens, see_all, seen_in, below, family, root_of}
+use Rattle.wf_model.specs.Run.{Instance, named, expanded_by, AllExtend, IsRun, opens, see_all, root_of}
 use Rattle.wf_model.specs.declared.numbers.Side.TheVariants.{Input, Output}
 use Rattle.wf_model.specs.Links.{Port, Link, input, output, wiring, pair_links, place_links, body_links, opened_links, links_of, links_with, perceived, IsLinked, Path}
-use Rattle.wf_model.specs.SubRun.{is_among}
 use Rattle.wf_model.specs.Safe.{IsExpansion, BodyJoins, IsInduced, IsBy, IsInducedBy, IsFilled, Passes, OneTestSuffices}
-use Rattle.wf_model.proofs.Lists.{in_append_left, in_append_right, in_append_cases, bytes_same, among_gives, in_filter_from, at_below, at_is, is_at, at_in}
+use Rattle.wf_model.proofs.Lists.{in_append_left, in_append_right, in_append_cases, at_below, at_is, is_at, at_in}
 use Rattle.wf_model.proofs.Walks.{Short, walk_one, shortened, lengthened}
-use Rattle.wf_laws.proofs.OwnRun.{skipped}
-use Rattle.wf_laws.proofs.Parts.{child, opened_run, root_not_child}
+use Rattle.wf_laws.proofs.Expansions.{root_told, kid_shorter, own_by}
+use Rattle.wf_laws.proofs.Parts.{child, opened_run}
 use Rattle.wf_model.proofs.Level.{pair_links_from, pair_links_in, place_links_from, place_links_in}
-use Rattle.wf_laws.proofs.Root.{kid_module, kid_run, Wired, put, Inner, Own, In, Out, Point, root_apart, kid_law, kid_follows, seen_kept, level, to_level, from_level}
+use Rattle.wf_laws.proofs.Root.{kid_module, kid_run, kid, kid_seen, Wired, put, Inner, Own, In, Out, Point, root_apart, kid_law, seen_kept, level, to_level, from_level}
 
 -- a root whose module is not expanded is all that is seen
 pub unopened : (g : Grammar) (u : View) (m : ℕ) (r : List ℕ) (b rest : List Event) → expands u m ≡ false → (b ≢ []) → AllExtend g m b rest → see_all g u m (record { name = r; module_no = m } ∷ []) rest ≡ record { name = r; module_no = m } ∷ []
@@ -150,15 +149,6 @@ JoinsWith g u leaf m e i o = Path (links_with g u leaf m e) (input (root_of e) i
 abbrev pub Agrees : Grammar → View → Assignment → Assignment → ℕ → List Event → Type 0
 Agrees g u leaf d m e = (i o : ℕ) → i < inputs_of g m → o < outputs_of g m → IsTrue (d m i o) ↔ JoinsWith g u leaf m e i o
 
-below_shorter : (names : List (List ℕ)) (events : List Event) → length (below names events) ≤ length events
-below_shorter names [] = omega arith
-below_shorter names (Start r ∷ events) = let h = below_shorter names events in omega arith
-below_shorter names (Expand i p new ∷ events) = go (some (bytes_eq i) names) (below_shorter (names ++ new) events) (below_shorter names events)
-  where
-    go : (b : Bool) → length (below (names ++ new) events) ≤ length events → length (below names events) ≤ length events → length (cond b (Expand i p new ∷ []) [] ++ below (cond b (names ++ new) names) events) ≤ suc (length events)
-    go true h k = omega arith
-    go false h k = omega arith
-
 module _ (g : Grammar) (u : View) (leaf : Assignment) (Chosen : ℕ → ℕ → Type 0) (d : Assignment) (wf : IsWellFormed g) (ind : Passes g u leaf Chosen d) where
   -- the root's module is not expanded
   leaf_agrees : (m : ℕ) (r : List ℕ) (e : List Event) → links_with g u leaf m e ≡ pair_links g leaf m r ++ [] → root_of e ≡ r → ((i o : ℕ) → i < inputs_of g m → o < outputs_of g m → d m i o ≡ leaf m i o) → Agrees g u leaf d m e
@@ -179,11 +169,8 @@ module _ (g : Grammar) (u : View) (leaf : Assignment) (Chosen : ℕ → ℕ → 
       let kids : KidsJoin g u leaf d r p names rest wf run ex =
       (λ k hk. let law = kid_law g u leaf r p names rest wf run ex k hk in
       let hb : k < length (body_of g p) = omega (arith, can.one_each) in
-      let apart : r ≡ child names k → ⊥ = λ e. root_not_child g (head_of g p) r p names rest run (subst (λ z. IsIn z names) (sym e) (at_in _ k names (is_at k names [] hk))) in
-      let same : below (child names k ∷ []) (opened_run r p names rest) ≡ below (child names k ∷ []) rest = (skipped (child names k) (opened_run r p names []) rest (apart, tt)).0 in
-      let short = below_shorter (child names k ∷ []) rest in
       ih (kid_module g p k) (in_body p can.in_range seen ex (at_in _ k (body_of g p) (is_at k (body_of g p) 0 hb))) (kid_run names (opened_run r p names rest) k)
-      (omega (arith, ap length same))
+      (kid_shorter g (head_of g p) r p names rest run k hk)
       (record { run = law.run; started = λ e. (cc); filled = ⊎_elim (λ a. inl (law.finished a)) (λ a. inr a) x.filled }) (by k hk)) in
       let oj = open_joins g u leaf d r p names rest wf run ex kids i o in
       let ip = ind.induced p can.in_range ch seen ex i o hi ho in
@@ -192,11 +179,8 @@ module _ (g : Grammar) (u : View) (leaf : Assignment) (Chosen : ℕ → ℕ → 
   -- the children's runs are expanded as chosen where the whole is
   kids_by : (r : List ℕ) (p : ℕ) (names : List (List ℕ)) (rest : List Event) (ex : expands u (head_of g p) ≡ true) (run : IsRun g (head_of g p) (opened_run r p names rest)) → IsBy g u (head_of g p) Chosen (opened_run r p names rest) →
       (k : ℕ) → k < length names → IsBy g u (kid_module g p k) Chosen (kid_run names (opened_run r p names rest) k)
-  kids_by r p names rest ex run by k hk j s e x h =
-      let tr = (kid_follows g u leaf r p names rest wf run ex k hk).tracks in
-      let fam = family (child names k ∷ []) (opened_run r p names rest) in
-      let q = in_filter_from (is_among fam) j (seen_in g u (head_of g p) (opened_run r p names rest)) (subst (IsIn j) tr.seen s) in
-      by j q.0 e x (sym (tr.within j.name (among_gives j.name fam q.1)) ∙ h)
+  kids_by r p names rest ex run by k hk =
+      own_by g u (head_of g p) (opened_run r p names rest) (kid g p names k) Chosen run (kid_seen g u leaf r p names rest wf run ex k hk) (λ j s n. by j s)
 
   pub agrees : (fuel m : ℕ) → IsSeenModule g u m → (e : List Event) → length e ≤ fuel → IsFilled g u leaf d m e → IsBy g u m Chosen e → Agrees g u leaf d m e
   agrees zero m seen [] h x by = absurd (x.started refl)
@@ -226,14 +210,11 @@ module _ (g : Grammar) (u : View) (leaf : Assignment) (Chosen : ℕ → ℕ → 
       by' : IsBy g u (head_of g p) Chosen (opened_run r p names rest)
       by' = subst (λ z. IsBy g u z Chosen (opened_run r p names rest)) (sym at_m) (subst (λ z. IsBy g u m Chosen (Start r ∷ Expand z p names ∷ rest)) at_r by)
 
-      told : expanded_by (opened_run r p names rest) r ≡ Some (record { production = p; names = names })
-      told = ap (λ b. cond {A = Option Expanded} b (Some (record { production = p; names = names })) (expanded_by rest r)) (bytes_same r r refl)
-
       by_view : ((m : ℕ) → IsSeenModule g u m → (e : List Event) → length e ≤ fuel → IsFilled g u leaf d m e → IsBy g u m Chosen e → Agrees g u leaf d m e) → (b : Bool) → expands u m ≡ b → Agrees g u leaf d m (Start r ∷ Expand i p names ∷ rest)
       by_view ih false ex = leaf_agrees m r (Start r ∷ Expand i p names ∷ rest) (shut_links g u leaf m r (Expand i p names ∷ rest) ex x.run) refl (ind.shown m seen ex)
       by_view ih true ex =
           let ex' : expands u (head_of g p) ≡ true = ap (expands u) at_m ∙ ex in
-          let ch : Chosen (head_of g p) p = by' (record { name = r; module_no = head_of g p }) (seen_kept g u (head_of g p) _ _ rest (inl refl)) ex' _ told in
+          let ch : Chosen (head_of g p) p = by' (record { name = r; module_no = head_of g p }) (seen_kept g u (head_of g p) _ _ rest (inl refl)) ex' _ (root_told r p names rest) in
           let a = open_agrees r p names rest (subst (IsSeenModule g u) (sym at_m) seen) ex' x' ch (kids_by r p names rest ex' x'.run by')
           (λ k s e l. ih k s e (omega arith)) in
           subst (λ z. Agrees g u leaf d m (Start r ∷ Expand z p names ∷ rest)) (sym at_r) (subst (λ z. Agrees g u leaf d z (opened_run r p names rest)) at_m a)

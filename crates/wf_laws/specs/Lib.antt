@@ -11,6 +11,7 @@ pub mod Alike
 pub mod Agreeing
 pub mod Ranked
 pub mod Chosen
+pub mod Settled
 pub mod NoReturn
 pub mod Examples
 pub mod LineGrammar

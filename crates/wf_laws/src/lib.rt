@@ -16,4 +16,6 @@ pub use runs::{
     all_seen_law, conditions_law, finished_law, finishing_law, grown_law, idle_law,
     no_other_finishing_law, open_law, order_law, rename_law, sub_run_law, taking_law,
 };
-pub use views::{chosen_law, default_view_law, ends_law, one_test_suffices, safety_law};
+pub use views::{
+    chosen_law, default_view_law, ends_law, one_test_suffices, safety_law, settled_law,
+};

@@ -1,6 +1,7 @@
 // Laws of views: the default one, and safe ones.
 ghost use Rattle.wf_laws.specs.Chosen.{ChosenLaw};
 ghost use Rattle.wf_laws.specs.Ranked.{EndsLaw};
+ghost use Rattle.wf_laws.specs.Settled.{SettledLaw};
 ghost use Rattle.wf_laws.specs.Views.{DefaultViewLaw};
 ghost use Rattle.wf_model.specs.Safe.{OneTestSuffices, SafetyLaw};
 
@@ -29,6 +30,13 @@ pub fn ends_law()
 /// The first joins the pairs that the chosen productions induce, the second those that the body of the production joins. So a production that does not induce the pairs of its head shows two expansions that disagree.
 pub fn chosen_law()
     ensures { ChosenLaw }
+{}
+
+/// A module has an expansion by chosen productions exactly where these settle it in finitely many rounds, and a production begins one that goes on by chosen productions exactly where these settle the modules of its body.
+///
+/// The first joins the pairs that settled chosen productions induce, the second those that the body of the production joins. So a choice that runs in a circle is told by the modules that it leaves unsettled.
+pub fn settled_law()
+    ensures { SettledLaw }
 {}
 
 /// A view is safe exactly if each production of a seen, expanded module induces the pairs of its head.

@@ -1,12 +1,13 @@
 -- Witnesses that a view is not safe: two expansions of one module that disagree on a pair.
-use Rattle.std.specs.Prelude.{◌≡◌, ◌↔◌, ◌⊎◌, ◌<◌, ℕ, Bool, true, false, IsTrue, List, map, length, get_or}
+use Rattle.std.specs.Prelude.{◌≡◌, ◌↔◌, ◌⊎◌, ◌<◌, ℕ, Bool, true, false, IsTrue, List, map, get_or}
 use Rattle.wf_model.specs.Lists.{IsIn, IsAt}
 use Rattle.wf_model.specs.Grammar.{Grammar, Assignment, inputs_of, outputs_of, head_of, IsProductionOf}
+use Rattle.wf_model.specs.WellFormed.{IsWellFormed}
 use Rattle.wf_model.specs.View.{View, expands, IsSeenModule}
 use Rattle.wf_model.specs.declared.event.Event.{Event}
 use Rattle.wf_model.specs.Safe.{IsExpansion, Joins, BodyJoins, IsBy, IsInducedBy, IsChosen, IsSafe}
 use Rattle.wf_laws.specs.Chosen.{IsByOther}
-use Rattle.wf_check.specs.Proper.{Ranking}
+use Rattle.wf_check.specs.Proper.{Ranking, IsRankingOf}
 use Rattle.wf_safe.specs.declared.witness.Choice.{Choice}
 use Rattle.wf_safe.specs.declared.witness.Witness.{Witness}
 use Rattle.wf_safe.specs.declared.fault.SafeFault.{SafeFault}
@@ -87,3 +88,7 @@ IsFault g u r NoMemory = Unit {0}
 -- a view with a witness is not safe
 abbrev pub WitnessLaw : Type 0
 WitnessLaw = (g : Grammar) (u : View) (w : Witness) → IsWitness g u w → ¬ IsSafe g u
+
+-- by one ranking a view of a grammar has one first witness
+abbrev pub OneWitnessLaw : Type 0
+OneWitnessLaw = (g : Grammar) (u : View) (r : Ranking) (w v : Witness) → IsWellFormed g → IsRankingOf g r → IsFirstWitness g u r w → IsFirstWitness g u r v → w ≡ v

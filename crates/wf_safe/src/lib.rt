@@ -4,11 +4,13 @@
 mod check;
 mod fault;
 mod full;
+mod law;
 mod safety;
 mod witness;
 
 pub use check::check_witness;
 pub use fault::SafeFault;
 pub use full::FullDeps;
+pub use law::{one_witness_law, witness_law};
 pub use safety::full_deps;
 pub use witness::{Choice, Witness};
