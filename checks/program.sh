@@ -40,8 +40,7 @@ nothing=$(text nothing '')
 
 check "the line example is answered" answers line
 check "the phylogeny of one step is answered" answers phylogeny-once
-check "the view of the recursive phylogeny is refused" \
-    says 2 'refused: view: NotBuilt\n' trace examples/phylogeny/spec examples/phylogeny/view examples/phylogeny/events examples/phylogeny/queries
+check "the recursive phylogeny is answered under its view" answers phylogeny
 
 check "no word is a usage" says 1 'usage: wfprov COMMAND WORDS\n'
 check "too few words are a usage" says 1 'usage: wfprov COMMAND WORDS\n' trace $line/spec
@@ -60,6 +59,63 @@ checks() {
 check "the line specification is accepted" checks line
 check "the phylogeny of one step is accepted" checks phylogeny-once
 check "the recursive phylogeny is accepted" checks phylogeny
+
+# Whether a view is safe and shows what stands beside it.
+shows() {
+    run view "examples/$1/spec" "examples/$1/view" && ended 0 "examples/$1/shown" "$nothing"
+}
+
+check "the view of the line is shown" shows line
+check "the view of the phylogeny of one step is shown" shows phylogeny-once
+check "the view of the recursive phylogeny is shown" shows phylogeny
+check "a view that is not safe is told with two expansions that disagree" \
+    says 2 'refused: view: Unsafe module L one 2 other 1 input x1 output y1 joined one choice S=0 L=2\n' \
+    view examples/skewed/spec examples/skewed/view
+check "no command takes a view that is not safe" \
+    says 2 'refused: view: Unsafe module L one 2 other 1 input x1 output y1 joined one choice S=0 L=2\n' \
+    trace examples/skewed/spec examples/skewed/view $line/events $line/queries
+
+# The skewed grammar under a view that does not expand the module whose expansions disagree.
+outer() {
+    run view examples/skewed/spec examples/skewed/outer &&
+        ended 0 "$(text expected_out 'S expanded a1>b1 a1>b2 a2>b1 a2>b2\nL shown x1>y1 x1>y2 x2>y1 x2>y2\n')" "$nothing"
+}
+check "a view that does not expand what disagrees is safe" outer
+
+# The line specification with this view.
+refuses_view() {
+    says 2 "refused: view: $1\n" view $line/spec "$(text some_view "$2")"
+}
+check "an unknown name comes before an atomic one" refuses_view 'UnknownModule expand 1' '{"expand":["P","Z"]}'
+check "an unknown name to be expanded comes before one of deps" refuses_view 'UnknownModule expand 0' '{"expand":["Z"],"deps":[{"module":"Y","pairs":[]}]}'
+check "an unknown module of deps comes before an atomic one to be expanded" refuses_view 'UnknownModule deps 0' '{"expand":["P"],"deps":[{"module":"Y","pairs":[]}]}'
+check "an atomic module is not expanded" refuses_view 'NotComposite expand 1' '{"expand":["S","P"]}'
+check "an atomic module to be expanded comes before deps on an expanded one" refuses_view 'NotComposite expand 0' '{"expand":["P","S"],"deps":[{"module":"S","pairs":[]}]}'
+check "pairs of an expanded module are refused" refuses_view 'DepsOnExpanded deps 1' '{"deps":[{"module":"P","pairs":[]},{"module":"S","pairs":[]}]}'
+check "pairs of an expanded module come before unknown ports" refuses_view 'DepsOnExpanded deps 1' '{"deps":[{"module":"P","pairs":[["x","z"]]},{"module":"S","pairs":[]}]}'
+check "a pair names an input and then an output" refuses_view 'UnknownPort deps 0' '{"deps":[{"module":"P","pairs":[["y","x"]]}]}'
+check "an unknown port comes before a module twice" refuses_view 'UnknownPort deps 1' '{"expand":["S","S"],"deps":[{"module":"P","pairs":[]},{"module":"Q","pairs":[["x","x"]]}]}'
+check "a module twice to be expanded comes before one twice in deps" refuses_view 'ModuleTwice expand 1' '{"expand":["S","S"],"deps":[{"module":"P","pairs":[]},{"module":"P","pairs":[]}]}'
+check "a module twice in deps is told by the later part" refuses_view 'ModuleTwice deps 1' '{"deps":[{"module":"P","pairs":[]},{"module":"P","pairs":[["x","y"]]}]}'
+check "the form of expand comes before that of deps" refuses_view 'WrongShape expand' '{"expand":null,"deps":null}'
+check "the form of deps is asked for" refuses_view 'WrongShape deps' '{"expand":["Z"],"deps":[{"module":"P"}]}'
+check "a view that is no JSON is told" refuses_view 'NotJson' '{}}'
+
+# A composite module whose deps part has no pairs joins nothing.
+closed() {
+    run view $line/spec "$(text shut '{"expand":[],"deps":[{"module":"S","pairs":[]}]}')" &&
+        ended 0 "$(text expected_out 'S shown\n')" "$nothing"
+}
+check "a module with an empty list of pairs has none" closed
+
+# What the outer view of the skewed grammar hides, it answers neither by yes nor by no.
+hidden() {
+    printf '{"start":"r"}\n{"expand":"r","production":0,"names":["l0"]}\n{"expand":"l0","production":1,"names":["w0","l1"]}\n' >"$work/inner"
+    run trace examples/skewed/spec examples/skewed/outer "$work/inner" "$(text both 'r.a1 r.b2\nw0.y1 r.b1\nr.a1 w0.y1\nr.a1 l0.y1\n')" &&
+        ended 0 "$(text expected_out 'yes\nhidden\nhidden\nunknown\n')" "$nothing"
+}
+check "items inside a module that is not expanded are hidden" hidden
+
 # The recursive phylogeny under the default view, whose answers are those of the same file but for what the view changes.
 recursive() {
     run trace examples/phylogeny/spec $line/view examples/phylogeny/events "$(text both 'run.cfg run.tree\nrun.cfg run.report\nrl0.m2 rl56.m2\nrl56.m2 rl0.m2\n')" &&
@@ -111,6 +167,8 @@ check "an unknown port is told by its production" \
 check "a module that is not reached is told by its name" says 2 'refused: spec: Unreachable R\n' \
     check "$(text reach '{"start":"S","modules":[{"name":"S"},{"name":"R"},{"name":"W"}],"productions":[{"head":"S","body":[["q","W"]]},{"head":"R","body":[["q","W"]]}]}')"
 
+check "an absent view of the command view is a fault of reading" says 3 'fault: reading view\n' view $line/spec "$work/absent"
+check "the command view with a word too many is a usage" says 1 'usage: wfprov COMMAND WORDS\n' view $line/spec $line/view more
 for place in spec view events queries; do
     files=()
     for file in spec view events queries; do
@@ -126,8 +184,6 @@ check "a folder is a fault of reading" says 3 'fault: reading spec\n' trace $lin
 check "a refused file comes before an absent one" \
     says 2 'refused: spec: NotJson\n' trace "$(text cut '{"start"')" "$work/absent" $line/events $line/queries
 
-check "a view that is not the default one is refused" \
-    says 2 'refused: view: NotBuilt\n' trace $line/spec "$(text shut '{"expand":[]}')" $line/events $line/queries
 check "a run that is not finished is refused" \
     says 2 'refused: events: NotBuilt\n' trace $line/spec $line/view "$(text begun '{"start":"r"}\n')" $line/queries
 check "an event that does not extend the run is told by its line" \
@@ -159,6 +215,8 @@ spaces() {
     echo "$work/$1"
 }
 
+check "a view that is too long is refused" \
+    says 2 'refused: view: TooLong\n' view $line/spec "$(spaces long_view 16777217)"
 check "a specification that is too long is refused" \
     says 2 'refused: spec: TooLong\n' trace "$(spaces long 16777217)" $line/view $line/events $line/queries
 
