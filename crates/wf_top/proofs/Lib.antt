@@ -6,6 +6,7 @@ pub mod OneFault
 pub mod OneCycles
 pub mod OneRunFault
 pub mod OneText
+pub mod OneViewText
 pub mod CompositeLines
 pub mod SpecSteps
 pub mod Answering
