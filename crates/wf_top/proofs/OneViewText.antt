@@ -1,5 +1,5 @@
 -- A view of a proper grammar has one text, whichever test of seen modules and full assignment it is written by.
-use Rattle.std.proofs.Common.{◌≡◌, ◌≢◌, ◌↔◌, IsTrue, ℕ, ◌+◌, ◌<◌, Bool, true, false, cond, List, [], ◌∷◌, ◌++◌, length, refl, sym, ap, ◌∙◌, inl, inr, ⊎_elim, arith}
+use Rattle.std.proofs.Common.{◌≡◌, ◌↔◌, IsTrue, ℕ, ◌<◌, Bool, true, false, cond, List, [], ◌∷◌, ◌++◌, length, refl, sym, ap, ◌∙◌, inl, inr, ⊎_elim, arith}
 use Rattle.std.specs.Prelude.{codes, filter, flat_map}
 use Rattle.wf_model.specs.declared.event.Event.{Event}
 use Rattle.wf_model.specs.declared.event.Event.TheVariants.{Start}
@@ -14,7 +14,7 @@ use Rattle.wf_model.proofs.Lists.{filter_same, in_filter_from}
 use Rattle.wf_model.proofs.Level.{in_numbers}
 use Rattle.wf_laws.proofs.Growth.{finishing_law}
 use Rattle.wf_view.specs.Viewing.{name_of}
-use Rattle.wf_top.specs.ViewText.{pair_text, row_text, pairs_text, state_text, module_line, IsSeenTest, view_text_of}
+use Rattle.wf_top.specs.ViewText.{pair_text, row_text, state_text, module_line, IsSeenTest, view_text_of}
 
 -- two tests that tell the same are the same
 same_tests : {P : Type 0} (s t : Bool) → IsTrue s ↔ P → IsTrue t ↔ P → s ≡ t
