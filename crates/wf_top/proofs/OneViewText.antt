@@ -1,5 +1,5 @@
 -- A view of a proper grammar has one text, whichever test of seen modules and full assignment it is written by.
-use Rattle.std.proofs.Common.{◌≡◌, ◌↔◌, IsTrue, ℕ, ◌<◌, Bool, true, false, cond, List, [], ◌∷◌, ◌++◌, length, refl, sym, ap, ◌∙◌, inl, inr, ⊎_elim, arith}
+use Rattle.std.proofs.Common.{◌≡◌, ◌↔◌, IsTrue, ℕ, ◌<◌, Bool, cond, List, [], ◌∷◌, ◌++◌, length, refl, ap, ◌∙◌, inl, inr, ⊎_elim, arith}
 use Rattle.std.specs.Prelude.{codes, filter, flat_map}
 use Rattle.wf_model.specs.declared.event.Event.{Event}
 use Rattle.wf_model.specs.declared.event.Event.TheVariants.{Start}
@@ -14,13 +14,12 @@ use Rattle.wf_model.proofs.Lists.{filter_same, in_filter_from}
 use Rattle.wf_model.proofs.Level.{in_numbers}
 use Rattle.wf_laws.proofs.Growth.{finishing_law}
 use Rattle.wf_view.specs.Viewing.{name_of}
+use Rattle.wf_view.proofs.Flagged.{same_tests}
 use Rattle.wf_top.specs.ViewText.{pair_text, row_text, state_text, module_line, IsSeenTest, view_text_of}
 
 -- two tests that tell the same are the same
-same_tests : {P : Type 0} (s t : Bool) → IsTrue s ↔ P → IsTrue t ↔ P → s ≡ t
-same_tests true t p q = sym (q.1 (p.0 refl))
-same_tests false true p q = p.1 (q.0 refl)
-same_tests false false p q = refl
+one_test : {P : Type 0} (s t : Bool) → IsTrue s ↔ P → IsTrue t ↔ P → s ≡ t
+one_test s t p q = same_tests s t (λ e. q.1 (p.0 e)) (λ e. p.1 (q.0 e))
 
 -- texts of the same elements are the same
 each_same : (f h : ℕ → List ℕ) (xs : List ℕ) → ((x : ℕ) → IsIn x xs → f x ≡ h x) → flat_map f xs ≡ flat_map h xs
@@ -50,7 +49,7 @@ expanded g u proper composites m =
 module _ (g : Grammar) (u : View) (proper : IsProper g) (composites : ExpandsComposites g u) (seen test : ℕ → Bool) (c d : Assignment) (s : IsSeenTest g u seen) (t : IsSeenTest g u test) (p : IsFull g u c) (q : IsFull g u d) where
   -- a pair of a seen module is joined by each of its expansions, so both assignments have it or neither
   same_pair : (m : ℕ) → IsSeenModule g u m → (i o : ℕ) → i < inputs_of g m → o < outputs_of g m → c m i o ≡ d m i o
-  same_pair m h i o j k = let e = expanded g u proper composites m in same_tests (c m i o) (d m i o) (p m h e.0 e.1 i o j k) (q m h e.0 e.1 i o j k)
+  same_pair m h i o j k = let e = expanded g u proper composites m in one_test (c m i o) (d m i o) (p m h e.0 e.1 i o j k) (q m h e.0 e.1 i o j k)
 
   -- so its line is one
   same_line : (m : ℕ) → IsSeenModule g u m → module_line g u c m ≡ module_line g u d m
@@ -64,5 +63,5 @@ module _ (g : Grammar) (u : View) (proper : IsProper g) (composites : ExpandsCom
   one_view_text =
       let all = numbers_from 0 (length g.modules) in
       let bound = below (length g.modules) in
-      ap (flat_map (module_line g u c)) (filter_same seen test all (λ m i. same_tests (seen m) (test m) (s m (bound m i)) (t m (bound m i))))
+      ap (flat_map (module_line g u c)) (filter_same seen test all (λ m i. one_test (seen m) (test m) (s m (bound m i)) (t m (bound m i))))
       ∙ each_same (module_line g u c) (module_line g u d) (filter test all) (λ m i. let r = in_filter_from test m all i in same_line m ((t m (bound m r.0)).0 r.1))
