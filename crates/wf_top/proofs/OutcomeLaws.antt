@@ -75,7 +75,7 @@ one_spec_stage spec Next next =
 told_formed : (bytes : List ℕ) (g : Grammar) → TellsGrammar bytes g → IsWellFormed g
 told_formed bytes g t = subst IsWellFormed (sym t.is) t.formed.well_formed
 
--- so has that of VIEW
+-- the stage of VIEW has one outcome where what follows has
 one_view_stage : (bytes : List ℕ) (g : Grammar) → TellsGrammar bytes g → (view : File) (Next : ViewOf → End → List ℕ → Type 0) → ((u : ViewOf) → TellsView g view.bytes u → (d e : End) (t s : List ℕ) → Next u d t → Next u e s → AreSame d e t s) →
     (d e : End) (t s : List ℕ) → ViewStage g view Next d t → ViewStage g view Next e s → AreSame d e t s
 one_view_stage bytes g told view Next next =
