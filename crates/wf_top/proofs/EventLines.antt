@@ -19,7 +19,7 @@ use Rattle.wf_top.specs.Refusals.{run_name}
 use Rattle.wf_top.specs.RunTold.{IsEventText, AreEvents, RefusesText, RefusesLines, RefusesRun}
 use Rattle.wf_top.specs.Outcome.{instance_most}
 use Rattle.wf_top.specs.Stages.{Declines}
-use Rattle.wf_top.proofs.SpecSteps.{declines_by}
+use Rattle.wf_top.proofs.Stages.{declines_by}
 
 -- what declines is handed on as it is
 pub handed_on : {T : Type 0} (place : Place) (Q : Option ℕ → List ℕ → Type 0) (r : Result T Ending) (d : Ending) → (y : Ending) × (r ≡ Err y) × (y ≡ d) → Declines place Q (end_of d) → IfErr r (λ e. Declines place Q (end_of e))
@@ -44,9 +44,6 @@ pub record IsTaken (g : Grammar) (all left : List Line) (t : Table) : Type 0 whe
   pub most : t.most ≡ instance_most
   pub forth : (more : List Event) → AreEvents left more → AreEvents all (events_of t ++ more)
   pub refused : (line : Option ℕ) (fault : List ℕ) → RefusesLines g instance_most (events_of t) left line fault → RefusesLines g instance_most [] all line fault
-
-seam : (a : List Event) (e : Event) (b : List Event) → (a ++ e ∷ []) ++ b ≡ a ++ e ∷ b
-seam a e b = append_assoc a (e ∷ []) b
 
 -- before the first line
 pub taken_none : (g : Grammar) (all left : List Line) (t : Table) → t ≡ record { most = instance_most; instances = []; order = [] } → left ≡ all → IsTaken g all left t
@@ -84,7 +81,7 @@ module _ (g : Grammar) (all : List Line) (old new : LinesLeft) (t : Table) (take
       run = run;
       most = most;
       forth = λ more k.
-          subst (AreEvents all) (sym (seam (events_of t) h.0 more) ∙ ap (λ x. x ++ more) (sym h.3))
+          subst (AreEvents all) (sym (append_assoc (events_of t) (h.0 ∷ []) more) ∙ ap (λ x. x ++ more) (sym h.3))
           (taken.forth (h.0 ∷ more) (subst (λ x. AreEvents x (h.0 ∷ more)) (sym lends.takes.left) ((lends.short, told), k)));
       refused = λ line fault k.
           taken.refused line fault (subst (λ x. RefusesLines g instance_most (events_of t) x line fault) (sym lends.takes.left)

@@ -1,11 +1,15 @@
 pub mod Putting
 pub mod Stages
 pub mod OneOutcome
+pub mod OneRefusal
 pub mod OneLoops
 pub mod OneFault
 pub mod OneCycles
 pub mod OneRunFault
 pub mod OneText
+pub mod OneViewFault
+pub mod OneViewText
+pub mod ViewComposites
 pub mod CompositeLines
 pub mod SpecSteps
 pub mod Answering

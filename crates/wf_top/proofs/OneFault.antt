@@ -1,14 +1,12 @@
 -- A specification has one fault at most, and none where it tells a grammar.
-use Rattle.std.proofs.Common.{◌≡◌, ℕ, ◌⊎◌, List, [], ◌∷◌, ◌++◌, length, get_or, Some, None, refl, sym, ap, ◌∙◌, subst, inl, inr, ⊎_elim, arith}
+use Rattle.std.proofs.Common.{◌≡◌, ℕ, ◌⊎◌, List, [], ◌∷◌, ◌++◌, length, get_or, refl, sym, ap, ◌∙◌, subst, inl, inr, ⊎_elim, arith}
 use Rattle.std.specs.Prelude.{codes, map}
 use Rattle.std.proofs.lemmas.Bool.{cases_lt}
-use Rattle.serde_json.specs.Data.{Data}
 use Rattle.wf_model.specs.declared.parts.Parts.{Parts}
 use Rattle.wf_model.specs.declared.numbers.ProdNo.{ProdNo}
 use Rattle.wf_model.specs.Lists.{IsIn, Walk, here, onward}
 use Rattle.wf_model.specs.Grammar.{Grammar, body_of, module_at}
 use Rattle.wf_model.specs.Proper.{Becomes, IsProper}
-use Rattle.wf_json.specs.Reading.{IsReading, HasNoReading}
 use Rattle.wf_json.specs.SpecForm.{spec_of}
 use Rattle.wf_spec.specs.declared.fault.FormFault.{FormFault}
 use Rattle.wf_spec.specs.Forming.{grammar_of, IsFormed}
@@ -17,13 +15,13 @@ use Rattle.wf_spec.proofs.Lawful.{law}
 use Rattle.wf_check.specs.declared.fault.CheckFault.{CheckFault}
 use Rattle.wf_check.specs.declared.fault.CheckFault.TheVariants.{Unreachable, Unproductive, UnitCycle, NoMemory}
 use Rattle.wf_check.specs.Improper.{IsLeastWithout, UnitPath, IsUnitCycle, IsFirstOf, IsToldCycle, IsFaultOf as IsFaultOfGrammar}
-use Rattle.wf_top.specs.Refusals.{numbers_text, form_text, shape_text, check_text}
-use Rattle.wf_top.specs.Specification.{TellsGrammar, RefusesGrammar, RefusesParts, RefusesData, RefusesSpec}
+use Rattle.wf_top.specs.Refusals.{numbers_text, form_text, check_text}
+use Rattle.wf_top.specs.Specification.{TellsGrammar, RefusesGrammar, RefusesParts, RefusesSpec}
 use Rattle.wf_top.proofs.OneLoops.{one_of_loops, none_of_linear}
-use Rattle.wf_top.proofs.OneOutcome.{one_reading, one_ok, one_err, ok_not_err}
+use Rattle.wf_top.proofs.OneRefusal.{one_of_bytes, none_of_bytes}
 
 -- a rule fails first at one place
-one_place : (places : ℕ) (Holds : ℕ → Type 0) (j k : ℕ) → FailsFirstAt places Holds j → FailsFirstAt places Holds k → j ≡ k
+pub one_place : (places : ℕ) (Holds : ℕ → Type 0) (j k : ℕ) → FailsFirstAt places Holds j → FailsFirstAt places Holds k → j ≡ k
 one_place places Holds j k p q =
     ⊎_elim (λ h. absurd (p.fails (q.before j h)))
     (λ h. ⊎_elim (λ l. absurd (q.fails (p.before k l))) (λ l. omega arith) (cases_lt k j)) (cases_lt j k)
@@ -142,35 +140,15 @@ one_refusal_of_parts parts x y (inl p) (inr q) = absurd (none_of_formed parts p.
 one_refusal_of_parts parts x y (inr p) (inl q) = absurd (none_of_formed parts q.0 p.0 q.1)
 one_refusal_of_parts parts x y (inr p) (inr q) = one_refusal_of_grammar (grammar_of parts) x y p.1 q.1
 
-one_refusal_of_data : (d : Data) (x y : List ℕ) → RefusesData d x → RefusesData d y → x ≡ y
-one_refusal_of_data d x y (inl p) (inl q) = p.2 ∙ (ap shape_text (one_err (spec_of d) p.0 q.0 p.1 q.1) ∙ sym q.2)
-one_refusal_of_data d x y (inl p) (inr q) = absurd (ok_not_err (spec_of d) q.0 p.0 q.1 p.1)
-one_refusal_of_data d x y (inr p) (inl q) = absurd (ok_not_err (spec_of d) p.0 q.0 p.1 q.1)
-one_refusal_of_data d x y (inr p) (inr q) = one_refusal_of_parts q.0 x y (subst (λ z. RefusesParts z x) (one_ok (spec_of d) p.0 q.0 p.1 q.1) p.2) q.2
-
-unread : (bytes : List ℕ) (d : Data) → HasNoReading bytes → IsReading bytes d → ⊥
-unread bytes d none h = let e : Some d ≡ None = sym h.1 ∙ none h.0 in absurd (cc)
-
 -- the bytes of a specification have one refusal
 pub one_refusal : (bytes x y : List ℕ) → RefusesSpec bytes x → RefusesSpec bytes y → x ≡ y
-one_refusal bytes x y (inl p) (inl q) = p.1 ∙ sym q.1
-one_refusal bytes x y (inl p) (inr q) = absurd (unread bytes q.0 p.0 q.1)
-one_refusal bytes x y (inr p) (inl q) = absurd (unread bytes p.0 q.0 p.1)
-one_refusal bytes x y (inr p) (inr q) = one_refusal_of_data q.0 x y (subst (λ d. RefusesData d x) (one_reading bytes p.0 q.0 p.1 q.1) p.2) q.2
+one_refusal = one_of_bytes spec_of RefusesParts one_refusal_of_parts
 
-no_refusal_of_parts : (parts : Parts) (bytes x : List ℕ) (g : Grammar) (t : TellsGrammar bytes g) → t.parts ≡ parts → RefusesParts parts x → ⊥
-no_refusal_of_parts parts bytes x g t e (inl p) = none_of_formed t.parts p.0 t.formed (subst (λ z. IsFaultOfParts z p.0) (sym e) p.1)
-no_refusal_of_parts parts bytes x g t e (inr p) = go (subst (λ z. RefusesGrammar (grammar_of z) x) (sym e) p.1)
-  where
-    go : RefusesGrammar (grammar_of t.parts) x → ⊥
-    go (inl q) = none_of_proper (grammar_of t.parts) q.0 t.proper q.1
-    go (inr q) = none_of_linear (grammar_of t.parts) q.1.0 t.linear q.1.1
-
-no_refusal_of_data : (d : Data) (bytes x : List ℕ) (g : Grammar) (t : TellsGrammar bytes g) → t.read.0 ≡ d → RefusesData d x → ⊥
-no_refusal_of_data d bytes x g t e (inl p) = ok_not_err (spec_of d) t.parts p.0 (sym (ap spec_of e) ∙ t.read.2) p.1
-no_refusal_of_data d bytes x g t e (inr p) = no_refusal_of_parts p.0 bytes x g t (one_ok (spec_of d) t.parts p.0 (sym (ap spec_of e) ∙ t.read.2) p.1) p.2
+no_refusal_of_parts : (bytes : List ℕ) (g : Grammar) (t : TellsGrammar bytes g) (x : List ℕ) → RefusesParts t.parts x → ⊥
+no_refusal_of_parts bytes g t x (inl p) = none_of_formed t.parts p.0 t.formed p.1
+no_refusal_of_parts bytes g t x (inr (_, inl q)) = none_of_proper (grammar_of t.parts) q.0 t.proper q.1
+no_refusal_of_parts bytes g t x (inr (_, inr q)) = none_of_linear (grammar_of t.parts) q.1.0 t.linear q.1.1
 
 -- bytes that tell a grammar have none
 pub no_refusal : (bytes x : List ℕ) (g : Grammar) → TellsGrammar bytes g → RefusesSpec bytes x → ⊥
-no_refusal bytes x g t (inl p) = unread bytes t.read.0 p.0 t.read.1
-no_refusal bytes x g t (inr p) = no_refusal_of_data p.0 bytes x g t (one_reading bytes t.read.0 p.0 t.read.1 p.1) p.2
+no_refusal bytes x g t = none_of_bytes spec_of RefusesParts t.parts (no_refusal_of_parts bytes g t) bytes x t.read

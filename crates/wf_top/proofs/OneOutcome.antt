@@ -2,7 +2,6 @@
 use Rattle.std.proofs.Common.{◌≡◌, ℕ, Bool, true, false, List, [], ◌∷◌, ◌++◌, Option, Some, None, unwrap_or, refl, sym, ap, ◌∙◌, subst, inl, inr, append-nil}
 use Rattle.std.specs.Prelude.{Result, Ok, Err, codes}
 use Rattle.serde_json.specs.Data.{Data}
-use Rattle.wf_model.specs.declared.parts.Parts.{Parts}
 use Rattle.wf_model.specs.declared.event.Event.{Event}
 use Rattle.wf_model.specs.Grammar.{Grammar}
 use Rattle.wf_model.specs.View.{View}
@@ -10,15 +9,19 @@ use Rattle.wf_model.specs.Run.{IsRun, IsFinished}
 use Rattle.wf_model.specs.Items.{Item}
 use Rattle.wf_model.specs.Finishing.{IsFinishing}
 use Rattle.wf_io.specs.Lines.{Line, text_of}
+use Rattle.wf_json.specs.declared.fault.Member.{Member}
 use Rattle.wf_json.specs.Reading.{IsReading}
 use Rattle.wf_json.specs.SpecForm.{spec_of}
+use Rattle.wf_json.specs.ViewForm.{view_of as parts_in}
 use Rattle.wf_events.specs.EventForm.{event_of}
 use Rattle.wf_spec.specs.Forming.{grammar_of}
+use Rattle.wf_view.specs.Viewing.{view_of}
 use Rattle.wf_query.proofs.Names.{query_law}
 use Rattle.wf_top.specs.Answers.{are_visible, IsShown, IsAnswerFor, IsAnswer}
-use Rattle.wf_top.specs.Specification.{IsSpecText, TellsGrammar}
+use Rattle.wf_top.specs.Specification.{TellsGrammar}
+use Rattle.wf_top.specs.ViewTold.{TellsView}
 use Rattle.wf_top.specs.RunTold.{IsEventText, AreEvents, TellsRun}
-use Rattle.wf_top.specs.Outcome.{TellsView, IsAnswered}
+use Rattle.wf_top.specs.Outcome.{IsAnswered}
 
 pub some_same : {A : Type 0} (x y : A) → Some x ≡ Some y → x ≡ y
 some_same x y e = ap (λ o. unwrap_or o x) e
@@ -42,15 +45,18 @@ ok_not_err r x y p q = let e = sym p ∙ q in absurd (cc)
 pub one_reading : (bytes : List ℕ) (d c : Data) → IsReading bytes d → IsReading bytes c → d ≡ c
 one_reading bytes d c p q = some_same d c (sym p.1 ∙ q.1)
 
-pub one_parts : (bytes : List ℕ) (p q : Parts) → IsSpecText bytes p → IsSpecText bytes q → p ≡ q
-one_parts bytes p q h k =
-    ap (ok_or p) (sym h.2 ∙ (ap spec_of (one_reading bytes h.0 k.0 h.1 k.1) ∙ k.2))
+-- the bytes are something in JSON, by its form
+abbrev pub IsSaid : {A : Type 0} → (Data → Result A Member) → List ℕ → A → Type 0
+IsSaid form bytes a = (d : Data) × IsReading bytes d × (form d ≡ Ok a)
+
+one_said : {A : Type 0} (form : Data → Result A Member) (bytes : List ℕ) (a b : A) → IsSaid form bytes a → IsSaid form bytes b → a ≡ b
+one_said form bytes a b p q = one_ok (form q.0) a b (ap form (sym (one_reading bytes p.0 q.0 p.1 q.1)) ∙ p.2) q.2
 
 pub one_grammar : (bytes : List ℕ) (g h : Grammar) → TellsGrammar bytes g → TellsGrammar bytes h → h ≡ g
-one_grammar bytes g h p q = q.is ∙ (ap grammar_of (one_parts bytes q.parts p.parts q.read p.read) ∙ sym p.is)
+one_grammar bytes g h p q = q.is ∙ (ap grammar_of (one_said spec_of bytes q.parts p.parts q.read p.read) ∙ sym p.is)
 
 pub one_view : (g : Grammar) (bytes : List ℕ) (u v : View) → TellsView g bytes u → TellsView g bytes v → v ≡ u
-one_view g bytes u v p q = q.1 ∙ sym p.1
+one_view g bytes u v p q = q.is ∙ (ap (view_of g) (one_said parts_in bytes q.parts p.parts q.read p.read) ∙ sym p.is)
 
 pub one_event : (text : List ℕ) (e f : Event) → IsEventText text e → IsEventText text f → e ≡ f
 one_event text e f p q =

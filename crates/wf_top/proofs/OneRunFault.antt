@@ -26,15 +26,12 @@ accepted_before g limit a b h =
           h.2 n (subst (λ x. IsIn x (names_of (made g g.start (a ++ b)))) (sym r.2) (name_in r.0 _ (subst (λ l. IsIn r.0 l) (sym e) (in_append_left r.0 (made g g.start a) (made g g.start b) r.1)))),
     )
 
-seam : (a : List Event) (e : Event) (b : List Event) → (a ++ e ∷ []) ++ b ≡ a ++ e ∷ b
-seam a e b = append_assoc a (e ∷ []) b
-
 module _ (g : Grammar) (limit : ℕ) where
   -- a run that is accepted took each of its events
   takes : (before : List Event) (e : Event) (es : List Event) → IsAccepted g limit (before ++ e ∷ es) → fault_of g limit before e ≡ None
   takes before e es acc =
       (taking_law g limit before e (accepted_before g limit before (e ∷ es) acc)).1
-      (accepted_before g limit (before ++ e ∷ []) es (subst (IsAccepted g limit) (sym (seam before e es)) acc))
+      (accepted_before g limit (before ++ e ∷ []) es (subst (IsAccepted g limit) (sym (append_assoc before (e ∷ []) es)) acc))
 
   one_event_fault : (before : List Event) (text x y : List ℕ) → RefusesEvent g limit before text x → RefusesEvent g limit before text y → x ≡ y
   one_event_fault before text x y p q =
@@ -78,7 +75,7 @@ module _ (g : Grammar) (limit : ℕ) where
   none_refused (k ∷ ks) [] before l x read acc h = absurd read
   none_refused (k ∷ ks) (e ∷ es) before l x read acc (inl p) = not_taken before k l x e p read.0 (takes before e es acc)
   none_refused (k ∷ ks) (e ∷ es) before l x read acc (inr p) =
-      none_refused ks es (before ++ e ∷ []) l x read.1 (subst (IsAccepted g limit) (sym (seam before e es)) acc)
+      none_refused ks es (before ++ e ∷ []) l x read.1 (subst (IsAccepted g limit) (sym (append_assoc before (e ∷ []) es)) acc)
       (subst (λ d. RefusesLines g limit (before ++ d ∷ []) ks l x) (one_event (text_of k.raw) p.0 e p.1.1 read.0.1) p.3)
 
   module _ (u : View) (bytes : List ℕ) where

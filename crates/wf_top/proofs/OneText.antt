@@ -18,7 +18,7 @@ use Rattle.wf_top.specs.Outcome.{IsChecked}
 use Rattle.wf_top.specs.Meets.{Appended, EndsBy}
 use Rattle.wf_top.proofs.OneCycles.{one_told}
 
-same_number : (a b : ℕ) → (a == b) ≡ true → a ≡ b
+pub same_number : (a b : ℕ) → (a == b) ≡ true → a ≡ b
 same_number a b e = grind (arith, nat_tests)
 
 -- a module has one rank
@@ -26,7 +26,7 @@ one_rank : (g : Grammar) (m j k : ℕ) → IsRank g m j → IsRank g m k → j �
 one_rank g m j k p q = let a = p.1 k q.0 in let b = q.1 j p.0 in omega arith
 
 -- and one choice
-one_choice : (g : Grammar) (m j k : ℕ) → IsChoice g m j → IsChoice g m k → j ≡ k
+pub one_choice : (g : Grammar) (m j k : ℕ) → IsChoice g m j → IsChoice g m k → j ≡ k
 one_choice g m j k p q = let a = p.1 k q.0 in let b = q.1 j p.0 in omega arith
 
 -- a head is composite

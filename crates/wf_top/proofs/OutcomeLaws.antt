@@ -4,22 +4,28 @@ use Rattle.wf_model.specs.declared.event.Event.{Event}
 use Rattle.wf_model.specs.Grammar.{Grammar}
 use Rattle.wf_model.specs.View.{View as ViewOf}
 use Rattle.wf_model.specs.Run.{IsRun, IsFinished}
+use Rattle.wf_model.specs.Proper.{IsProper}
 use Rattle.wf_model.specs.Linear.{IsLinear}
+use Rattle.wf_model.specs.WellFormed.{IsWellFormed}
 use Rattle.wf_io.specs.Told.{File}
 use Rattle.wf_io.specs.Lines.{Line}
 use Rattle.wf_top.specs.declared.ending.Place.{Place}
 use Rattle.wf_top.specs.declared.ending.Place.TheVariants.{Spec, View, Events, Queries}
 use Rattle.wf_top.specs.Endings.{End, Refused}
-use Rattle.wf_top.specs.Words.{Command, Check, Trace, command_of}
+use Rattle.wf_top.specs.Words.{Command, Check, View as ViewCommand, Trace, command_of}
 use Rattle.wf_top.specs.Specification.{TellsGrammar, RefusesSpec}
 use Rattle.wf_top.specs.Telling.{IsNotBuilt, OfWhole}
+use Rattle.wf_top.specs.ViewTold.{TellsView, RefusesView}
 use Rattle.wf_top.specs.RunTold.{TellsRun, RefusesRun}
-use Rattle.wf_top.specs.Outcome.{Stage, too_long, broken, refused, goes_on, TellsView, TellsLines, AreAnswered, SpecStage, IsChecked, Checks, Traces, Does, short_most, long_most}
+use Rattle.wf_top.specs.Outcome.{Stage, too_long, broken, refused, goes_on, TellsLines, AreAnswered, SpecStage, ViewStage, IsChecked, IsViewWritten, Checks, Views, Traces, Does, short_most, long_most}
 use Rattle.wf_top.specs.Laws.{OneOutcomeLaw}
 use Rattle.wf_top.proofs.OneOutcome.{one_grammar, one_view, one_run, one_written}
 use Rattle.wf_top.proofs.OneFault.{one_refusal, no_refusal}
+use Rattle.wf_top.proofs.OneViewFault.{one_refusal_of_view, no_refusal_of_view}
 use Rattle.wf_top.proofs.OneRunFault.{one_refusal_of_run, no_refusal_of_run}
 use Rattle.wf_top.proofs.OneText.{one_text}
+use Rattle.wf_top.proofs.OneViewText.{one_view_text}
+use Rattle.wf_top.proofs.ViewComposites.{told_composites}
 
 -- ends and texts that are the same
 abbrev AreSame : End → End → List ℕ → List ℕ → Type 0
@@ -65,6 +71,16 @@ one_spec_stage : (spec : File) (Next : Grammar → End → List ℕ → Type 0) 
 one_spec_stage spec Next next =
     one_stage short_most Spec spec TellsGrammar (OfWhole RefusesSpec) Next (one_grammar spec.bytes) (λ l m x y p q. (p.0 ∙ sym q.0, one_refusal spec.bytes x y p.1 q.1)) (λ g l x t r. no_refusal spec.bytes x g t r.1) next
 
+-- a told grammar is well-formed
+told_formed : (bytes : List ℕ) (g : Grammar) → TellsGrammar bytes g → IsWellFormed g
+told_formed bytes g t = subst IsWellFormed (sym t.is) t.formed.well_formed
+
+-- the stage of VIEW has one outcome where what follows has
+one_view_stage : (bytes : List ℕ) (g : Grammar) → TellsGrammar bytes g → (view : File) (Next : ViewOf → End → List ℕ → Type 0) → ((u : ViewOf) → TellsView g view.bytes u → (d e : End) (t s : List ℕ) → Next u d t → Next u e s → AreSame d e t s) →
+    (d e : End) (t s : List ℕ) → ViewStage g view Next d t → ViewStage g view Next e s → AreSame d e t s
+one_view_stage bytes g told view Next next =
+    one_stage short_most View view (TellsView g) (OfWhole (RefusesView g)) Next (one_view g view.bytes) (λ l m x y p q. (p.0 ∙ sym q.0, one_refusal_of_view g (told_formed bytes g told) view.bytes x y p.1 q.1)) (λ u l x t r. no_refusal_of_view g view.bytes x u t r.1) next
+
 one_answers : (g : Grammar) (u : ViewOf) (e : List Event) → IsRun g g.start e → IsFinished g u g.start e → (ls : List Line) (d f : End) (t s : List ℕ) → AreAnswered g u e ls d t → AreAnswered g u e ls f s → AreSame d f t s
 one_answers g u e run fin [] d f t s p q = (p.0 ∙ sym q.0, p.1 ∙ sym q.1)
 one_answers g u e run fin (l ∷ ls) d f t s (inl p) (inl q) = (p.1 ∙ sym q.1, p.2 ∙ sym q.2)
@@ -78,7 +94,7 @@ one_answers g u e run fin (l ∷ ls) d f t s (inr p) (inr q) =
 one_trace : (spec view events queries : File) (d e : End) (t s : List ℕ) → Traces spec view events queries d t → Traces spec view events queries e s → AreSame d e t s
 one_trace spec view events queries =
     one_spec_stage spec _ (λ g p.
-    one_open_stage short_most View view (TellsView g) _ (one_view g view.bytes) (λ u q.
+    one_view_stage spec.bytes g p view _ (λ u q.
     one_stage long_most Events events (TellsRun g u _) (RefusesRun g u _) _ (one_run g u _ events.bytes) (one_refusal_of_run g _ u events.bytes) (no_refusal_of_run g _ u events.bytes) (λ r told.
     one_open_stage long_most Queries queries TellsLines _ (λ a b x y. y ∙ sym x) (λ ls h. one_answers g u r told.accepted.0 told.finished ls))))
 
@@ -86,9 +102,17 @@ one_check : (spec : File) (d e : End) (t s : List ℕ) → Checks spec d t → C
 one_check spec = one_spec_stage spec IsChecked (λ g told d e t s p q.
     (p.0 ∙ sym q.0, p.1.4 ∙ (one_text g (subst IsLinear (sym told.is) told.linear) p.1.0 q.1.0 p.1.2 q.1.2 p.1.1 q.1.1 p.1.3 q.1.3 ∙ sym q.1.4)))
 
+one_views : (spec view : File) (d e : End) (t s : List ℕ) → Views spec view d t → Views spec view e s → AreSame d e t s
+one_views spec view = one_spec_stage spec _ (λ g told. one_view_stage spec.bytes g told view (IsViewWritten g) (λ u shown d e t s p q. (
+  p.0 ∙ sym q.0,
+  p.1.4 ∙ (one_view_text g u (subst IsProper (sym told.is) told.proper) (told_composites g (told_formed spec.bytes g told) view.bytes u shown)
+      p.1.0 q.1.0 p.1.1 q.1.1 p.1.2 q.1.2 p.1.3 q.1.3 ∙ sym q.1.4),
+)))
+
 one_doing : (files : List ℕ → File) (c : Option Command) (d e : End) (t s : List ℕ) → Does files c d t → Does files c e s → AreSame d e t s
 one_doing files None d e t s p q = (p.0 ∙ sym q.0, p.1 ∙ sym q.1)
 one_doing files (Some (Check a)) d e t s p q = one_check (files a) d e t s p q
+one_doing files (Some (ViewCommand a b)) d e t s p q = one_views (files a) (files b) d e t s p q
 one_doing files (Some (Trace a b c f)) d e t s p q = one_trace (files a) (files b) (files c) (files f) d e t s p q
 
 pub one_outcome_law : OneOutcomeLaw

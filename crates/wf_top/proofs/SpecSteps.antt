@@ -1,5 +1,5 @@
 -- How the steps of reading a specification make what its bytes tell.
-use Rattle.std.proofs.Common.{◌≡◌, ◌⊎◌, ℕ, List, Option, None, refl, sym, subst, inl, inr, ⊎_elim}
+use Rattle.std.proofs.Common.{◌≡◌, ◌⊎◌, ℕ, List, None, refl, sym, subst, inl, inr, ⊎_elim}
 use Rattle.wf_model.specs.declared.parts.Parts.{Parts}
 use Rattle.wf_model.specs.Grammar.{Grammar}
 use Rattle.wf_model.specs.Proper.{IsProper}
@@ -8,22 +8,12 @@ use Rattle.wf_spec.specs.declared.fault.FormFault.{FormFault}
 use Rattle.wf_spec.specs.declared.fault.FormFault.TheVariants.{NoMemory as NoMemoryOfForm}
 use Rattle.wf_spec.specs.Forming.{grammar_of, IsFormed}
 use Rattle.wf_spec.specs.Rules.{IsFaultOf}
-use Rattle.wf_top.specs.declared.ending.Place.{Place}
 use Rattle.wf_top.specs.declared.ending.Place.TheVariants.{Spec}
-use Rattle.wf_top.specs.Endings.{End, Done, Usage, Refused, ReadFault, WriteFault, NoMemory}
+use Rattle.wf_top.specs.Endings.{End, Refused, NoMemory}
 use Rattle.wf_top.specs.Refusals.{form_text}
 use Rattle.wf_top.specs.Specification.{IsSpecText, TellsGrammar, RefusesGrammar, RefusesParts, RefusesSpec}
 use Rattle.wf_top.specs.Telling.{OfWhole}
 use Rattle.wf_top.specs.Stages.{Declines}
-
--- what declines by one refusal declines by another that comes of it
-pub declines_by : (place : Place) (P Q : Option ℕ → List ℕ → Type 0) → ((line : Option ℕ) (fault : List ℕ) → P line fault → Q line fault) → (e : End) → Declines place P e → Declines place Q e
-declines_by place P Q f Done h = absurd h
-declines_by place P Q f Usage h = absurd h
-declines_by place P Q f (Refused p line fault) h = (h.0, f line fault h.1)
-declines_by place P Q f (ReadFault p) h = absurd h
-declines_by place P Q f WriteFault h = absurd h
-declines_by place P Q f NoMemory h = tt
 
 -- a fault of parts, or want of memory
 pub parts_decline : (parts : Parts) (f : FormFault) (e : End) → (f ≡ NoMemoryOfForm) ⊎ IsFaultOf parts f → (f ≡ NoMemoryOfForm → e ≡ NoMemory) → (e ≡ NoMemory) ⊎ (e ≡ Refused Spec None (form_text f)) → Declines Spec (OfWhole RefusesParts parts) e

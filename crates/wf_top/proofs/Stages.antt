@@ -52,6 +52,15 @@ module _ {A : Type 0} (most : ℕ) (place : Place) (file : File) (Tells : List �
 pub tells_one : {A : Type 0} (Tells : List ℕ → A → Type 0) (bytes : List ℕ) (a : A) → Tells bytes a → (line : Option ℕ) (fault : List ℕ) → OfWhole (IsNotBuilt Tells) bytes line fault → ⊥
 tells_one Tells bytes a t line fault h = h.1.0 a t
 
+-- what declines by one refusal declines by another that comes of it
+pub declines_by : (place : Place) (P Q : Option ℕ → List ℕ → Type 0) → ((line : Option ℕ) (fault : List ℕ) → P line fault → Q line fault) → (e : End) → Declines place P e → Declines place Q e
+declines_by place P Q f Done h = absurd h
+declines_by place P Q f Usage h = absurd h
+declines_by place P Q f (Refused p line fault) h = (h.0, f line fault h.1)
+declines_by place P Q f (ReadFault p) h = absurd h
+declines_by place P Q f WriteFault h = absurd h
+declines_by place P Q f NoMemory h = tt
+
 -- what reads and declines stops
 pub declines_stop : (most : ℕ) (place : Place) (file : File) (Refuses : List ℕ → Option ℕ → List ℕ → Type 0) (bytes seen : List ℕ) (e : End) → IsTold most file Holds bytes → seen ≡ bytes → Declines place (Refuses seen) e → StopsAt most place file Refuses e
 declines_stop most place file Refuses bytes seen Done told s h = absurd h

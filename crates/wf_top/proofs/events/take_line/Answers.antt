@@ -7,7 +7,7 @@ use Rattle.wf_top.specs.Refusals.{run_name}
 use Rattle.wf_top.specs.Telling.{IsNotBuilt, OfWhole}
 use Rattle.wf_top.specs.RunTold.{IsEventText, RefusesText}
 use Rattle.wf_top.specs.Outcome.{instance_most}
-use Rattle.wf_top.proofs.SpecSteps.{declines_by}
+use Rattle.wf_top.proofs.Stages.{declines_by}
 use Rattle.wf_top.proofs.EventLines.{handed_on, event_refused, declined}
 use Rattle.wf_top.proofs.events.take_line.Goals as goal
 

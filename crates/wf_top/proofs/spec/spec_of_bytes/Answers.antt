@@ -5,7 +5,8 @@ use Rattle.wf_top.specs.declared.ending.Place.TheVariants.{Spec}
 use Rattle.wf_top.specs.Endings.{end_of}
 use Rattle.wf_top.specs.Telling.{OfWhole}
 use Rattle.wf_top.specs.Specification.{TellsGrammar, RefusesGrammar, RefusesSpec}
-use Rattle.wf_top.proofs.SpecSteps.{declines_by, refuses_by_grammar, told_grammar}
+use Rattle.wf_top.proofs.Stages.{declines_by}
+use Rattle.wf_top.proofs.SpecSteps.{refuses_by_grammar, told_grammar}
 use Rattle.wf_top.proofs.spec.spec_of_bytes.Goals as goal
 
 pub returns-clause-ok : goal.returns-clause-ok
