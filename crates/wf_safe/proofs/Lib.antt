@@ -1,3 +1,12 @@
+pub mod Taken
+pub mod Choices
+pub mod Needing
+pub mod Standing
 pub mod Rising
+pub mod Choosing
+pub mod Tables
+pub mod Rounds
+pub mod Settling
+pub mod Checking
 pub mod Disagreeing
 pub mod OneWitness

@@ -1,2 +1,4 @@
+pub mod Choosing
 pub mod Full
+pub mod Settling
 pub mod Witness
