@@ -3,7 +3,8 @@ pub mod Choices
 pub mod Needing
 pub mod Standing
 pub mod Rising
-pub mod Choosing
+pub mod ChoiceTold
+pub mod SameBodies
 pub mod Tables
 pub mod Rounds
 pub mod Settling

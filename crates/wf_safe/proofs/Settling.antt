@@ -10,14 +10,14 @@ use Rattle.wf_laws.specs.Settled.{IsSettled}
 use Rattle.wf_laws.proofs.Making.{settled_from}
 use Rattle.bool_mat.specs.Matrix.{has}
 use Rattle.bool_mat.proofs.Rows.{same_or_not}
-use Rattle.wf_safe.specs.Settling.{is_set, AreSet, IsTable, Settles, SettlesOne, AreTried, AreShownBelow, AreJoined, AreRowsByChoice, AreAllRowsByChoice}
+use Rattle.wf_safe.specs.Settling.{is_set, AreSet, IsTable, Settles, SettlesOne, AreTried, AreOnlyShownBelow, AreJoined, AreRowsByChoice, AreAllRowsByChoice}
 use Rattle.wf_safe.specs.Witness.{IsChoiceOf}
 use Rattle.wf_safe.proofs.Rising.{one_second}
 use Rattle.wf_safe.proofs.Tables.{has_is, place_there, pairs_same, set_here, set_there, table_more, joins_same}
 
 module _ (g : Grammar) (u : View) (choice : List (ℕ × ℕ)) (ch : IsChoiceOf g u choice) where
   -- where the view's pairs alone are set, nothing is chosen yet
-  pub begun : (rows : List (Option (List ℕ))) → AreShownBelow g u (length g.modules) rows → AreRowsByChoice g u choice rows
+  pub begun : (rows : List (Option (List ℕ))) → AreOnlyShownBelow g u (length g.modules) rows → AreRowsByChoice g u choice rows
   begun rows h = record {
     table = h.table;
     shown = h.shown;

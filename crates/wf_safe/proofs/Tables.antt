@@ -1,5 +1,5 @@
 -- Tables of rows in which the rows of one module are set.
-use Rattle.std.proofs.Common.{◌≡◌, ◌↔◌, ◌++◌, ℕ, suc, ◌<◌, ◌≤◌, ◌^◌, ◌==◌, true, false, IsTrue, List, [], ◌∷◌, Option, None, Some, length, get_or, set, is_some, is_none, refl, sym, ap, ◌∙◌, subst, inl, inr, ⊎_elim, arith, true≢false}
+use Rattle.std.proofs.Common.{◌≡◌, ◌↔◌, ℕ, ◌<◌, ◌≤◌, ◌^◌, ◌==◌, true, false, IsTrue, List, Option, None, Some, length, get_or, set, is_some, is_none, refl, sym, ap, ◌∙◌, subst, ⊎_elim, arith, true≢false}
 use Rattle.std.specs.List.{All}
 use Rattle.std.specs.Int.{bit_at}
 use Rattle.std.proofs.lemmas.Grind.{common_steps}
@@ -9,13 +9,12 @@ use Rattle.wf_model.specs.Lists.{IsIn}
 use Rattle.wf_model.specs.Grammar.{Grammar, module_at, inputs_of, outputs_of, body_of, IsProductionOf}
 use Rattle.wf_model.specs.WellFormed.{IsWellFormed}
 use Rattle.wf_model.specs.Meaning.{bit_of, pairs_of}
-use Rattle.wf_model.specs.Links.{input, output, wiring, place_links, pair_links, Path}
 use Rattle.wf_model.specs.Safe.{BodyJoins}
 use Rattle.wf_model.proofs.Lists.{is_at, at_in}
-use Rattle.wf_model.proofs.SameLinks.{pair_links_same}
 use Rattle.bool_mat.specs.Matrix.{has}
 use Rattle.bool_mat.proofs.Rows.{same_or_not}
 use Rattle.wf_body.specs.Matrices.{HasRows}
+use Rattle.wf_safe.proofs.SameBodies.{body_joins_same}
 use Rattle.wf_safe.specs.Settling.{is_set, IsTable, unset}
 
 -- a bit of a row, as a test of its pair
@@ -56,18 +55,12 @@ module _ (g : Grammar) (old : List (Option (List ℕ))) (m : ℕ) (rows : List �
       has_here : HasRows g (set old m (Some rows)) m
       has_here = record { rows = rows; within = (let s = length-set old m (Some rows) in omega arith); held = set_here; one_each = one; no_more = few }
 
--- the links of places whose modules have the same rows
-places_same : (g : Grammar) (old new : List (Option (List ℕ))) (k : ℕ) (ms : List ℕ) → ((m : ℕ) → IsIn m ms → get_or new m None ≡ get_or old m None) → place_links g (pairs_of new) k ms ≡ place_links g (pairs_of old) k ms
-places_same g old new k [] same = refl
-places_same g old new k (m ∷ ms) same =
-    ap (λ l. l ++ place_links g (pairs_of new) (suc k) ms) (pair_links_same g (pairs_of new) (pairs_of old) m (Some k) (λ i o hi ho. pairs_same old new m (same m (inl refl)) i o)) ∙
-    ap (λ l. pair_links g (pairs_of old) m (Some k) ++ l) (places_same g old new (suc k) ms (λ n i. same n (inr i)))
-
 -- a body joins the same pairs by two tables that agree on its modules
 pub joins_same : (g : Grammar) (old new : List (Option (List ℕ))) (p i o : ℕ) → ((m : ℕ) → IsIn m (body_of g p) → get_or new m None ≡ get_or old m None) → BodyJoins g (pairs_of new) p i o ↔ BodyJoins g (pairs_of old) p i o
-joins_same g old new p i o same =
-    let e = ap (λ l. wiring g p ++ l) (places_same g old new 0 (body_of g p) same) in
-    (subst (λ l. Path l (input None i) (output None o)) e, subst (λ l. Path l (input None i) (output None o)) (sym e))
+joins_same g old new p i o same = (
+  body_joins_same g (pairs_of new) (pairs_of old) p i o (λ m a j q hj hq. pairs_same old new m (same m a) j q),
+  body_joins_same g (pairs_of old) (pairs_of new) p i o (λ m a j q hj hq. sym (pairs_same old new m (same m a) j q)),
+)
 
 is_none_from : {A : Type 0} (o : Option A) → is_some o ≡ false → is_none o ≡ true
 is_none_from None e = refl

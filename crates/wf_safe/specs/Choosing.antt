@@ -9,13 +9,13 @@ use Rattle.wf_view.specs.Held.{HeldView}
 use Rattle.wf_safe.specs.declared.witness.Witness.{Witness}
 use Rattle.wf_safe.specs.Witness.{chosen_in}
 
--- a production is to be chosen for a module that is seen and that the view expands
-abbrev pub needs_choice : HeldView → ℕ → Bool
-needs_choice v m = get_or v.seen m false && expands v.core m
+-- by the flags of a view a module is seen and expanded, so that a production is to be chosen for it
+abbrev pub is_seen_expanded : HeldView → ℕ → Bool
+is_seen_expanded v m = get_or v.seen m false && expands v.core m
 
 -- the modules below n for which a production is to be chosen
 abbrev pub needing_below : HeldView → ℕ → List ℕ
-needing_below v n = filter (needs_choice v) (numbers_from 0 n)
+needing_below v n = filter (is_seen_expanded v) (numbers_from 0 n)
 
 -- each choice is a production of its module
 abbrev pub AreProductions : Grammar → List (ℕ × ℕ) → Type 0

@@ -69,7 +69,7 @@ abbrev pub AreShown : Grammar → View → List (Option (List ℕ)) → ℕ → 
 AreShown g u rows m = (i o : ℕ) → i < inputs_of g m → o < outputs_of g m → pairs_of rows m i o ≡ shows u m i o
 
 -- of the modules below n those have rows that the view does not expand, and no others: the pairs that the view shows
-pub record AreShownBelow (g : Grammar) (u : View) (n : ℕ) (rows : List (Option (List ℕ))) : Type 0 where
+pub record AreOnlyShownBelow (g : Grammar) (u : View) (n : ℕ) (rows : List (Option (List ℕ))) : Type 0 where
   pub table : IsTable g rows
   pub only : (m : ℕ) → IsTrue (is_set rows m) → (m < n) × (expands u m ≡ false)
   pub shown : (m : ℕ) → m < n → expands u m ≡ false → IsTrue (is_set rows m) × AreShown g u rows m

@@ -4,7 +4,7 @@ ghost use Rattle.std.specs.List.{filter};
 ghost use Rattle.wf_model.specs.Grammar.{IsProductionOf};
 ghost use Rattle.wf_model.specs.WellFormed.{IsWellFormed};
 ghost use Rattle.wf_view.specs.Held.{IsHeldFor};
-ghost use Rattle.wf_safe.specs.Choosing.{AreProductions, needing_below, needs_choice};
+ghost use Rattle.wf_safe.specs.Choosing.{AreProductions, is_seen_expanded, needing_below};
 ghost use Rattle.wf_safe.specs.Witness.{IsChoiceOf, chosen_in, modules_in};
 
 use crate::witness::Choice;
@@ -19,10 +19,10 @@ pub fn is_production_of(g: &Grammar, p: ProdNo, m: ModNo) -> bool
     (p.0 as usize) < g.productions().len() && g.production(p).head().0 == m.0
 }
 
-/// Whether a production is to be chosen for a module.
+/// Whether a production is to be chosen for a module: the module is seen and the view expands it.
 fn needs_choice(view: &View, m: ModNo) -> bool
     requires { m.0 < length view.now.seen }
-    ensures { result ≡ needs_choice view.now m.0 }
+    ensures { result ≡ is_seen_expanded view.now m.0 }
 {
     view.seen(m) && view.expanded(m)
 }
@@ -31,8 +31,8 @@ fn needs_choice(view: &View, m: ModNo) -> bool
 fn past<'a>(view: &View, choice: &'a [Choice], m: ModNo) -> Option<&'a [Choice]>
     requires { m.0 < length view.now.seen }
     ensures { MatchOption result
-        ((ms : List ℕ) → modules_in (chosen_in choice.now) ≡ filter (needs_choice view.now) (m.0 ∷ []) ++ ms → ⊥)
-        (λ rest. modules_in (chosen_in choice.now) ≡ filter (needs_choice view.now) (m.0 ∷ []) ++ modules_in (chosen_in rest.now)) }
+        ((ms : List ℕ) → modules_in (chosen_in choice.now) ≡ filter (is_seen_expanded view.now) (m.0 ∷ []) ++ ms → ⊥)
+        (λ rest. modules_in (chosen_in choice.now) ≡ filter (is_seen_expanded view.now) (m.0 ∷ []) ++ modules_in (chosen_in rest.now)) }
 {
     if !needs_choice(view, m) {
         return Some(choice);

@@ -3,7 +3,7 @@ ghost use Rattle.std.specs.Prelude.{◌≡◌, ◌<◌, cond, [], Some, length, 
 ghost use Rattle.wf_model.specs.View.{expands};
 ghost use Rattle.wf_model.specs.WellFormed.{IsWellFormed};
 ghost use Rattle.wf_view.specs.Held.{IsHeldFor};
-ghost use Rattle.wf_safe.specs.Settling.{AreShownBelow};
+ghost use Rattle.wf_safe.specs.Settling.{AreOnlyShownBelow};
 
 use std::alloc::{AllocError, Global};
 use wf_spec::{Deps, Grammar, ModNo};
@@ -24,7 +24,7 @@ fn show(view: &View, rows: &mut Deps, m: ModNo) -> Result<(), AllocError>
 /// The pairs that a view shows of the modules that it does not expand. Fails only for want of memory.
 pub fn shown_rows(alloc: Global, g: &Grammar, view: &View) -> Result<Deps, AllocError>
     requires { IsHeldFor g.now.core view.now }
-    ensures shown { IfOk result (λ rows. AreShownBelow g.now.core view.now.core (length g.now.core.modules) rows) }
+    ensures shown { IfOk result (λ rows. AreOnlyShownBelow g.now.core view.now.core (length g.now.core.modules) rows) }
     ensures formed { IsWellFormed g.now.core }
 {
     let count = g.modules().len() as u16;

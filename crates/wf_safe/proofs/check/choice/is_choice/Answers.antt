@@ -1,5 +1,5 @@
 use Rattle.wf_safe.specs.Witness.{chosen_in}
-use Rattle.wf_safe.proofs.Choosing.{by_productions, not_by_modules}
+use Rattle.wf_safe.proofs.ChoiceTold.{by_productions, not_by_modules}
 use Rattle.wf_safe.proofs.check.choice.is_choice.Goals as goal
 
 pub returns-then-are_for_all-clause-told : goal.returns-then-are_for_all-clause-told

@@ -8,7 +8,7 @@ use Rattle.wf_model.specs.View.{View, expands, IsSeenModule, at_start, in_body}
 use Rattle.wf_model.proofs.Lists.{in_map, in_map_from, in_filter, in_filter_from}
 use Rattle.wf_model.proofs.Level.{in_numbers, numbers_in}
 use Rattle.wf_view.specs.Held.{HeldView, IsHeldFor}
-use Rattle.wf_safe.specs.Choosing.{needs_choice, needing_below, AreProductions}
+use Rattle.wf_safe.specs.Choosing.{is_seen_expanded, needing_below, AreProductions}
 use Rattle.wf_safe.specs.Witness.{modules_in, IsChoiceOf}
 use Rattle.wf_safe.proofs.Rising.{IsRising, same_rising, numbers_rise}
 
@@ -20,7 +20,7 @@ seen_below g u m wf (in_body p h s ex i) = (wf.bodies p h).modules m i
 module _ (g : Grammar) (v : HeldView) (wf : IsWellFormed g) (held : IsHeldFor g v) where
   needing_gives : (m : ℕ) → IsIn m (needing_below v (length g.modules)) → IsSeenModule g v.core m × IsTrue (expands v.core m)
   needing_gives m i =
-      let f = in_filter_from (needs_choice v) m (numbers_from 0 (length g.modules)) i in
+      let f = in_filter_from (is_seen_expanded v) m (numbers_from 0 (length g.modules)) i in
       let b = in_numbers m 0 (length g.modules) f.0 in
       let t = and_parts (get_or v.seen m false) (expands v.core m) f.1 in
       ((held.seen m (omega arith)).0 t.0, t.1)
@@ -28,12 +28,12 @@ module _ (g : Grammar) (v : HeldView) (wf : IsWellFormed g) (held : IsHeldFor g 
   needing_from : (m : ℕ) → IsSeenModule g v.core m → IsTrue (expands v.core m) → IsIn m (needing_below v (length g.modules))
   needing_from m s e =
       let b = seen_below g v.core m wf s in
-      in_filter (needs_choice v) m (numbers_from 0 (length g.modules)) (numbers_in m 0 (length g.modules) (omega arith) (omega arith)) (and_from (get_or v.seen m false) (expands v.core m) ((held.seen m b).1 s) e)
+      in_filter (is_seen_expanded v) m (numbers_from 0 (length g.modules)) (numbers_in m 0 (length g.modules) (omega arith) (omega arith)) (and_from (get_or v.seen m false) (expands v.core m) ((held.seen m b).1 s) e)
 
   module _ (choice : List (ℕ × ℕ)) where
     choice_from : modules_in choice ≡ needing_below v (length g.modules) → AreProductions g choice → IsChoiceOf g v.core choice
     choice_from e ps = record {
-      in_order = subst IsRising (sym e) (numbers_rise (needs_choice v) 0 (length g.modules));
+      in_order = subst IsRising (sym e) (numbers_rise (is_seen_expanded v) 0 (length g.modules));
       all = λ m s t. subst (IsIn m) (sym e) (needing_from m s t);
       seen = λ m p i. needing_gives m (subst (IsIn m) e (in_map (λ (c : ℕ × ℕ). c.0) (m, p) choice i));
       productions = ps;
@@ -41,7 +41,7 @@ module _ (g : Grammar) (v : HeldView) (wf : IsWellFormed g) (held : IsHeldFor g 
 
     choice_gives : IsChoiceOf g v.core choice → modules_in choice ≡ needing_below v (length g.modules)
     choice_gives h =
-        same_rising (modules_in choice) (needing_below v (length g.modules)) h.in_order (numbers_rise (needs_choice v) 0 (length g.modules))
+        same_rising (modules_in choice) (needing_below v (length g.modules)) h.in_order (numbers_rise (is_seen_expanded v) 0 (length g.modules))
         (λ m. (
           λ i. let a = in_map_from (λ (c : ℕ × ℕ). c.0) m choice i in
               let s = h.seen m a.0.1 (subst (λ z. IsIn (z, a.0.1) choice) (sym a.2) a.1) in
