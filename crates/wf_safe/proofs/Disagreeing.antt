@@ -9,6 +9,11 @@ use Rattle.wf_laws.proofs.Settled.{settled_law}
 use Rattle.wf_safe.specs.declared.witness.Witness.{Witness}
 use Rattle.wf_safe.specs.Witness.{chosen_in, Disagree, IsOtherRun, IsWitness, AgreesOn, WitnessLaw}
 
+-- whether they disagree rests on what the two mean
+pub disagree_same : (joined : Bool) (A B C D : Type 0) → A ↔ C → B ↔ D → Disagree joined A B → Disagree joined C D
+disagree_same true A B C D f k h = (f.0 h.0, λ d. h.1 (k.1 d))
+disagree_same false A B C D f k h = (λ c. h.0 (f.1 c), k.0 h.1)
+
 -- one of the two holds and does not follow from, or does not give, the other
 pub disagreeing : (joined : Bool) (A B : Type 0) → Disagree joined A B → (A → B) → (B → A) → ⊥
 disagreeing true A B h f k = h.1 (f h.0)
@@ -38,7 +43,7 @@ module _ (g : Grammar) (u : View) (w : Witness) (d : Assignment) (wf : IsWellFor
   pub one_joins : IsTrue (d w.«module».0 w.input.0 w.output.0) ↔ Joins g u w.«module».0 h.runs.one_run w.input.0 w.output.0
   one_joins = told.joins d ind w.«module».0 (h.choice.seen w.«module».0 w.one.0 h.one).0 h.runs.one_run h.runs.is_one.expansion_of h.runs.is_one.by w.input.0 w.output.0 h.input h.output
 
-  other_joins : BodyJoins g d w.other.0 w.input.0 w.output.0 ↔ Joins g u w.«module».0 h.runs.other_run w.input.0 w.output.0
+  pub other_joins : BodyJoins g d w.other.0 w.input.0 w.output.0 ↔ Joins g u w.«module».0 h.runs.other_run w.input.0 w.output.0
   other_joins =
       let e = h.runs.other_run in
       let run : IsOtherRun g u (chosen_in w.choice) (head_of g w.other.0) w.other.0 h.runs.other_run = subst (λ z. IsOtherRun g u (chosen_in w.choice) z w.other.0 h.runs.other_run) (sym h.other.1) h.runs.is_other in

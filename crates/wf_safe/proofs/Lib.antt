@@ -2,6 +2,16 @@ pub mod LinkGraphs
 pub mod BodyLinks
 pub mod Vertices
 pub mod BodyRows
+pub mod Taken
+pub mod Choices
+pub mod Needing
+pub mod Standing
 pub mod Rising
+pub mod ChoiceTold
+pub mod SameBodies
+pub mod Tables
+pub mod Rounds
+pub mod Settling
+pub mod Checking
 pub mod Disagreeing
 pub mod OneWitness

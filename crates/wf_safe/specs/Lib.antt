@@ -1,3 +1,5 @@
 pub mod BodyGraph
+pub mod Choosing
 pub mod Full
+pub mod Settling
 pub mod Witness

@@ -4,9 +4,19 @@ ghost use Rattle.wf_view.specs.Held.{IsHeldFor};
 ghost use Rattle.wf_safe.specs.Witness.{IsWitness};
 
 mod body;
+mod choice;
+mod compare;
 mod graph;
+mod numbers;
 mod ports;
+mod settle;
+mod shown;
+mod table;
 
+use crate::check::choice::is_choice;
+use crate::check::compare::are_apart;
+use crate::check::numbers::has_numbers;
+use crate::check::settle::settled_rows;
 use crate::witness::Witness;
 use std::alloc::{AllocError, Global};
 use wf_spec::Grammar;
@@ -26,5 +36,10 @@ pub fn check_witness(
     requires { IsHeldFor g.now.core view.now }
     ensures { IfOk result (λ b. IsTrue b ↔ IsWitness g.now.core view.now.core w.now) }
 {
-    Err(AllocError)
+    let choice = w.choice.items();
+    if !is_choice(g, view, choice) || !has_numbers(g, w) {
+        return Ok(false);
+    }
+    let rows = settled_rows(alloc, g, view, choice)?;
+    are_apart(alloc, g, &rows, w)
 }
