@@ -1,0 +1,5 @@
+pub mod Falling
+pub mod Inducing
+pub mod SameBodies
+pub mod SeenBelow
+pub mod SetRows

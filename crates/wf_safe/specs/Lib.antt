@@ -1,2 +1,4 @@
+pub mod Disagreeing
 pub mod Full
+pub mod Inducing
 pub mod Witness
