@@ -17,7 +17,7 @@ use Rattle.wf_safe.specs.Witness.{ComesBefore}
 use Rattle.wf_safe.proofs.Falling.{falls}
 use Rattle.wf_safe.proofs.SameBodies.{SameOn, body_joins_same}
 use Rattle.wf_safe.proofs.SeenBelow.{seen_below, opened_is, not_opened}
-use Rattle.wf_safe.proofs.SetRows.{pairs_stay, rows_stay, matrix_set}
+use Rattle.wf_safe.proofs.SetRows.{pairs_stay, rows_stay, shown_stays, matrix_set}
 
 -- the modules of an opened module's chosen body are seen
 chosen_seen : (g : Grammar) (u : View) (p m k : ℕ) → p < length g.productions → head_of g p ≡ m → IsOpened g u m → IsIn k (body_of g p) → IsSeenModule g u k
@@ -75,12 +75,6 @@ joins_stay g v r rows x k m wf h held o l i j = (
     apart z q e = let f = (falls g r m wf h (held.is_view.expanded m o.1)).lower z q in let s = ap (rank_of r) e in absurd (omega arith)
 
 -- what is known of another module stays
-shown_stays : (g : Grammar) (u : View) (rows : List (Option (List ℕ))) (x : Option (List ℕ)) (k m : ℕ) → m ≢ k → HasShown g u rows m → HasShown g u (set rows k x) m
-shown_stays g u rows x k m n s = record {
-  held = rows_stay g rows x k m n s.held;
-  pairs = λ i o hi ho. subst (λ b. IsTrue b ↔ IsTrue (shows u m i o)) (sym (pairs_stay rows x k m i o n)) (s.pairs i o hi ho);
-}
-
 induced_stays : (g : Grammar) (v : HeldView) (r : Ranking) (rows : List (Option (List ℕ))) (x : Option (List ℕ)) (k m : ℕ) → IsWellFormed g → IsRankingOf g r → IsHeldFor g v → IsOpened g v.core m → rank_of r m ≤ rank_of r k → m ≢ k → HasInduced g r rows m → HasInduced g r (set rows k x) m
 induced_stays g v r rows x k m wf h held o l n s = record {
   held = rows_stay g rows x k m n s.held;

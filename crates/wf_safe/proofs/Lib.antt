@@ -3,3 +3,4 @@ pub mod Inducing
 pub mod SameBodies
 pub mod SeenBelow
 pub mod SetRows
+pub mod Showing

@@ -4,10 +4,11 @@ use Rattle.std.specs.List.{All}
 use Rattle.std.proofs.lemmas.List.{get_or-set_same, get_or-set_other}
 use Rattle.wf_model.specs.Grammar.{Grammar, inputs_of, outputs_of}
 use Rattle.wf_model.specs.Meaning.{bit_of, pairs_of}
+use Rattle.wf_model.specs.View.{View, shows}
 use Rattle.bool_mat.specs.Matrix.{Matrix, has}
 use Rattle.wf_body.specs.Matrices.{HasRows, IsMatrixOf}
 use Rattle.wf_body.proofs.Rowing.{pair_is}
-use Rattle.wf_safe.specs.Inducing.{HasPairs}
+use Rattle.wf_safe.specs.Inducing.{HasPairs, HasShown}
 
 -- the rows of the other modules stay
 pub pairs_stay : (rows : List (Option (List ℕ))) (x : Option (List ℕ)) (m k i o : ℕ) → k ≢ m → pairs_of (set rows m x) k i o ≡ pairs_of rows k i o
@@ -20,6 +21,12 @@ rows_stay g rows x m k n h = record {
   held = get_or-set_other rows m k x None n ∙ h.held;
   one_each = h.one_each;
   no_more = h.no_more;
+}
+
+pub shown_stays : (g : Grammar) (u : View) (rows : List (Option (List ℕ))) (x : Option (List ℕ)) (m k : ℕ) → k ≢ m → HasShown g u rows k → HasShown g u (set rows m x) k
+shown_stays g u rows x m k n s = record {
+  held = rows_stay g rows x m k n s.held;
+  pairs = λ i o hi ho. subst (λ b. IsTrue b ↔ IsTrue (shows u k i o)) (sym (pairs_stay rows x m k i o n)) (s.pairs i o hi ho);
 }
 
 -- the rows of the module are those that are set
