@@ -1,5 +1,6 @@
 pub mod Falling
 pub mod Inducing
+pub mod LowestBit
 pub mod SameBodies
 pub mod SeenBelow
 pub mod SetRows
