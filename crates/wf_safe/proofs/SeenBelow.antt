@@ -1,6 +1,6 @@
 -- The numbers of seen modules, and the flags of opened ones.
 use Rattle.std.proofs.Common.{◌≡◌, ℕ, ◌<◌, Bool, true, false, ◌&&◌, IsTrue, ◌↔◌, List, length, get_or, refl, sym, ap, ◌∙◌, subst, true≢false}
-use Rattle.wf_model.specs.Grammar.{Grammar}
+use Rattle.wf_model.specs.Grammar.{Grammar, head_of}
 use Rattle.wf_model.specs.WellFormed.{IsWellFormed}
 use Rattle.wf_model.specs.View.{View, expands, IsSeenModule, at_start, in_body}
 use Rattle.wf_view.specs.Held.{HeldView, IsHeldFor}
@@ -24,3 +24,7 @@ opened_is g v m h l = (
 -- a module whose flags are not both set is not opened
 pub not_opened : (g : Grammar) (v : HeldView) (m : ℕ) → IsHeldFor g v → m < length g.modules → is_opened v m ≡ false → IsOpened g v.core m → ⊥
 not_opened g v m h l f o = true≢false (sym ((opened_is g v m h l).1 o) ∙ f)
+
+-- so do the flags of the head of a production
+pub opened_head : (g : Grammar) (v : HeldView) (p m : ℕ) → IsWellFormed g → IsHeldFor g v → p < length g.productions → m ≡ head_of g p → is_opened v m ≡ true → IsOpened g v.core (head_of g p)
+opened_head g v p m wf h hp e t = (opened_is g v (head_of g p) h (wf.heads p hp)).0 (ap (is_opened v) (sym e) ∙ t)
