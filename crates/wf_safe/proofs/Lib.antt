@@ -1,3 +1,4 @@
+pub mod Choosing
 pub mod Comparing
 pub mod Falling
 pub mod Inducing
