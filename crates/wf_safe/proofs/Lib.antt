@@ -1,6 +1,8 @@
+pub mod ByRows
 pub mod Choosing
 pub mod Comparing
 pub mod Falling
+pub mod FirstWitness
 pub mod Inducing
 pub mod LowestBit
 pub mod SameBodies

@@ -1,5 +1,6 @@
 // The rows of the modules that a view does not expand.
 ghost use Rattle.std.specs.Prelude.{IfOk, length};
+ghost use Rattle.wf_model.specs.WellFormed.{IsWellFormed};
 ghost use Rattle.wf_view.specs.Held.{IsHeldFor};
 ghost use Rattle.wf_safe.specs.Inducing.{AreShownBelow};
 
@@ -12,7 +13,8 @@ use wf_view::View;
 /// Cost: one copy of each row.
 pub fn shown_deps(alloc: Global, g: &Grammar, view: &View) -> Result<Deps, AllocError>
     requires { IsHeldFor g.now.core view.now }
-    ensures { IfOk result (λ d. AreShownBelow g.now.core view.now.core (length g.now.core.modules) d) }
+    ensures shown { IfOk result (λ d. AreShownBelow g.now.core view.now.core (length g.now.core.modules) d) }
+    ensures formed { IsWellFormed g.now.core }
 {
     let count = g.modules().len();
     let mut deps = Deps::new(alloc, count as u16)?;
