@@ -1,7 +1,7 @@
 -- What the rows that chosen productions induce tell of a view: it is safe exactly if each production agrees with its opened head.
-use Rattle.std.proofs.Common.{◌≡◌, ◌↔◌, ℕ, ◌+◌, ◌<◌, Bool, true, false, not, IsTrue, List, map, length, Option, refl, sym, ap, ◌∙◌, subst, arith}
-use Rattle.wf_model.specs.Lists.{IsIn, numbers_from}
-use Rattle.wf_model.specs.Grammar.{Grammar, inputs_of, outputs_of, head_of, body_of, IsProductionOf}
+use Rattle.std.proofs.Common.{◌≡◌, ◌↔◌, ℕ, ◌<◌, Bool, true, false, IsTrue, List, map, length, Option, refl, sym, ap, ◌∙◌, subst, arith}
+use Rattle.wf_model.specs.Lists.{numbers_from}
+use Rattle.wf_model.specs.Grammar.{Grammar, head_of}
 use Rattle.wf_model.specs.View.{View, expands, shows, IsSeenModule}
 use Rattle.wf_model.specs.Meaning.{pairs_of}
 use Rattle.wf_model.specs.WellFormed.{IsWellFormed}
@@ -20,7 +20,7 @@ use Rattle.wf_laws.proofs.Safety.{chosen_law, safety_law}
 use Rattle.wf_safe.specs.Disagreeing.{AgreesIfOpened, IsFound}
 use Rattle.wf_safe.specs.declared.safety.disagreement.Disagreement.{Disagreement}
 use Rattle.wf_safe.specs.Full.{AreFullRows}
-use Rattle.wf_safe.specs.Inducing.{rank_of, choice_of, IsOpened, HasInduced, AreInduced}
+use Rattle.wf_safe.specs.Inducing.{rank_of, choice_of, IsOpened, AreInduced}
 use Rattle.wf_safe.specs.Witness.{Disagree}
 use Rattle.wf_safe.proofs.Falling.{falls}
 use Rattle.wf_safe.proofs.SeenBelow.{seen_below}

@@ -1,9 +1,8 @@
 -- The rows of a module and the matrix of a production of it: equal where the two agree, and else different first where they first disagree.
-use Rattle.std.proofs.Common.{◌≡◌, ℕ, ◌<◌, ◌≤◌, ◌^◌, Bool, true, false, not, IsTrue, List, length, get_or, Option, Some, None, MatchOption, refl, sym, ap, ◌∙◌, subst, arith, true≢false}
+use Rattle.std.proofs.Common.{◌≡◌, ℕ, ◌<◌, ◌≤◌, ◌^◌, Bool, true, false, not, IsTrue, List, length, get_or, Option, Some, None, MatchOption, sym, ap, ◌∙◌, subst, arith, true≢false}
 use Rattle.std.specs.List.{All}
-use Rattle.wf_model.specs.Lists.{IsIn}
-use Rattle.wf_model.specs.Grammar.{Grammar, Module, inputs_of, outputs_of, head_of, body_of, module_at}
-use Rattle.wf_model.specs.View.{View, expands, IsSeenModule, in_body}
+use Rattle.wf_model.specs.Grammar.{Grammar, inputs_of, outputs_of, head_of}
+use Rattle.wf_model.specs.View.{View, IsSeenModule, in_body}
 use Rattle.wf_model.specs.Meaning.{pairs_of}
 use Rattle.wf_model.specs.Safe.{BodyJoins}
 use Rattle.bool_mat.specs.Matrix.{Matrix, has}

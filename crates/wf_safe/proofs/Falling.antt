@@ -1,5 +1,5 @@
 -- The chosen production of a composite module has modules of lower ranks.
-use Rattle.std.proofs.Common.{◌≡◌, ℕ, suc, ◌<◌, ◌≤◌, length, subst, arith}
+use Rattle.std.proofs.Common.{ℕ, suc, ◌<◌, ◌≤◌, length, subst, arith}
 use Rattle.wf_model.specs.Lists.{IsIn}
 use Rattle.wf_model.specs.Grammar.{Grammar, body_of, IsComposite, IsProductionOf}
 use Rattle.wf_model.specs.WellFormed.{IsWellFormed}

@@ -1,8 +1,7 @@
 -- The witness that is told of a disagreement.
-use Rattle.std.proofs.Common.{◌≡◌, ◌↔◌, ℕ, ◌<◌, Bool, true, false, IsTrue, List, map, refl, sym, ap, ◌∙◌, subst}
+use Rattle.std.proofs.Common.{◌≡◌, ◌↔◌, ℕ, ◌<◌, Bool, true, false, IsTrue, List, sym, subst}
 use Rattle.wf_model.specs.declared.numbers.ModNo.{ModNo}
 use Rattle.wf_model.specs.declared.numbers.ProdNo.{ProdNo}
-use Rattle.wf_model.specs.Lists.{IsIn}
 use Rattle.wf_model.specs.Grammar.{Grammar, inputs_of, outputs_of, head_of}
 use Rattle.wf_model.specs.View.{View}
 use Rattle.wf_model.specs.Meaning.{pairs_of}
@@ -15,7 +14,7 @@ use Rattle.wf_safe.specs.declared.witness.Choice.{Choice}
 use Rattle.wf_safe.specs.declared.safety.disagreement.Disagreement.{Disagreement}
 use Rattle.wf_safe.specs.Disagreeing.{IsFound}
 use Rattle.wf_safe.specs.Inducing.{choice_of, IsOpened}
-use Rattle.wf_safe.specs.Witness.{AreDisagreeing, Disagree, IsChoiceOf, IsFirstWitness, chosen_in, modules_in}
+use Rattle.wf_safe.specs.Witness.{AreDisagreeing, Disagree, IsChoiceOf, IsFirstWitness, chosen_in}
 use Rattle.wf_safe.proofs.ByRows.{AreRanked, both_expansions, induced_by}
 
 -- a choice whose productions attain the ranks names the choice of each opened module

@@ -1,10 +1,10 @@
 -- Rows are found in order of rank: what is known before a module is tried, and after.
-use Rattle.std.proofs.Common.{◌≡◌, ◌≢◌, ◌⊎◌, ◌↔◌, ℕ, ◌+◌, ◌<◌, ◌≤◌, true, false, IsTrue, List, length, get_or, set, length-set, Option, Some, None, refl, sym, ap, ◌∙◌, subst, inl, inr, ⊎_elim, arith, true≢false}
+use Rattle.std.proofs.Common.{◌≡◌, ◌≢◌, ◌⊎◌, ◌↔◌, ℕ, ◌+◌, ◌<◌, ◌≤◌, true, false, IsTrue, List, length, set, length-set, Option, Some, refl, sym, ap, ◌∙◌, subst, inl, inr, ⊎_elim, arith, true≢false}
 use Rattle.std.proofs.lemmas.Bool.{cases_lt}
 use Rattle.std.proofs.lemmas.List.{get_or_past}
 use Rattle.wf_model.specs.Lists.{IsIn}
 use Rattle.wf_model.specs.Grammar.{Grammar, inputs_of, outputs_of, head_of, body_of}
-use Rattle.wf_model.specs.View.{View, expands, shows, IsSeenModule, in_body}
+use Rattle.wf_model.specs.View.{View, expands, IsSeenModule, in_body}
 use Rattle.wf_model.specs.Meaning.{pairs_of}
 use Rattle.wf_model.specs.WellFormed.{IsWellFormed}
 use Rattle.wf_model.specs.Safe.{BodyJoins}
@@ -12,11 +12,11 @@ use Rattle.bool_mat.proofs.Rows.{same_or_not}
 use Rattle.wf_body.specs.Matrices.{HasRows, HaveRows}
 use Rattle.wf_check.specs.Proper.{Ranking, IsRankingOf}
 use Rattle.wf_view.specs.Held.{HeldView, IsHeldFor}
-use Rattle.wf_safe.specs.Inducing.{rank_of, choice_of, IsOpened, is_opened, HasPairs, HasShown, HasInduced, AreShownBelow, AreInducedBefore, AreInduced, GetsInduced}
+use Rattle.wf_safe.specs.Inducing.{rank_of, choice_of, IsOpened, HasInduced, AreShownBelow, AreInducedBefore, AreInduced, GetsInduced}
 use Rattle.wf_safe.specs.Witness.{ComesBefore}
 use Rattle.wf_safe.proofs.Falling.{falls}
-use Rattle.wf_safe.proofs.SameBodies.{SameOn, body_joins_same}
-use Rattle.wf_safe.proofs.SeenBelow.{seen_below, opened_is, not_opened}
+use Rattle.wf_safe.proofs.SameBodies.{body_joins_same}
+use Rattle.wf_safe.proofs.SeenBelow.{seen_below}
 use Rattle.wf_safe.proofs.SetRows.{pairs_stay, rows_stay, shown_stays, matrix_set}
 
 -- the modules of an opened module's chosen body are seen

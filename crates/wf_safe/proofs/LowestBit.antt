@@ -1,13 +1,11 @@
 -- The lowest column on which two rows differ, and the first pair on which two lists of rows do.
-use Rattle.std.proofs.Common.{◌≡◌, ◌≢◌, ℕ, ◌+◌, ◌%◌, ◌^◌, ◌<◌, ◌≤◌, ◌⊎◌, ◌==◌, Bool, true, false, not, List, length, get_or, bit_xor, refl, sym, ap, ◌∙◌, subst, inl, inr, ⊎_elim, arith}
+use Rattle.std.proofs.Common.{◌≡◌, ◌≢◌, ℕ, ◌+◌, ◌%◌, ◌^◌, ◌<◌, ◌==◌, Bool, true, false, not, List, length, get_or, bit_xor, refl, sym, ap, ◌∙◌, subst, ⊎_elim, arith}
 use Rattle.std.specs.Int.{bit_at, w64, trailing_zeros}
 use Rattle.std.proofs.lemmas.Bool.Decides.{nat_tests}
 use Rattle.std.proofs.lemmas.Nat.{xor_lt}
 use Rattle.std.proofs.lemmas.Nat.Bits.{bit_at_xor, bit_at-lt, bit_at-trailing_zeros, same_from_bits}
 use Rattle.bool_mat.specs.Matrix.{has}
-use Rattle.wf_safe.specs.declared.safety.difference.Difference.{Difference}
 use Rattle.wf_safe.specs.Disagreeing.{IsFirstDifference}
-use Rattle.wf_safe.specs.Witness.{ComesBefore}
 
 -- the column o is the lowest on which two rows differ
 pub record IsLowest (a b o : ℕ) : Type 0 where

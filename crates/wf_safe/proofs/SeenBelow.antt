@@ -1,5 +1,5 @@
 -- The numbers of seen modules, and the flags of opened ones.
-use Rattle.std.proofs.Common.{◌≡◌, ℕ, ◌<◌, Bool, true, false, ◌&&◌, IsTrue, ◌↔◌, List, length, get_or, refl, sym, ap, ◌∙◌, subst, true≢false}
+use Rattle.std.proofs.Common.{◌≡◌, ℕ, ◌<◌, Bool, true, false, ◌&&◌, IsTrue, ◌↔◌, length, get_or, refl, sym, ap, ◌∙◌, subst, true≢false}
 use Rattle.wf_model.specs.Grammar.{Grammar, head_of}
 use Rattle.wf_model.specs.WellFormed.{IsWellFormed}
 use Rattle.wf_model.specs.View.{View, expands, IsSeenModule, at_start, in_body}

@@ -1,11 +1,11 @@
 -- Rows that are set for one module.
-use Rattle.std.proofs.Common.{◌≡◌, ◌≢◌, ◌↔◌, ℕ, ◌<◌, ◌^◌, IsTrue, List, length, get_or, set, length-set, Option, Some, None, refl, sym, ap, ◌∙◌, subst}
+use Rattle.std.proofs.Common.{◌≡◌, ◌≢◌, ◌↔◌, ℕ, ◌<◌, ◌^◌, IsTrue, List, length, get_or, set, length-set, Option, Some, None, sym, ap, ◌∙◌, subst}
 use Rattle.std.specs.List.{All}
 use Rattle.std.proofs.lemmas.List.{get_or-set_same, get_or-set_other}
 use Rattle.wf_model.specs.Grammar.{Grammar, inputs_of, outputs_of}
 use Rattle.wf_model.specs.Meaning.{bit_of, pairs_of}
 use Rattle.wf_model.specs.View.{View, shows}
-use Rattle.bool_mat.specs.Matrix.{Matrix, has}
+use Rattle.bool_mat.specs.Matrix.{has}
 use Rattle.wf_body.specs.Matrices.{HasRows, IsMatrixOf}
 use Rattle.wf_body.proofs.Rowing.{pair_is}
 use Rattle.wf_safe.specs.Inducing.{HasPairs, HasShown}

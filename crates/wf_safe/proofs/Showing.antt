@@ -1,9 +1,8 @@
 -- The rows of modules that are seen and not expanded, one module after another.
-use Rattle.std.proofs.Common.{◌≡◌, ◌≢◌, ◌↔◌, ℕ, ◌+◌, ◌<◌, ◌==◌, false, IsTrue, List, [], length, get_or, set, length-set, Option, Some, refl, sym, ◌∙◌, subst, inl, inr, arith}
+use Rattle.std.proofs.Common.{◌≡◌, ℕ, ◌+◌, ◌<◌, ◌==◌, false, List, [], length, get_or, set, length-set, Option, Some, refl, sym, ◌∙◌, subst, inl, inr, arith}
 use Rattle.std.specs.Int.{bit_at}
 use Rattle.wf_model.specs.Grammar.{Grammar}
-use Rattle.wf_model.specs.View.{View, expands, shows, IsSeenModule}
-use Rattle.wf_model.specs.Meaning.{pairs_of}
+use Rattle.wf_model.specs.View.{View, expands, IsSeenModule}
 use Rattle.bool_mat.specs.Matrix.{has}
 use Rattle.bool_mat.proofs.Rows.{same_or_not}
 use Rattle.wf_view.specs.Held.{HeldView, IsHeldFor, AreShownRows}

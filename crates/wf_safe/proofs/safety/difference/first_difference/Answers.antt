@@ -1,6 +1,6 @@
 use Rattle.std.proofs.Common.{arith}
 use Rattle.std.proofs.lemmas.Grind.{same_number_lists}
-use Rattle.wf_safe.proofs.LowestBit.{lowest_of, first_differing, no_difference}
+use Rattle.wf_safe.proofs.LowestBit.{lowest_of, first_differing}
 use Rattle.wf_safe.proofs.safety.difference.first_difference.Goals as goal
 
 pub has_column-requires : goal.has_column-requires

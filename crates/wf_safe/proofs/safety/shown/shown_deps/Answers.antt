@@ -1,4 +1,4 @@
-use Rattle.std.proofs.Common.{◌≡◌, ◌<◌, ◌+◌, List, None, length, ap, sym, subst, ◌∙◌, true≢false, arith}
+use Rattle.std.proofs.Common.{◌<◌, ◌+◌, List, None, length, ap, sym, subst, ◌∙◌, true≢false, arith}
 use Rattle.std.proofs.lemmas.List.{length-replicate}
 use Rattle.wf_model.specs.Grammar.{Module}
 use Rattle.wf_safe.specs.Inducing.{AreShownBelow}
