@@ -1,4 +1,4 @@
--- What the rows that chosen productions induce tell of a view: it is safe exactly if each production agrees with its opened head.
+-- What the rows that chosen productions induce tell of a view: it is safe exactly if each production agrees with its seen, expanded head.
 use Rattle.std.proofs.Common.{◌≡◌, ◌↔◌, ℕ, ◌<◌, Bool, true, false, IsTrue, List, map, length, Option, refl, sym, ap, ◌∙◌, subst, arith}
 use Rattle.wf_model.specs.Lists.{numbers_from}
 use Rattle.wf_model.specs.Grammar.{Grammar, head_of}
@@ -17,10 +17,10 @@ use Rattle.wf_laws.specs.Ranked.{RanksFall}
 use Rattle.wf_laws.proofs.Ranked.{ends_law}
 use Rattle.wf_laws.proofs.Safe.{one_test_suffices}
 use Rattle.wf_laws.proofs.Safety.{chosen_law, safety_law}
-use Rattle.wf_safe.specs.Disagreeing.{AgreesIfOpened, IsFound}
+use Rattle.wf_safe.specs.Disagreeing.{AgreesIfExpanded, IsFound}
 use Rattle.wf_safe.specs.declared.safety.disagreement.Disagreement.{Disagreement}
 use Rattle.wf_safe.specs.Full.{AreFullRows}
-use Rattle.wf_safe.specs.Inducing.{rank_of, choice_of, IsOpened, AreInduced}
+use Rattle.wf_safe.specs.Inducing.{rank_of, choice_of, IsSeenExpanded, AreInduced}
 use Rattle.wf_safe.specs.Witness.{Disagree}
 use Rattle.wf_safe.proofs.Falling.{falls}
 use Rattle.wf_safe.proofs.SeenBelow.{seen_below}
@@ -33,9 +33,9 @@ each_has_rows g u r rows known m seen = go (expands u m) refl
     go true e = (known.induced m (seen, e)).held
     go false e = (known.shown m seen e).held
 
--- a list that chooses for each opened module the production that attains its rank, and no other production
+-- a list that chooses for each seen, expanded module the production that attains its rank, and no other production
 pub record AreRanked (g : Grammar) (u : View) (r : Ranking) (choice : List (ℕ × ℕ)) : Type 0 where
-  pub named : (m : ℕ) → IsOpened g u m → IsChosen choice m (choice_of r m)
+  pub named : (m : ℕ) → IsSeenExpanded g u m → IsChosen choice m (choice_of r m)
   pub ranked : (m p : ℕ) → IsChosen choice m p → p ≡ choice_of r m
 
 module _ (g : Grammar) (v : HeldView) (r : Ranking) (rows : List (Option (List ℕ))) (choice : List (ℕ × ℕ)) (wf : IsWellFormed g) (h : IsRankingOf g r) (held : IsHeldFor g v) (known : AreInduced g v.core r rows) (c : AreRanked g v.core r choice) where
@@ -57,7 +57,7 @@ module _ (g : Grammar) (v : HeldView) (r : Ranking) (rows : List (Option (List �
   pub both_expansions : HasBothExpansions g v.core (pairs_of rows) choice
   both_expansions = chosen_law g v.core (pairs_of rows) choice wf ends induced_by
 
--- the choice of each module, opened or not
+-- the choice of each module, seen and expanded or not
 abbrev every_choice : Ranking → ℕ → List (ℕ × ℕ)
 every_choice r n = map (λ m. (m, choice_of r m)) (numbers_from 0 n)
 
@@ -73,16 +73,16 @@ module _ (g : Grammar) (v : HeldView) (r : Ranking) (rows : List (Option (List �
   exactly : IsSafe g v.core ↔ IsInduced g v.core (pairs_of rows)
   exactly = safe_exactly g v r rows (every_choice r (length g.modules)) wf h held known (every_ranked g v.core r wf)
 
-  all_induce : ((p : ℕ) → p < length g.productions → AgreesIfOpened g v.core (pairs_of rows) p) → IsInduced g v.core (pairs_of rows)
+  all_induce : ((p : ℕ) → p < length g.productions → AgreesIfExpanded g v.core (pairs_of rows) p) → IsInduced g v.core (pairs_of rows)
   all_induce agree = record {
     shown = (induced_by g v r rows (every_choice r (length g.modules)) wf h held known (every_ranked g v.core r wf)).shown;
     induced = λ p hp seen x i o hi ho. agree p hp (seen, x) i o hi ho;
   }
 
-  pub safe_told : ((p : ℕ) → p < length g.productions → AgreesIfOpened g v.core (pairs_of rows) p) → IsSafe g v.core
+  pub safe_told : ((p : ℕ) → p < length g.productions → AgreesIfExpanded g v.core (pairs_of rows) p) → IsSafe g v.core
   safe_told agree = exactly.1 (all_induce agree)
 
-  pub full_told : ((p : ℕ) → p < length g.productions → AgreesIfOpened g v.core (pairs_of rows) p) → AreFullRows g v.core rows
+  pub full_told : ((p : ℕ) → p < length g.productions → AgreesIfExpanded g v.core (pairs_of rows) p) → AreFullRows g v.core rows
   full_told agree = record {
     each = each_has_rows g v.core r rows known;
     full = one_test_suffices g v.core (pairs_of rows) wf (all_induce agree);
@@ -101,4 +101,4 @@ found_not_safe g v r x wf h held f safe =
     let d = f.least.pair in
     let ind = (exactly g v r f.rows wf h held f.induced).0 safe in
     apart x.pair.in_first (IsTrue (pairs_of f.rows (head_of g p) x.pair.input.0 x.pair.output.0)) (BodyJoins g (pairs_of f.rows) p x.pair.input.0 x.pair.output.0) d.disagree
-    (ind.induced p f.least.production d.opened.0 d.opened.1 x.pair.input.0 x.pair.output.0 d.input d.output)
+    (ind.induced p f.least.production d.head.0 d.head.1 x.pair.input.0 x.pair.output.0 d.input d.output)

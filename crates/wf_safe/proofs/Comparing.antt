@@ -10,12 +10,12 @@ use Rattle.bool_mat.proofs.Rows.{has_below, row_within}
 use Rattle.wf_body.specs.Matrices.{HasRows, HaveRows, IsMatrixOf}
 use Rattle.wf_body.proofs.Rowing.{pair_is}
 use Rattle.wf_safe.specs.declared.safety.difference.Difference.{Difference}
-use Rattle.wf_safe.specs.Disagreeing.{AgreesIfOpened, IsFirstDifference, IsFirstOf}
-use Rattle.wf_safe.specs.Inducing.{IsOpened}
+use Rattle.wf_safe.specs.Disagreeing.{AgreesIfExpanded, IsFirstDifference, IsFirstOf}
+use Rattle.wf_safe.specs.Inducing.{IsSeenExpanded}
 use Rattle.wf_safe.specs.Witness.{AgreesOn, Disagree}
 
 -- the modules of a body have rows where all seen modules have them
-pub body_rows : (g : Grammar) (u : View) (p : ℕ) (deps : List (Option (List ℕ))) → ((m : ℕ) → IsSeenModule g u m → HasRows g deps m) → p < length g.productions → IsOpened g u (head_of g p) → HaveRows g p deps
+pub body_rows : (g : Grammar) (u : View) (p : ℕ) (deps : List (Option (List ℕ))) → ((m : ℕ) → IsSeenModule g u m → HasRows g deps m) → p < length g.productions → IsSeenExpanded g u (head_of g p) → HaveRows g p deps
 body_rows g u p deps rows hp o m i = rows m (in_body p hp o.0 o.1 i)
 
 -- the rows that a module has
@@ -39,17 +39,17 @@ module _ (g : Grammar) (u : View) (p : ℕ) (deps : List (Option (List ℕ))) (o
   agree_at : (i o : ℕ) → has (get_or one i 0) o ≡ has (get_or other.rows i 0) o → AgreesOn g (pairs_of deps) p i o
   agree_at i o e = let q = has_pair i o ∙ e in let j = joined.pairs i o in ((λ t. j.0 (sym q ∙ t)), λ w. q ∙ j.1 w)
 
-  agrees : one ≡ other.rows → AgreesIfOpened g u (pairs_of deps) p
-  agrees e opened i o hi ho = agree_at i o (ap (λ (l : List ℕ). has (get_or l i 0) o) e)
+  agrees : one ≡ other.rows → AgreesIfExpanded g u (pairs_of deps) p
+  agrees e known i o hi ho = agree_at i o (ap (λ (l : List ℕ). has (get_or l i 0) o) e)
 
   -- a bit that is set in one of the two is that of an output
   within : (b : Bool) (i o : ℕ) → has (get_or one i 0) o ≡ b → has (get_or other.rows i 0) o ≡ not b → o < outputs_of g (head_of g p)
   within true i o e f = has_below (get_or one i 0) o (outputs_of g (head_of g p)) (row_within one (outputs_of g (head_of g p)) i (subst (All (λ r. r < 2 ^ outputs_of g (head_of g p))) (sym (same_rows g deps (head_of g p) one held told)) held.no_more)) e
   within false i o e f = has_below (get_or other.rows i 0) o (outputs_of g (head_of g p)) (row_within other.rows (outputs_of g (head_of g p)) i (subst (λ n. All (λ r. r < 2 ^ n) other.rows) joined.has_columns joined.is_matrix.within)) f
 
-  disagrees : (x : Difference) → IsOpened g u (head_of g p) → IsFirstDifference one other.rows x → IsFirstOf g u (pairs_of deps) p x
-  disagrees x opened d = record {
-    opened = opened;
+  disagrees : (x : Difference) → IsSeenExpanded g u (head_of g p) → IsFirstDifference one other.rows x → IsFirstOf g u (pairs_of deps) p x
+  disagrees x known d = record {
+    head = known;
     input = let l = d.input in let e = ap length (same_rows g deps (head_of g p) one held told) ∙ held.one_each in omega arith;
     output = within x.in_first x.input.0 x.output.0 d.in_one d.in_other;
     disagree = let j = joined.pairs x.input.0 x.output.0 in
@@ -57,6 +57,6 @@ module _ (g : Grammar) (u : View) (p : ℕ) (deps : List (Option (List ℕ))) (o
     first = λ i o hi ho c. agree_at i o (d.first i o c);
   }
 
-  pub compared : (o : Option Difference) → IsOpened g u (head_of g p) → MatchOption o (one ≡ other.rows) (IsFirstDifference one other.rows) → MatchOption o (AgreesIfOpened g u (pairs_of deps) p) (IsFirstOf g u (pairs_of deps) p)
-  compared None opened h = agrees h
-  compared (Some x) opened h = disagrees x opened h
+  pub compared : (o : Option Difference) → IsSeenExpanded g u (head_of g p) → MatchOption o (one ≡ other.rows) (IsFirstDifference one other.rows) → MatchOption o (AgreesIfExpanded g u (pairs_of deps) p) (IsFirstOf g u (pairs_of deps) p)
+  compared None known h = agrees h
+  compared (Some x) known h = disagrees x known h

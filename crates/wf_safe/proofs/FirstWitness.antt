@@ -13,11 +13,11 @@ use Rattle.wf_view.specs.Held.{HeldView, IsHeldFor}
 use Rattle.wf_safe.specs.declared.witness.Choice.{Choice}
 use Rattle.wf_safe.specs.declared.safety.disagreement.Disagreement.{Disagreement}
 use Rattle.wf_safe.specs.Disagreeing.{IsFound}
-use Rattle.wf_safe.specs.Inducing.{choice_of, IsOpened}
+use Rattle.wf_safe.specs.Inducing.{choice_of, IsSeenExpanded}
 use Rattle.wf_safe.specs.Witness.{AreDisagreeing, Disagree, IsChoiceOf, IsFirstWitness, chosen_in}
 use Rattle.wf_safe.proofs.ByRows.{AreRanked, both_expansions, induced_by}
 
--- a choice whose productions attain the ranks names the choice of each opened module
+-- a choice whose productions attain the ranks names the choice of each seen, expanded module
 choice_ranked : (g : Grammar) (u : View) (r : Ranking) (choice : List (ℕ × ℕ)) → IsChoiceOf g u choice → ((m p : ℕ) → IsChosen choice m p → p ≡ choice_of r m) → AreRanked g u r choice
 choice_ranked g u r choice c ranked = record {
   named = λ m o. let q = in_map_from (λ (z : ℕ × ℕ). z.0) m choice (c.all m o.0 o.1) in
@@ -41,8 +41,8 @@ module _ (g : Grammar) (v : HeldView) (r : Ranking) (x : Disagreement) (list : L
       let p = x.production.0 in
       let d = f.least.pair in
       let both = both_expansions g v r f.rows (chosen_in list) wf h held f.induced of_ranks in
-      let one = both.chosen (head_of g p) d.opened.0 in
-      let other = both.other p f.least.production d.opened.0 d.opened.1 in
+      let one = both.chosen (head_of g p) d.head.0 in
+      let other = both.other p f.least.production d.head.0 d.head.1 in
       record {
         one_run = one.events;
         is_one = record { expansion_of = one.expansion_of; by = one.by };
@@ -59,7 +59,7 @@ module _ (g : Grammar) (v : HeldView) (r : Ranking) (x : Disagreement) (list : L
       record {
         witness = record {
           choice = c;
-          one = subst (IsChosen (chosen_in list) m.0) (sym q) (of_ranks.named m.0 (subst (IsOpened g v.core) (sym e) d.opened));
+          one = subst (IsChosen (chosen_in list) m.0) (sym q) (of_ranks.named m.0 (subst (IsSeenExpanded g v.core) (sym e) d.head));
           other = (f.least.production, sym e);
           input = subst (λ k. x.pair.input.0 < inputs_of g k) (sym e) d.input;
           output = subst (λ k. x.pair.output.0 < outputs_of g k) (sym e) d.output;

@@ -12,18 +12,18 @@ use Rattle.bool_mat.proofs.Rows.{same_or_not}
 use Rattle.wf_body.specs.Matrices.{HasRows, HaveRows}
 use Rattle.wf_check.specs.Proper.{Ranking, IsRankingOf}
 use Rattle.wf_view.specs.Held.{HeldView, IsHeldFor}
-use Rattle.wf_safe.specs.Inducing.{rank_of, choice_of, IsOpened, HasInduced, AreShownBelow, AreInducedBefore, AreInduced, GetsInduced}
+use Rattle.wf_safe.specs.Inducing.{rank_of, choice_of, IsSeenExpanded, HasInduced, AreShownBelow, AreInducedBefore, AreInduced, GetsInduced}
 use Rattle.wf_safe.specs.Witness.{ComesBefore}
 use Rattle.wf_safe.proofs.Falling.{falls}
 use Rattle.wf_safe.proofs.SameBodies.{body_joins_same}
 use Rattle.wf_safe.proofs.SeenBelow.{seen_below}
 use Rattle.wf_safe.proofs.SetRows.{pairs_stay, rows_stay, shown_stays, matrix_set}
 
--- the modules of an opened module's chosen body are seen
-chosen_seen : (g : Grammar) (u : View) (p m k : ℕ) → p < length g.productions → head_of g p ≡ m → IsOpened g u m → IsIn k (body_of g p) → IsSeenModule g u k
+-- the modules of the chosen body of a seen, expanded module are seen
+chosen_seen : (g : Grammar) (u : View) (p m k : ℕ) → p < length g.productions → head_of g p ≡ m → IsSeenExpanded g u m → IsIn k (body_of g p) → IsSeenModule g u k
 chosen_seen g u p m k hp e o i = in_body p hp (subst (IsSeenModule g u) (sym e) o.0) (ap (expands u) e ∙ o.1) i
 
--- before the first rank there is no opened module
+-- before the first rank there is no seen, expanded module
 pub none_before : (g : Grammar) (v : HeldView) (r : Ranking) (rows : List (Option (List ℕ))) → IsWellFormed g → IsRankingOf g r → IsHeldFor g v → AreShownBelow g v.core (length g.modules) rows → AreInducedBefore g v.core r 1 0 rows
 none_before g v r rows wf h held s = record {
   one_each = s.one_each;
@@ -42,17 +42,17 @@ before_cases a m n k (inr b) =
       | inr e ↦ let l = b.1 in inl (inr (b.0, omega arith))
     ]
 
-pub passed_by : (g : Grammar) (u : View) (r : Ranking) (n k : ℕ) (rows : List (Option (List ℕ))) → AreInducedBefore g u r n k rows → (IsOpened g u k → rank_of r k ≡ n → ⊥) → AreInducedBefore g u r n (k + 1) rows
+pub passed_by : (g : Grammar) (u : View) (r : Ranking) (n k : ℕ) (rows : List (Option (List ℕ))) → AreInducedBefore g u r n k rows → (IsSeenExpanded g u k → rank_of r k ≡ n → ⊥) → AreInducedBefore g u r n (k + 1) rows
 passed_by g u r n k rows b not = record {
   one_each = b.one_each;
   shown = b.shown;
   induced = λ m o c. ⊎_elim (λ d. b.induced m o d)
-      (λ (d : (rank_of r m ≡ n) × (m ≡ k)). absurd (not (subst (IsOpened g u) d.1 o) (ap (rank_of r) (sym d.1) ∙ d.0)))
+      (λ (d : (rank_of r m ≡ n) × (m ≡ k)). absurd (not (subst (IsSeenExpanded g u) d.1 o) (ap (rank_of r) (sym d.1) ∙ d.0)))
       (before_cases (rank_of r m) m n k c);
 }
 
 -- the modules of the chosen body of the module that is tried have rows
-pub body_has_rows : (g : Grammar) (v : HeldView) (r : Ranking) (n k : ℕ) (rows : List (Option (List ℕ))) → IsWellFormed g → IsRankingOf g r → IsHeldFor g v → AreInducedBefore g v.core r n k rows → IsOpened g v.core k → rank_of r k ≡ n → HaveRows g (choice_of r k) rows
+pub body_has_rows : (g : Grammar) (v : HeldView) (r : Ranking) (n k : ℕ) (rows : List (Option (List ℕ))) → IsWellFormed g → IsRankingOf g r → IsHeldFor g v → AreInducedBefore g v.core r n k rows → IsSeenExpanded g v.core k → rank_of r k ≡ n → HaveRows g (choice_of r k) rows
 body_has_rows g v r n k rows wf h held b o e m i =
     let f = falls g r k wf h (held.is_view.expanded k o.1) in
     let seen = chosen_seen g v.core (choice_of r k) k m f.of_module.0 f.of_module.1 o i in
@@ -64,7 +64,7 @@ body_has_rows g v r n k rows wf h held b o e m i =
     go seen l false x = (b.shown m seen x).held
 
 -- the rows of a module of no lower rank change nothing of what is known of the chosen body of an earlier one
-joins_stay : (g : Grammar) (v : HeldView) (r : Ranking) (rows : List (Option (List ℕ))) (x : Option (List ℕ)) (k m : ℕ) → IsWellFormed g → IsRankingOf g r → IsHeldFor g v → IsOpened g v.core m → rank_of r m ≤ rank_of r k → (i o : ℕ) →
+joins_stay : (g : Grammar) (v : HeldView) (r : Ranking) (rows : List (Option (List ℕ))) (x : Option (List ℕ)) (k m : ℕ) → IsWellFormed g → IsRankingOf g r → IsHeldFor g v → IsSeenExpanded g v.core m → rank_of r m ≤ rank_of r k → (i o : ℕ) →
     BodyJoins g (pairs_of rows) (choice_of r m) i o ↔ BodyJoins g (pairs_of (set rows k x)) (choice_of r m) i o
 joins_stay g v r rows x k m wf h held o l i j = (
   body_joins_same g (pairs_of rows) (pairs_of (set rows k x)) (choice_of r m) i j (λ z q a b ha hb. sym (pairs_stay rows x k z a b (apart z q))),
@@ -75,7 +75,7 @@ joins_stay g v r rows x k m wf h held o l i j = (
     apart z q e = let f = (falls g r m wf h (held.is_view.expanded m o.1)).lower z q in let s = ap (rank_of r) e in absurd (omega arith)
 
 -- what is known of another module stays
-induced_stays : (g : Grammar) (v : HeldView) (r : Ranking) (rows : List (Option (List ℕ))) (x : Option (List ℕ)) (k m : ℕ) → IsWellFormed g → IsRankingOf g r → IsHeldFor g v → IsOpened g v.core m → rank_of r m ≤ rank_of r k → m ≢ k → HasInduced g r rows m → HasInduced g r (set rows k x) m
+induced_stays : (g : Grammar) (v : HeldView) (r : Ranking) (rows : List (Option (List ℕ))) (x : Option (List ℕ)) (k m : ℕ) → IsWellFormed g → IsRankingOf g r → IsHeldFor g v → IsSeenExpanded g v.core m → rank_of r m ≤ rank_of r k → m ≢ k → HasInduced g r rows m → HasInduced g r (set rows k x) m
 induced_stays g v r rows x k m wf h held o l n s = record {
   held = rows_stay g rows x k m n s.held;
   pairs = λ i j hi hj.
@@ -87,7 +87,7 @@ induced_stays g v r rows x k m wf h held o l n s = record {
 }
 
 -- so the next module of the rank is reached
-pub next_before : (g : Grammar) (v : HeldView) (r : Ranking) (n k : ℕ) (old new : List (Option (List ℕ))) → IsWellFormed g → IsRankingOf g r → IsHeldFor g v → AreInducedBefore g v.core r n k old → IsOpened g v.core k → rank_of r k ≡ n → GetsInduced g (choice_of r k) old new → AreInducedBefore g v.core r n (k + 1) new
+pub next_before : (g : Grammar) (v : HeldView) (r : Ranking) (n k : ℕ) (old new : List (Option (List ℕ))) → IsWellFormed g → IsRankingOf g r → IsHeldFor g v → AreInducedBefore g v.core r n k old → IsSeenExpanded g v.core k → rank_of r k ≡ n → GetsInduced g (choice_of r k) old new → AreInducedBefore g v.core r n (k + 1) new
 next_before g v r n k old new wf h held b o e s =
     let f = falls g r k wf h (held.is_view.expanded k o.1) in
     let low = seen_below g v.core k wf o.0 in

@@ -17,13 +17,13 @@ rank_of r m = get_or r.ranks m 0
 abbrev pub choice_of : Ranking → ℕ → ℕ
 choice_of r m = get_or r.choices m 0
 
--- a module is opened where it is seen and the view expands it
-abbrev pub IsOpened : Grammar → View → ℕ → Type 0
-IsOpened g u m = IsSeenModule g u m × IsTrue (expands u m)
+-- a module is seen, and the view expands it
+abbrev pub IsSeenExpanded : Grammar → View → ℕ → Type 0
+IsSeenExpanded g u m = IsSeenModule g u m × IsTrue (expands u m)
 
 -- so it is by the flags of a view
-abbrev pub is_opened : HeldView → ℕ → Bool
-is_opened v m = get_or v.seen m false && expands v.core m
+abbrev pub is_seen_expanded : HeldView → ℕ → Bool
+is_seen_expanded v m = get_or v.seen m false && expands v.core m
 
 -- a module has rows of exactly these pairs
 pub record HasPairs (g : Grammar) (rows : List (Option (List ℕ))) (m : ℕ) (R : ℕ → ℕ → Type 0) : Type 0 where
@@ -43,16 +43,16 @@ pub record AreShownBelow (g : Grammar) (u : View) (n : ℕ) (rows : List (Option
   pub one_each : length rows ≡ length g.modules
   pub shown : (m : ℕ) → m < n → IsSeenModule g u m → expands u m ≡ false → HasShown g u rows m
 
--- Each module that is seen and not expanded has the pairs that the view shows. Each opened module that comes before module k of rank n, by rank and then number, has the pairs that its chosen production induces
+-- Each module that is seen and not expanded has the pairs that the view shows. Each seen, expanded module that comes before module k of rank n, by rank and then number, has the pairs that its chosen production induces
 pub record AreInducedBefore (g : Grammar) (u : View) (r : Ranking) (n k : ℕ) (rows : List (Option (List ℕ))) : Type 0 where
   pub one_each : length rows ≡ length g.modules
   pub shown : (m : ℕ) → IsSeenModule g u m → expands u m ≡ false → HasShown g u rows m
-  pub induced : (m : ℕ) → IsOpened g u m → ComesBefore (rank_of r m) m n k → HasInduced g r rows m
+  pub induced : (m : ℕ) → IsSeenExpanded g u m → ComesBefore (rank_of r m) m n k → HasInduced g r rows m
 
 -- so it is for each seen module
 pub record AreInduced (g : Grammar) (u : View) (r : Ranking) (rows : List (Option (List ℕ))) : Type 0 where
   pub shown : (m : ℕ) → IsSeenModule g u m → expands u m ≡ false → HasShown g u rows m
-  pub induced : (m : ℕ) → IsOpened g u m → HasInduced g r rows m
+  pub induced : (m : ℕ) → IsSeenExpanded g u m → HasInduced g r rows m
 
 -- the head of a production is given the rows of the pairs that the body joins
 pub record GetsInduced (g : Grammar) (p : ℕ) (old new : List (Option (List ℕ))) : Type 0 where

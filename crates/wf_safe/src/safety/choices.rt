@@ -1,4 +1,4 @@
-// The choice of a production for each opened module.
+// The choice of a production for each seen, expanded module.
 ghost use Rattle.std.specs.Prelude.{◌≡◌, ℕ, IfOk};
 ghost use Rattle.wf_model.specs.Safe.{IsChosen};
 ghost use Rattle.wf_check.specs.Proper.{IsRankingOf};
@@ -6,14 +6,14 @@ ghost use Rattle.wf_view.specs.Held.{IsHeldFor};
 ghost use Rattle.wf_safe.specs.Inducing.{choice_of};
 ghost use Rattle.wf_safe.specs.Witness.{IsChoiceOf, chosen_in};
 
-use crate::safety::opened::is_opened;
+use crate::safety::expanded::is_seen_expanded;
 use crate::witness::Choice;
 use std::alloc::{AllocError, Global};
 use wf_check::Proper;
 use wf_spec::{Grammar, ModNo, Seq};
 use wf_view::View;
 
-/// Each opened module, in order, with the production that attains its rank. Fails only for want of memory.
+/// Each seen, expanded module, in order, with the production that attains its rank. Fails only for want of memory.
 ///
 /// Cost: one look at each module.
 pub fn choices(
@@ -30,7 +30,7 @@ pub fn choices(
     let mut list = Vec::new(alloc);
     for k in 0..g.modules().len() {
         let module = ModNo(k as u16);
-        if is_opened(view, module) {
+        if is_seen_expanded(view, module) {
             let production = proper.choice(module);
             list.push(Choice { module, production })?;
         }

@@ -5,10 +5,10 @@ ghost use Rattle.wf_model.specs.Meaning.{pairs_of};
 ghost use Rattle.wf_model.specs.View.{IsSeenModule};
 ghost use Rattle.wf_body.specs.Matrices.{HasRows};
 ghost use Rattle.wf_view.specs.Held.{IsHeldFor};
-ghost use Rattle.wf_safe.specs.Disagreeing.{AgreesIfOpened, IsFirstOf, IsLeastDisagreement};
+ghost use Rattle.wf_safe.specs.Disagreeing.{AgreesIfExpanded, IsFirstOf, IsLeastDisagreement};
 
 use crate::safety::difference::{Difference, first_difference};
-use crate::safety::opened::is_opened;
+use crate::safety::expanded::is_seen_expanded;
 use bool_mat::MatPool;
 use std::alloc::{AllocError, Global};
 use wf_body::induced;
@@ -33,7 +33,7 @@ fn rows_of(deps: &Deps, m: ModNo) -> &[u64]
     }
 }
 
-/// The first pair on which a production disagrees with its head, if this is opened and there is one. Fails only for want of memory.
+/// The first pair on which a production disagrees with its head, if this is seen and expanded and there is one. Fails only for want of memory.
 ///
 /// Cost: one pass through the body.
 fn first_of(
@@ -46,10 +46,10 @@ fn first_of(
     requires view { IsHeldFor g.now.core view.now }
     requires rows { (m : ℕ) → IsSeenModule g.now.core view.now.core m → HasRows g.now.core deps.now m }
     requires production { p.0 < length g.now.core.productions }
-    ensures { IfOk result (λ o. MatchOption o (AgreesIfOpened g.now.core view.now.core (pairs_of deps.now) p.0) (λ x. IsFirstOf g.now.core view.now.core (pairs_of deps.now) p.0 x)) }
+    ensures { IfOk result (λ o. MatchOption o (AgreesIfExpanded g.now.core view.now.core (pairs_of deps.now) p.0) (λ x. IsFirstOf g.now.core view.now.core (pairs_of deps.now) p.0 x)) }
 {
     let head = g.production(p).head();
-    if !is_opened(view, head) {
+    if !is_seen_expanded(view, head) {
         return Ok(None);
     }
     let mut pool = MatPool::new(alloc);
@@ -58,9 +58,9 @@ fn first_of(
     Ok(first_difference(rows_of(deps, head), matrix.rows))
 }
 
-/// The least production that disagrees with its opened head, with the first pair on which it does, or `None` where there is none. Fails only for want of memory.
+/// The least production that disagrees with its seen, expanded head, with the first pair on which it does, or `None` where there is none. Fails only for want of memory.
 ///
-/// Cost: one pass through each body of an opened module.
+/// Cost: one pass through each body of a seen, expanded module.
 pub fn least_disagreement(
     alloc: Global,
     g: &Grammar,
@@ -69,7 +69,7 @@ pub fn least_disagreement(
 ) -> Result<Option<Disagreement>, AllocError>
     requires view { IsHeldFor g.now.core view.now }
     requires rows { (m : ℕ) → IsSeenModule g.now.core view.now.core m → HasRows g.now.core deps.now m }
-    ensures { IfOk result (λ o. MatchOption o ((p : ℕ) → p < length g.now.core.productions → AgreesIfOpened g.now.core view.now.core (pairs_of deps.now) p) (λ x. IsLeastDisagreement g.now.core view.now.core (pairs_of deps.now) x)) }
+    ensures { IfOk result (λ o. MatchOption o ((p : ℕ) → p < length g.now.core.productions → AgreesIfExpanded g.now.core view.now.core (pairs_of deps.now) p) (λ x. IsLeastDisagreement g.now.core view.now.core (pairs_of deps.now) x)) }
 {
     for k in 0..g.productions().len() {
         let production = ProdNo(k as u16);

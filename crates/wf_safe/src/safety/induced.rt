@@ -1,4 +1,4 @@
-// The rows of one opened module.
+// The rows of one seen, expanded module.
 ghost use Rattle.std.specs.Prelude.{◌<◌, ◌+◌, length, OnOk};
 ghost use Rattle.wf_model.specs.Grammar.{head_of};
 ghost use Rattle.wf_model.specs.WellFormed.{IsWellFormed};
@@ -7,7 +7,7 @@ ghost use Rattle.wf_check.specs.Proper.{IsRankingOf};
 ghost use Rattle.wf_view.specs.Held.{IsHeldFor};
 ghost use Rattle.wf_safe.specs.Inducing.{AreInducedBefore, GetsInduced};
 
-use crate::safety::opened::is_opened;
+use crate::safety::expanded::is_seen_expanded;
 use bool_mat::MatPool;
 use std::alloc::{AllocError, Global};
 use wf_body::induced;
@@ -30,7 +30,7 @@ fn set_induced(alloc: Global, g: &Grammar, p: ProdNo, deps: &mut Deps) -> Result
     deps.set(g.production(p).head(), matrix.rows)
 }
 
-/// Sets the rows of a module, if it is opened and has this rank, to the pairs that its chosen production induces. Fails only for want of memory.
+/// Sets the rows of a module, if it is seen and expanded and has this rank, to the pairs that its chosen production induces. Fails only for want of memory.
 pub fn induce(
     alloc: Global,
     g: &Grammar,
@@ -47,7 +47,7 @@ pub fn induce(
     requires before { AreInducedBefore g.now.core view.now.core proper.now rank m.0 deps.old }
     ensures { OnOk result (AreInducedBefore g.now.core view.now.core proper.now rank (m.0 + 1) deps.new) }
 {
-    if !is_opened(view, m) || proper.rank(m) != rank {
+    if !is_seen_expanded(view, m) || proper.rank(m) != rank {
         return Ok(());
     }
     set_induced(alloc, g, proper.choice(m), deps)

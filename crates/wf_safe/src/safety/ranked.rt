@@ -1,4 +1,4 @@
-// The rows of all opened modules, in order of rank.
+// The rows of all seen, expanded modules, in order of rank.
 ghost use Rattle.std.specs.Prelude.{◌≤◌, ◌<◌, ◌+◌, ℕ, length, OnOk};
 ghost use Rattle.wf_check.specs.Proper.{IsRankingOf};
 ghost use Rattle.wf_view.specs.Held.{IsHeldFor};
@@ -22,7 +22,7 @@ fn greatest_rank(g: &Grammar, proper: &Proper) -> u32
     greatest
 }
 
-/// Sets the rows of the opened modules of one rank, where those of lower ranks are set. Fails only for want of memory.
+/// Sets the rows of the seen, expanded modules of one rank, where those of lower ranks are set. Fails only for want of memory.
 fn induce_rank(
     alloc: Global,
     g: &Grammar,
@@ -42,9 +42,9 @@ fn induce_rank(
     Ok(())
 }
 
-/// Sets the rows of each opened module to the pairs that its chosen production induces, where those of the other seen modules are set. Fails only for want of memory.
+/// Sets the rows of each seen, expanded module to the pairs that its chosen production induces, where those of the other seen modules are set. Fails only for want of memory.
 ///
-/// Cost: one pass through the chosen body of each opened module, and one look at each module for each rank.
+/// Cost: one pass through the chosen body of each seen, expanded module, and one look at each module for each rank.
 pub fn induce_all(
     alloc: Global,
     g: &Grammar,

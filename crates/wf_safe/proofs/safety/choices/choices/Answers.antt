@@ -5,9 +5,9 @@ use Rattle.wf_safe.specs.declared.witness.Choice.{Choice}
 use Rattle.wf_safe.specs.Inducing.{choice_of}
 use Rattle.wf_safe.specs.Witness.{IsChoiceOf, chosen_in}
 use Rattle.wf_safe.proofs.Choosing.{AreChosenBelow, none_chosen, next_chosen, not_chosen, choice_made}
-use Rattle.wf_safe.proofs.SeenBelow.{opened_is, not_opened}
+use Rattle.wf_safe.proofs.SeenBelow.{seen_expanded_is, not_seen_expanded}
 use Rattle.wf_safe.proofs.safety.choices.choices.Goals as goal
-use Rattle.wf_safe.proofs.safety.choices.choices.Goals.{then-is_opened+in_ok-push, else-is_opened}
+use Rattle.wf_safe.proofs.safety.choices.choices.Goals.{then-is_seen_expanded+in_ok-push, else-is_seen_expanded}
 
 pub loop-k-init : goal.loop-k-init
 loop-k-init c =
@@ -22,11 +22,11 @@ loop-k-preserved c =
     let r = c.args.proper.now in
     let same = ap (λ (ms : List Module). length ms) c.modules-k-end.ensures.modules in
     let low : c.loop-k.k < length g.modules = omega arith in
-    elim c.if-is_opened.branch [
-      | then-is_opened+in_ok-push w ↦ subst (λ (l : List Choice). AreChosenBelow g v.core r (c.loop-k.k + 1) (chosen_in l)) (sym (ap (λ l. l.items) w.list-is ∙ w.in_ok-push.ensures.items))
-          (next_chosen g v.core r c.loop-k.k c.loop-k.list.items _ c.loop-k.invariant ((opened_is g v c.loop-k.k c.requires.view low).0 (sym c.is_opened.ensures ∙ w.if-is_opened.true)) refl w.choice-production.ensures)
-      | else-is_opened w ↦ subst (λ (l : List Choice). AreChosenBelow g v.core r (c.loop-k.k + 1) (chosen_in l)) (sym (ap (λ l. l.items) w.list-is))
-          (not_chosen g v.core r c.loop-k.k (chosen_in c.loop-k.list.items) c.loop-k.invariant (not_opened g v c.loop-k.k c.requires.view low (sym c.is_opened.ensures ∙ w.if-is_opened.false)))
+    elim c.if-is_seen_expanded.branch [
+      | then-is_seen_expanded+in_ok-push w ↦ subst (λ (l : List Choice). AreChosenBelow g v.core r (c.loop-k.k + 1) (chosen_in l)) (sym (ap (λ l. l.items) w.list-is ∙ w.in_ok-push.ensures.items))
+          (next_chosen g v.core r c.loop-k.k c.loop-k.list.items _ c.loop-k.invariant ((seen_expanded_is g v c.loop-k.k c.requires.view low).0 (sym c.is_seen_expanded.ensures ∙ w.if-is_seen_expanded.true)) refl w.choice-production.ensures)
+      | else-is_seen_expanded w ↦ subst (λ (l : List Choice). AreChosenBelow g v.core r (c.loop-k.k + 1) (chosen_in l)) (sym (ap (λ l. l.items) w.list-is))
+          (not_chosen g v.core r c.loop-k.k (chosen_in c.loop-k.list.items) c.loop-k.invariant (not_seen_expanded g v c.loop-k.k c.requires.view low (sym c.is_seen_expanded.ensures ∙ w.if-is_seen_expanded.false)))
     ]
 
 pub returns-clause-choice : goal.returns-clause-choice
