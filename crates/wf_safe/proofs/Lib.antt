@@ -15,3 +15,13 @@ pub mod Settling
 pub mod Checking
 pub mod Disagreeing
 pub mod OneWitness
+pub mod ByRows
+pub mod Choosing
+pub mod Comparing
+pub mod Falling
+pub mod FirstWitness
+pub mod Inducing
+pub mod LowestBit
+pub mod SeenBelow
+pub mod SetRows
+pub mod Showing

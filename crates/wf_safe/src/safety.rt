@@ -6,8 +6,21 @@ ghost use Rattle.wf_view.specs.Held.{IsHeldFor};
 ghost use Rattle.wf_safe.specs.Full.{AreFullRows};
 ghost use Rattle.wf_safe.specs.Witness.{IsFault};
 
+mod choices;
+mod difference;
+mod disagreement;
+mod expanded;
+mod induced;
+mod ranked;
+mod shown;
+mod telling;
+
 use crate::fault::SafeFault;
 use crate::full::FullDeps;
+use crate::safety::disagreement::least_disagreement;
+use crate::safety::ranked::induce_all;
+use crate::safety::shown::shown_deps;
+use crate::safety::telling::told;
 use std::alloc::Global;
 use wf_check::Proper;
 use wf_spec::Grammar;
@@ -34,5 +47,13 @@ pub fn full_deps(
     ensures full { IfOk result (λ f. AreFullRows g.now.core view.now.core f) }
     ensures refused { IfErr result (λ e. IsFault g.now.core view.now.core proper.now e) }
 {
-    Err(SafeFault::NoMemory)
+    let mut deps = shown_deps(alloc, g, view)?;
+    induce_all(alloc, g, proper, view, &mut deps)?;
+    match least_disagreement(alloc, g, view, &deps)? {
+        Some(found) => {
+            let witness = told(alloc, g, proper, view, found)?;
+            Err(SafeFault::Unsafe { witness })
+        }
+        None => Ok(FullDeps::of_rows(deps)),
+    }
 }

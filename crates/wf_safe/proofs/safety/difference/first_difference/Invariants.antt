@@ -1,0 +1,6 @@
+use Rattle.std.proofs.Common.{◌≡◌, ℕ, ◌<◌, get_or}
+use Rattle.wf_safe.proofs.safety.difference.first_difference.Given as goal
+
+-- the rows so far are equal
+abbrev pub invariant-loop-i : goal.invariant-loop-i
+invariant-loop-i l = (k : ℕ) → k < l.i → get_or l.one k 0 ≡ get_or l.other k 0

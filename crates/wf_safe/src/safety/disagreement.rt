@@ -1,0 +1,81 @@
+// The least production that does not join the pairs of its head.
+ghost use Rattle.std.specs.Prelude.{◌≡◌, ◌<◌, ℕ, Some, None, length, get_or, IfOk, MatchOption};
+ghost use Rattle.wf_model.specs.Grammar.{Grammar as GrammarSeen};
+ghost use Rattle.wf_model.specs.Meaning.{pairs_of};
+ghost use Rattle.wf_model.specs.View.{IsSeenModule};
+ghost use Rattle.wf_body.specs.Matrices.{HasRows};
+ghost use Rattle.wf_view.specs.Held.{IsHeldFor};
+ghost use Rattle.wf_safe.specs.Disagreeing.{AgreesIfExpanded, IsFirstOf, IsLeastDisagreement};
+
+use crate::safety::difference::{Difference, first_difference};
+use crate::safety::expanded::is_seen_expanded;
+use bool_mat::MatPool;
+use std::alloc::{AllocError, Global};
+use wf_body::induced;
+use wf_spec::{Deps, Grammar, ModNo, ProdNo};
+use wf_view::View;
+
+/// A production that does not join the pairs of its head, and the first pair on which the two disagree.
+#[derive(Clone, Copy, Drop)]
+pub struct Disagreement {
+    pub production: ProdNo,
+    pub pair: Difference,
+}
+
+/// The rows of a module that has them.
+fn rows_of(deps: &Deps, m: ModNo) -> &[u64]
+    requires { (g : GrammarSeen) × HasRows g deps.now m.0 }
+    ensures { Some result.now ≡ get_or deps.now m.0 None }
+{
+    match deps.rows(m) {
+        Some(rows) => rows,
+        None => &[],
+    }
+}
+
+/// The first pair on which a production disagrees with its head, if this is seen and expanded and there is one. Fails only for want of memory.
+///
+/// Cost: one pass through the body.
+fn first_of(
+    alloc: Global,
+    g: &Grammar,
+    view: &View,
+    deps: &Deps,
+    p: ProdNo,
+) -> Result<Option<Difference>, AllocError>
+    requires view { IsHeldFor g.now.core view.now }
+    requires rows { (m : ℕ) → IsSeenModule g.now.core view.now.core m → HasRows g.now.core deps.now m }
+    requires production { p.0 < length g.now.core.productions }
+    ensures { IfOk result (λ o. MatchOption o (AgreesIfExpanded g.now.core view.now.core (pairs_of deps.now) p.0) (λ x. IsFirstOf g.now.core view.now.core (pairs_of deps.now) p.0 x)) }
+{
+    let head = g.production(p).head();
+    if !is_seen_expanded(view, head) {
+        return Ok(None);
+    }
+    let mut pool = MatPool::new(alloc);
+    let number = induced(alloc, g, p, deps, &mut pool)?;
+    let matrix = pool.get(number);
+    Ok(first_difference(rows_of(deps, head), matrix.rows))
+}
+
+/// The least production that disagrees with its seen, expanded head, with the first pair on which it does, or `None` where there is none. Fails only for want of memory.
+///
+/// Cost: one pass through each body of a seen, expanded module.
+pub fn least_disagreement(
+    alloc: Global,
+    g: &Grammar,
+    view: &View,
+    deps: &Deps,
+) -> Result<Option<Disagreement>, AllocError>
+    requires view { IsHeldFor g.now.core view.now }
+    requires rows { (m : ℕ) → IsSeenModule g.now.core view.now.core m → HasRows g.now.core deps.now m }
+    ensures { IfOk result (λ o. MatchOption o ((p : ℕ) → p < length g.now.core.productions → AgreesIfExpanded g.now.core view.now.core (pairs_of deps.now) p) (λ x. IsLeastDisagreement g.now.core view.now.core (pairs_of deps.now) x)) }
+{
+    for k in 0..g.productions().len() {
+        let production = ProdNo(k as u16);
+        if let Some(pair) = first_of(alloc, g, view, deps, production)? {
+            return Ok(Some(Disagreement { production, pair }));
+        }
+    }
+    Ok(None)
+}
