@@ -14,8 +14,8 @@ pub mod CompositeLines
 pub mod SpecSteps
 pub mod Answering
 pub mod EventLines
+pub mod SeenModules
 pub mod FlatLinks
-pub mod Marked
 pub mod Answered
 pub mod Tracing
 pub mod OutcomeLaws

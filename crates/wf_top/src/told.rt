@@ -304,7 +304,11 @@ fn put_ports<E: Sink>(err: &mut E, g: &Grammar, w: &Witness) -> Result<(), Faile
 fn joined_word(joined: bool) -> &'static [u8]
     ensures { result.now ≡ joined_text joined }
 {
-    if joined { b" joined one" } else { b" joined other" }
+    if joined {
+        b" joined one"
+    } else {
+        b" joined other"
+    }
 }
 
 fn put_choice<E: Sink>(err: &mut E, g: &Grammar, c: Choice) -> Result<(), Failed>

@@ -4,9 +4,9 @@ use Rattle.wf_top.proofs.answer.verdict.Goals as goal
 pub returns-then-joined : goal.returns-then-joined
 returns-then-joined c =
     let p = c.args.p.now in
-    joined_line p.grammar.now.core p.run.now p.flat c.requires.prepared c.args.first.to c.args.second.from c.in-Some.from c.in-Some-from.to c.in-Some.is c.in-Some-from.is c.requires.first.to c.requires.second.from c.in_ok-joined.joined c.in_ok-joined.ensures.by_name c.if-joined.true
+    joined_line p.viewed.now.grammar.core p.viewed.now.view.core p.run.now p.flat c.requires.prepared c.args.first.to c.args.second.from c.in-Some.from c.in-Some-from.to c.in-Some.is c.in-Some-from.is c.requires.first.to c.requires.second.from c.in_ok-joined.joined c.in_ok-joined.ensures.by_name c.if-joined.true
 
 pub returns : goal.returns
 returns c =
     let p = c.args.p.now in
-    apart_line p.grammar.now.core p.run.now p.flat c.requires.prepared c.args.first.to c.args.second.from c.in-Some.from c.in-Some-from.to c.in-Some.is c.in-Some-from.is c.requires.first.to c.requires.second.from c.in_ok-joined.joined c.in_ok-joined.ensures.by_name c.if-joined.false
+    apart_line p.viewed.now.grammar.core p.viewed.now.view.core p.run.now p.flat c.requires.prepared c.args.first.to c.args.second.from c.in-Some.from c.in-Some-from.to c.in-Some.is c.in-Some-from.is c.requires.first.to c.requires.second.from c.in_ok-joined.joined c.in_ok-joined.ensures.by_name c.if-joined.false
