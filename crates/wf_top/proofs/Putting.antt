@@ -1,5 +1,5 @@
 -- What was appended to a sink that may tell its bytes.
-use Rattle.std.proofs.Common.{◌≡◌, ℕ, ◌+◌, ◌<◌, Bool, List, [], ◌++◌, length, get_or, map, take, drop, Option, Some, None, option_map, min, refl, sym, ap, ◌∙◌, subst, inl, inr, arith, append_assoc, append-nil}
+use Rattle.std.proofs.Common.{◌≡◌, ℕ, ◌+◌, ◌<◌, Bool, List, [], ◌++◌, length, get_or, map, flat_map, take, drop, Option, Some, None, option_map, min, refl, sym, ap, ◌∙◌, subst, inl, inr, arith, append_assoc, append-nil}
 use Rattle.std.specs.Prelude.{Result, Ok, Err, IsErrAnd, codes, decimal}
 use Rattle.std.proofs.Math.Seq.{take-append-add}
 use Rattle.std.proofs.lemmas.List.{take-append-le, take_min, drop_more}
@@ -32,6 +32,10 @@ begun_longer k xs ys a b p = let s = shorter k xs ys in (s.0, subst (λ l. Appen
 -- a text, and then the beginning of another
 pub begun_after : (xs ys : List ℕ) (k : ℕ) (a b c : Option (List ℕ)) → Appended xs a b → Appended (take k ys) b c → (j : ℕ) × Appended (take j (xs ++ ys)) a c
 begun_after xs ys k a b c p q = (length xs + k, subst (λ l. Appended l a c) (sym (take-append-add xs ys k)) (appended_twice xs (take k ys) a b c p q))
+
+-- the texts of a list begin with that of the first
+pub texts_next : {A : Type 0} (f : A → List ℕ) (xs : List A) (k : ℕ) (d : A) → k < length xs → flat_map f (drop k xs) ≡ f (get_or xs k d) ++ flat_map f (drop (k + 1) xs)
+texts_next f xs k d h = ap (flat_map f) (drop_more xs k d h)
 
 -- the number of a production
 abbrev pub number_of : ProdNo → ℕ

@@ -5,7 +5,7 @@ ghost use Rattle.wf_recur.specs.Cycles.{AreCyclesOf, on_of, step_of};
 ghost use Rattle.wf_top.specs.Refusals.{step_text};
 ghost use Rattle.wf_top.specs.CheckText.{is_composite, composite_modules, cycle_text, check_line, check_text_of};
 
-use crate::told::{module_name, position_name};
+use crate::names::{module_name, position_name};
 use itoa::Buffer;
 use std::alloc::{AllocError, Global};
 use wf_check::Proper;

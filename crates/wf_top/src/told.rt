@@ -1,20 +1,19 @@
 // The texts of refusals, put piece by piece.
 ghost use Rattle.std.specs.Prelude.{◌≡◌, ◌++◌, Some, map, codes, decimal};
-ghost use Rattle.wf_view.specs.Viewing.{name_of, input_name, output_name};
 ghost use Rattle.wf_model.specs.Grammar.{module_at};
 ghost use Rattle.wf_recur.specs.Cycles.{step_of};
 ghost use Rattle.wf_top.specs.Meets.{Puts};
-ghost use Rattle.wf_top.specs.Refusals.{member_word, spot_text, form_name, form_spot, behind_space, form_text, numbers_text, check_text, position_name, step_text, recur_text, run_name, view_name, view_spot, behind_view_spot, view_text, joined_text, choices_text, ports_text, productions_text, unsafe_text, refusal_text};
+ghost use Rattle.wf_top.specs.Refusals.{member_word, spot_text, form_name, form_spot, behind_space, form_text, numbers_text, check_text, step_text, recur_text, run_name, refusal_text};
 
+use crate::names::{module_name, position_name};
 use crate::put::{put, put_numbered, put_numbers, put_two};
 use crate::refusal::Refusal;
+use crate::told_view::{put_unsafe, put_view};
 use wf_check::CheckFault;
 use wf_io::{Failed, Sink};
 use wf_json::Member;
 use wf_recur::RecurFault;
-use wf_safe::{Choice, Witness};
-use wf_spec::{FormFault, Grammar, ModNo, PortNo, ProdNo, RunFault, Spot, Step};
-use wf_view::{ViewFault, ViewSpot};
+use wf_spec::{FormFault, Grammar, ModNo, ProdNo, RunFault, Spot, Step};
 
 fn member_word(member: Member) -> &'static [u8]
     ensures { result.now ≡ member_word member }
@@ -106,16 +105,6 @@ fn put_form<E: Sink>(err: &mut E, fault: FormFault) -> Result<(), Failed>
     put_behind_space(err, at)
 }
 
-/// The name of a module, and none past the end.
-pub fn module_name(g: &Grammar, m: ModNo) -> &[u8]
-    ensures { result.now ≡ (module_at g.now.core m.0).name }
-{
-    match g.modules().get(m.0 as usize) {
-        Some(module) => module.name(),
-        None => b"",
-    }
-}
-
 fn put_check<E: Sink>(err: &mut E, g: &Grammar, fault: &CheckFault) -> Result<(), Failed>
     ensures { Puts E.put_bytes E.faults E.at_last (check_text g.now.core fault.now) err.old err.new result }
 {
@@ -140,19 +129,6 @@ fn put_cycle<E: Sink>(err: &mut E, productions: &[ProdNo]) -> Result<(), Failed>
 {
     put(err, b"UnitCycle productions")?;
     put_numbers(err, productions)
-}
-
-/// The name of the position to which a step leads, and none past the end.
-pub fn position_name(g: &Grammar, step: Step) -> &[u8]
-    ensures { result.now ≡ position_name g.now.core (step_of step) }
-{
-    let Some(rule) = g.productions().get(step.production.0 as usize) else {
-        return b"";
-    };
-    match rule.positions().get(step.position.0 as usize) {
-        Some(position) => position.name.bytes(),
-        None => b"",
-    }
 }
 
 /// Puts a word and a step.
@@ -212,130 +188,6 @@ fn run_name(fault: RunFault) -> &'static [u8]
         RunFault::TooManyInstances => b"TooManyInstances",
         RunFault::NoMemory => b"NoMemory",
     }
-}
-
-fn view_name(fault: ViewFault) -> &'static [u8]
-    ensures { result.now ≡ view_name fault }
-{
-    match fault {
-        ViewFault::UnknownModule { at: _ } => b"UnknownModule",
-        ViewFault::NotComposite { expand: _ } => b"NotComposite",
-        ViewFault::DepsOnExpanded { deps: _ } => b"DepsOnExpanded",
-        ViewFault::UnknownPort { deps: _ } => b"UnknownPort",
-        ViewFault::ModuleTwice { at: _ } => b"ModuleTwice",
-        ViewFault::NoMemory => b"NoMemory",
-    }
-}
-
-/// The place in a view that a fault is about, if it is about one.
-fn view_spot(fault: ViewFault) -> Option<ViewSpot>
-    ensures { result ≡ view_spot fault }
-{
-    match fault {
-        ViewFault::UnknownModule { at } => Some(at),
-        ViewFault::NotComposite { expand } => Some(ViewSpot::ExpandAt(expand)),
-        ViewFault::DepsOnExpanded { deps } => Some(ViewSpot::DepsAt(deps)),
-        ViewFault::UnknownPort { deps } => Some(ViewSpot::DepsAt(deps)),
-        ViewFault::ModuleTwice { at } => Some(at),
-        ViewFault::NoMemory => None,
-    }
-}
-
-fn put_view_spot<E: Sink>(err: &mut E, at: ViewSpot) -> Result<(), Failed>
-    ensures { Puts E.put_bytes E.faults E.at_last (behind_view_spot (Some at)) err.old err.new result }
-{
-    match at {
-        ViewSpot::ExpandAt(n) => put_numbered(err, b" expand ", n),
-        ViewSpot::DepsAt(n) => put_numbered(err, b" deps ", n),
-    }
-}
-
-fn put_view<E: Sink>(err: &mut E, fault: ViewFault) -> Result<(), Failed>
-    ensures { Puts E.put_bytes E.faults E.at_last (view_text fault) err.old err.new result }
-{
-    put(err, view_name(fault))?;
-    let Some(at) = view_spot(fault) else {
-        return Ok(());
-    };
-    put_view_spot(err, at)
-}
-
-/// The name of an input of a module, and none past the end.
-pub fn input_name(g: &Grammar, m: ModNo, i: PortNo) -> &[u8]
-    ensures { result.now ≡ input_name g.now.core m.0 i.0 }
-{
-    let Some(module) = g.modules().get(m.0 as usize) else {
-        return b"";
-    };
-    match module.inputs().get(i.0 as usize) {
-        Some(name) => name.bytes(),
-        None => b"",
-    }
-}
-
-/// The name of an output of a module, and none past the end.
-pub fn output_name(g: &Grammar, m: ModNo, o: PortNo) -> &[u8]
-    ensures { result.now ≡ output_name g.now.core m.0 o.0 }
-{
-    let Some(module) = g.modules().get(m.0 as usize) else {
-        return b"";
-    };
-    match module.outputs().get(o.0 as usize) {
-        Some(name) => name.bytes(),
-        None => b"",
-    }
-}
-
-fn put_productions<E: Sink>(err: &mut E, g: &Grammar, w: &Witness) -> Result<(), Failed>
-    ensures { Puts E.put_bytes E.faults E.at_last (productions_text g.now.core w.now) err.old err.new result }
-{
-    put_two(err, b"Unsafe module ", module_name(g, w.module))?;
-    put_numbered(err, b" one ", u64::from(w.one.0))?;
-    put_numbered(err, b" other ", u64::from(w.other.0))
-}
-
-fn put_ports<E: Sink>(err: &mut E, g: &Grammar, w: &Witness) -> Result<(), Failed>
-    ensures { Puts E.put_bytes E.faults E.at_last (ports_text g.now.core w.now) err.old err.new result }
-{
-    put_two(err, b" input ", input_name(g, w.module, w.input))?;
-    put_two(err, b" output ", output_name(g, w.module, w.output))
-}
-
-fn joined_word(joined: bool) -> &'static [u8]
-    ensures { result.now ≡ joined_text joined }
-{
-    if joined {
-        b" joined one"
-    } else {
-        b" joined other"
-    }
-}
-
-fn put_choice<E: Sink>(err: &mut E, g: &Grammar, c: Choice) -> Result<(), Failed>
-    ensures { Puts E.put_bytes E.faults E.at_last ((codes " " ++ name_of g.now.core c.«module».0) ++ (codes "=" ++ decimal c.production.0)) err.old err.new result }
-{
-    put_two(err, b" ", module_name(g, c.module))?;
-    put_numbered(err, b"=", u64::from(c.production.0))
-}
-
-fn put_choices<E: Sink>(err: &mut E, g: &Grammar, choices: &[Choice]) -> Result<(), Failed>
-    ensures { Puts E.put_bytes E.faults E.at_last (choices_text g.now.core choices.now) err.old err.new result }
-{
-    for c in choices {
-        put_choice(err, g, *c)?;
-    }
-    Ok(())
-}
-
-/// Puts the witness of a view that is not safe, by the names of modules and ports.
-fn put_unsafe<E: Sink>(err: &mut E, g: &Grammar, w: &Witness) -> Result<(), Failed>
-    ensures { Puts E.put_bytes E.faults E.at_last (unsafe_text g.now.core w.now) err.old err.new result }
-{
-    put_productions(err, g, w)?;
-    put_ports(err, g, w)?;
-    put(err, joined_word(w.joined_by_one))?;
-    put(err, b" choice")?;
-    put_choices(err, g, w.choice.items())
 }
 
 /// Puts the text of a refusal.

@@ -7,7 +7,7 @@ ghost use Rattle.wf_model.specs.View.{expands};
 ghost use Rattle.wf_body.specs.Matrices.{HasRows};
 ghost use Rattle.wf_top.specs.ViewText.{pair_text, row_text, pairs_text, state_text, module_line};
 
-use crate::told::{input_name, module_name, output_name};
+use crate::names::{input_name, module_name, output_name};
 use crate::view::Viewed;
 use std::alloc::{AllocError, Global};
 use wf_spec::{Grammar, ModNo, PortNo};
