@@ -15,3 +15,4 @@ pub mod Marked
 pub mod Answered
 pub mod Tracing
 pub mod OutcomeLaws
+pub mod ViewLines
