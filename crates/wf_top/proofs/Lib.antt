@@ -19,3 +19,4 @@ pub mod FlatLinks
 pub mod Answered
 pub mod Tracing
 pub mod OutcomeLaws
+pub mod ViewLines
