@@ -84,6 +84,8 @@ module _ (g : Grammar) (v : HeldView) (r : Ranking) (rows : List (Option (List �
 
   pub full_told : ((p : ℕ) → p < length g.productions → AgreesIfExpanded g v.core (pairs_of rows) p) → AreFullRows g v.core rows
   full_told agree = record {
+    places = known.one_each;
+    fit = known.fit;
     each = each_has_rows g v.core r rows known;
     full = one_test_suffices g v.core (pairs_of rows) wf (all_induce agree);
     induced = all_induce agree;

@@ -17,7 +17,7 @@ use Rattle.wf_safe.specs.Witness.{ComesBefore}
 use Rattle.wf_safe.proofs.Falling.{falls}
 use Rattle.wf_safe.proofs.SameBodies.{body_joins_same}
 use Rattle.wf_safe.proofs.SeenBelow.{seen_below}
-use Rattle.wf_safe.proofs.SetRows.{pairs_stay, rows_stay, shown_stays, matrix_set}
+use Rattle.wf_safe.proofs.SetRows.{fit_set, pairs_stay, rows_stay, shown_stays, matrix_set}
 
 -- the modules of the chosen body of a seen, expanded module are seen
 chosen_seen : (g : Grammar) (u : View) (p m k : ℕ) → p < length g.productions → head_of g p ≡ m → IsSeenExpanded g u m → IsIn k (body_of g p) → IsSeenModule g u k
@@ -27,6 +27,7 @@ chosen_seen g u p m k hp e o i = in_body p hp (subst (IsSeenModule g u) (sym e) 
 pub none_before : (g : Grammar) (v : HeldView) (r : Ranking) (rows : List (Option (List ℕ))) → IsWellFormed g → IsRankingOf g r → IsHeldFor g v → AreShownBelow g v.core (length g.modules) rows → AreInducedBefore g v.core r 1 0 rows
 none_before g v r rows wf h held s = record {
   one_each = s.one_each;
+  fit = s.fit;
   shown = λ m seen e. s.shown m (seen_below g v.core m wf seen) seen e;
   induced = λ m o b. let f = falls g r m wf h (held.is_view.expanded m o.1) in
       let p = f.positive in
@@ -45,6 +46,7 @@ before_cases a m n k (inr b) =
 pub passed_by : (g : Grammar) (u : View) (r : Ranking) (n k : ℕ) (rows : List (Option (List ℕ))) → AreInducedBefore g u r n k rows → (IsSeenExpanded g u k → rank_of r k ≡ n → ⊥) → AreInducedBefore g u r n (k + 1) rows
 passed_by g u r n k rows b not = record {
   one_each = b.one_each;
+  fit = b.fit;
   shown = b.shown;
   induced = λ m o c. ⊎_elim (λ d. b.induced m o d)
       (λ (d : (rank_of r m ≡ n) × (m ≡ k)). absurd (not (subst (IsSeenExpanded g u) d.1 o) (ap (rank_of r) (sym d.1) ∙ d.0)))
@@ -94,6 +96,7 @@ next_before g v r n k old new wf h held b o e s =
     let len = b.one_each in
     subst (AreInducedBefore g v.core r n (k + 1)) (sym (s.set ∙ ap (λ z. set old z (Some s.rows)) f.of_module.1)) (record {
       one_each = length-set old k (Some s.rows) ∙ b.one_each;
+      fit = fit_set g old s.rows k (this (omega arith) f.of_module.1).held b.fit;
       shown = λ m seen x. shown_stays g v.core old (Some s.rows) k m (λ q. true≢false (sym (ap (expands v.core) q ∙ o.1) ∙ x)) (b.shown m seen x);
       induced = λ m p c. elim (same_or_not m k) [
         | inl q ↦ subst (HasInduced g r (set old k (Some s.rows))) (sym q) (this (omega arith) f.of_module.1)
@@ -118,6 +121,7 @@ next_before g v r n k old new wf h held b o e s =
 pub next_rank : (g : Grammar) (u : View) (r : Ranking) (n : ℕ) (rows : List (Option (List ℕ))) → IsWellFormed g → AreInducedBefore g u r n (length g.modules) rows → AreInducedBefore g u r (n + 1) 0 rows
 next_rank g u r n rows wf b = record {
   one_each = b.one_each;
+  fit = b.fit;
   shown = b.shown;
   induced = λ m o c. b.induced m o (cases (rank_of r m) m (seen_below g u m wf o.0) c);
 }
@@ -129,6 +133,8 @@ next_rank g u r n rows wf b = record {
 -- after the greatest rank all is known
 pub all_induced : (g : Grammar) (u : View) (r : Ranking) (n : ℕ) (rows : List (Option (List ℕ))) → IsRankingOf g r → ((m : ℕ) → m < length g.modules → rank_of r m ≤ n) → AreInducedBefore g u r (n + 1) 0 rows → AreInduced g u r rows
 all_induced g u r n rows h most b = record {
+  one_each = b.one_each;
+  fit = b.fit;
   shown = b.shown;
   induced = λ m o. b.induced m o (inl (within m));
 }

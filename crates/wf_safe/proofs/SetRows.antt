@@ -1,13 +1,16 @@
 -- Rows that are set for one module.
-use Rattle.std.proofs.Common.{◌≡◌, ◌≢◌, ◌↔◌, ℕ, ◌<◌, ◌^◌, IsTrue, List, length, get_or, set, length-set, Option, Some, None, sym, ap, ◌∙◌, subst}
+use Rattle.std.proofs.Common.{◌≡◌, ◌≢◌, ◌↔◌, ℕ, ◌<◌, ◌^◌, IsTrue, List, length, get_or, set, length-set, Option, Some, None, replicate, inl, inr, ⊎_elim, sym, ap, ◌∙◌, subst, arith}
 use Rattle.std.specs.List.{All}
-use Rattle.std.proofs.lemmas.List.{get_or-set_same, get_or-set_other}
+use Rattle.std.proofs.lemmas.Bool.{cases_lt}
+use Rattle.std.proofs.lemmas.List.{get_or-set_same, get_or-set_other, get_or-replicate, get_or_past, length-replicate}
 use Rattle.wf_model.specs.Grammar.{Grammar, inputs_of, outputs_of}
 use Rattle.wf_model.specs.Meaning.{bit_of, pairs_of}
 use Rattle.wf_model.specs.View.{View, shows}
 use Rattle.bool_mat.specs.Matrix.{has}
 use Rattle.wf_body.specs.Matrices.{HasRows, IsMatrixOf}
 use Rattle.wf_body.proofs.Rowing.{pair_is}
+use Rattle.bool_mat.proofs.Rows.{same_or_not}
+use Rattle.wf_safe.specs.Full.{AreFit}
 use Rattle.wf_safe.specs.Inducing.{HasPairs, HasShown}
 
 -- the rows of the other modules stay
@@ -41,6 +44,20 @@ rows_set g rows new m l one_each no_more = record {
 
 pub pairs_set : (rows : List (Option (List ℕ))) (new : List ℕ) (m i o : ℕ) → m < length rows → pairs_of (set rows m (Some new)) m i o ≡ has (get_or new i 0) o
 pairs_set rows new m i o l = pair_is (set rows m (Some new)) new m i o (get_or-set_same rows m (Some new) None l)
+
+-- rows that fit are set among rows that fit
+pub fit_set : (g : Grammar) (rows : List (Option (List ℕ))) (new : List ℕ) (m : ℕ) → HasRows g (set rows m (Some new)) m → AreFit g rows → AreFit g (set rows m (Some new))
+fit_set g rows new m h fit k = elim (same_or_not k m) [
+  | inl e ↦ inl (subst (HasRows g (set rows m (Some new))) (sym e) h)
+  | inr q ↦ ⊎_elim (λ a. inl (rows_stay g rows (Some new) m k q a)) (λ a. inr (get_or-set_other rows m k (Some new) None q ∙ a)) (fit k)
+]
+
+-- where nothing is set, all fits
+pub fit_none : (g : Grammar) (n : ℕ) → AreFit g (replicate n None)
+fit_none g n m = elim (cases_lt m n) [
+  | inl l ↦ inr (get_or-replicate n m None None l)
+  | inr l ↦ inr (get_or_past (replicate n None) m None (let e : length (replicate {A = Option (List ℕ)} n None) ≡ n = length-replicate n None in omega (arith, e)))
+]
 
 -- so they have the pairs of their matrix
 pub matrix_set : (g : Grammar) (rows : List (Option (List ℕ))) (new : List ℕ) (m : ℕ) (R : ℕ → ℕ → Type 0) → m < length rows → IsMatrixOf (inputs_of g m) (outputs_of g m) R (record { rows = new; columns = outputs_of g m }) → HasPairs g (set rows m (Some new)) m R

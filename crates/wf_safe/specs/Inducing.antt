@@ -7,6 +7,7 @@ use Rattle.wf_model.specs.Safe.{BodyJoins}
 use Rattle.wf_body.specs.Matrices.{HasRows, IsMatrixOf}
 use Rattle.wf_check.specs.Proper.{Ranking}
 use Rattle.wf_view.specs.Held.{HeldView}
+use Rattle.wf_safe.specs.Full.{AreFit}
 use Rattle.wf_safe.specs.Witness.{ComesBefore}
 
 -- the rank of a module
@@ -38,19 +39,23 @@ HasShown g u rows m = HasPairs g rows m (λ i o. IsTrue (shows u m i o))
 abbrev pub HasInduced : Grammar → Ranking → List (Option (List ℕ)) → ℕ → Type 0
 HasInduced g r rows m = HasPairs g rows m (BodyJoins g (pairs_of rows) (choice_of r m))
 
--- Of the modules below n, each that is seen and not expanded has the pairs that the view shows
+-- What is set fits. Of the modules below n, each that is seen and not expanded has the pairs that the view shows
 pub record AreShownBelow (g : Grammar) (u : View) (n : ℕ) (rows : List (Option (List ℕ))) : Type 0 where
   pub one_each : length rows ≡ length g.modules
+  pub fit : AreFit g rows
   pub shown : (m : ℕ) → m < n → IsSeenModule g u m → expands u m ≡ false → HasShown g u rows m
 
--- Each module that is seen and not expanded has the pairs that the view shows. Each seen, expanded module that comes before module k of rank n, by rank and then number, has the pairs that its chosen production induces
+-- What is set fits. Each module that is seen and not expanded has the pairs that the view shows. Each seen, expanded module that comes before module k of rank n, by rank and then number, has the pairs that its chosen production induces
 pub record AreInducedBefore (g : Grammar) (u : View) (r : Ranking) (n k : ℕ) (rows : List (Option (List ℕ))) : Type 0 where
   pub one_each : length rows ≡ length g.modules
+  pub fit : AreFit g rows
   pub shown : (m : ℕ) → IsSeenModule g u m → expands u m ≡ false → HasShown g u rows m
   pub induced : (m : ℕ) → IsSeenExpanded g u m → ComesBefore (rank_of r m) m n k → HasInduced g r rows m
 
 -- so it is for each seen module
 pub record AreInduced (g : Grammar) (u : View) (r : Ranking) (rows : List (Option (List ℕ))) : Type 0 where
+  pub one_each : length rows ≡ length g.modules
+  pub fit : AreFit g rows
   pub shown : (m : ℕ) → IsSeenModule g u m → expands u m ≡ false → HasShown g u rows m
   pub induced : (m : ℕ) → IsSeenExpanded g u m → HasInduced g r rows m
 

@@ -2,6 +2,8 @@ use Rattle.std.proofs.Common.{◌<◌, ◌+◌, List, None, length, ap, sym, sub
 use Rattle.std.proofs.lemmas.List.{length-replicate}
 use Rattle.wf_model.specs.Grammar.{Module}
 use Rattle.wf_safe.specs.Inducing.{AreShownBelow}
+use Rattle.wf_safe.specs.Full.{AreFit}
+use Rattle.wf_safe.proofs.SetRows.{fit_none}
 use Rattle.wf_safe.proofs.Showing.{none_shown, not_shown, shown_more}
 use Rattle.wf_safe.proofs.safety.shown.shown_deps.Goals as goal
 use Rattle.wf_safe.proofs.safety.shown.shown_deps.Goals.{then-seen+then-not-expanded+in_ok-set, else-seen, else-seen-via-then-seen+else-not-expanded, else-seen-via-else-seen}
@@ -9,7 +11,7 @@ use Rattle.wf_safe.proofs.safety.shown.shown_deps.Goals.{then-seen+then-not-expa
 pub loop-k-init : goal.loop-k-init
 loop-k-init c =
     let same = ap (λ (ms : List Module). length ms) c.modules-count.ensures.modules in
-    none_shown c.args.g.now.core c.args.view.now.core c.in_ok-deps.deps (ap length c.in_ok-deps.ensures ∙ (length-replicate (length c.modules-count.result.now) None ∙ same))
+    none_shown c.args.g.now.core c.args.view.now.core c.in_ok-deps.deps (ap length c.in_ok-deps.ensures ∙ (length-replicate (length c.modules-count.result.now) None ∙ same)) (subst (AreFit c.args.g.now.core) (sym c.in_ok-deps.ensures) (fit_none c.args.g.now.core (length c.modules-count.result.now)))
 
 pub set-requires : goal.set-requires
 set-requires c =
