@@ -10,6 +10,7 @@ pub mod Rising
 pub mod ChoiceTold
 pub mod SameBodies
 pub mod Tables
+pub mod OnlyShown
 pub mod Rounds
 pub mod Settling
 pub mod Checking
