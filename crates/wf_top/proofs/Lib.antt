@@ -8,6 +8,7 @@ pub mod OneRunFault
 pub mod OneText
 pub mod CompositeLines
 pub mod SpecSteps
+pub mod ViewSteps
 pub mod Answering
 pub mod EventLines
 pub mod FlatLinks
