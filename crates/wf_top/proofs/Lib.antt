@@ -12,6 +12,7 @@ pub mod OneViewText
 pub mod ViewComposites
 pub mod CompositeLines
 pub mod SpecSteps
+pub mod ViewSteps
 pub mod Answering
 pub mod EventLines
 pub mod SeenModules

@@ -1,5 +1,5 @@
 -- How the steps of reading a specification make what its bytes tell.
-use Rattle.std.proofs.Common.{◌≡◌, ◌⊎◌, ℕ, List, None, refl, sym, subst, inl, inr, ⊎_elim}
+use Rattle.std.proofs.Common.{◌≡◌, ◌⊎◌, ℕ, List, Option, None, refl, subst, inl, inr, ⊎_elim}
 use Rattle.wf_model.specs.declared.parts.Parts.{Parts}
 use Rattle.wf_model.specs.Grammar.{Grammar}
 use Rattle.wf_model.specs.Proper.{IsProper}
@@ -14,14 +14,11 @@ use Rattle.wf_top.specs.Refusals.{form_text}
 use Rattle.wf_top.specs.Specification.{IsSpecText, TellsGrammar, RefusesGrammar, RefusesParts, RefusesSpec}
 use Rattle.wf_top.specs.Telling.{OfWhole}
 use Rattle.wf_top.specs.Stages.{Declines}
+use Rattle.wf_top.proofs.Stages.{whole_declines}
 
 -- a fault of parts, or want of memory
 pub parts_decline : (parts : Parts) (f : FormFault) (e : End) → (f ≡ NoMemoryOfForm) ⊎ IsFaultOf parts f → (f ≡ NoMemoryOfForm → e ≡ NoMemory) → (e ≡ NoMemory) ⊎ (e ≡ Refused Spec None (form_text f)) → Declines Spec (OfWhole RefusesParts parts) e
-parts_decline parts f e fault memory told =
-    ⊎_elim (λ m. wants (memory m)) (λ h. ⊎_elim (λ m. wants m) (λ r. subst (Declines Spec (OfWhole RefusesParts parts)) (sym r) (refl, (refl, inl (f, h, refl)))) told) fault
-  where
-    wants : e ≡ NoMemory → Declines Spec (OfWhole RefusesParts parts) e
-    wants m = subst (Declines Spec (OfWhole RefusesParts parts)) (sym m) tt
+parts_decline parts f e fault memory told = whole_declines Spec RefusesParts parts NoMemoryOfForm f (form_text f) e (⊎_elim (λ m. inl m) (λ h. inr (inl (f, h, refl))) fault) memory told
 
 module _ (bytes : List ℕ) (parts : Parts) (read : IsSpecText bytes parts) where
   -- the refusal of parts is one of the bytes that say them

@@ -1,5 +1,5 @@
 -- How stages make the outcome of what follows them.
-use Rattle.std.proofs.Common.{◌≡◌, ℕ, List, [], take, Option, None, refl, sym, ap, ◌∙◌, subst, inl, inr, ⊎_elim, arith, true≢false}
+use Rattle.std.proofs.Common.{◌≡◌, ◌⊎◌, ℕ, List, [], take, Option, None, refl, sym, ap, ◌∙◌, subst, inl, inr, ⊎_elim, arith, true≢false}
 use Rattle.std.specs.Prelude.{Result, Err, IfErr, Bool}
 use Rattle.wf_io.specs.Told.{File}
 use Rattle.wf_top.specs.declared.ending.Ending.{Ending}
@@ -69,6 +69,14 @@ declines_stop most place file Refuses bytes seen (Refused p line fault) told s h
 declines_stop most place file Refuses bytes seen (ReadFault p) told s h = absurd h
 declines_stop most place file Refuses bytes seen WriteFault told s h = absurd h
 declines_stop most place file Refuses bytes seen NoMemory told s h = tt
+
+-- a fault of what is refused as a whole, or want of memory, declines
+pub whole_declines : {A F : Type 0} (place : Place) (Refuses : A → List ℕ → Type 0) (a : A) (lack f : F) (text : List ℕ) (e : End) → (f ≡ lack) ⊎ Refuses a text → (f ≡ lack → e ≡ NoMemory) → (e ≡ NoMemory) ⊎ (e ≡ Refused place None text) → Declines place (OfWhole Refuses a) e
+whole_declines place Refuses a lack f text e fault memory told =
+    ⊎_elim (λ m. wants (memory m)) (λ h. ⊎_elim wants (λ r. subst (Declines place (OfWhole Refuses a)) (sym r) (refl, (refl, h))) told) fault
+  where
+    wants : e ≡ NoMemory → Declines place (OfWhole Refuses a) e
+    wants m = subst (Declines place (OfWhole Refuses a)) (sym m) tt
 
 -- what is told of bytes that are held is told by the file
 pub told_by : {A : Type 0} (most : ℕ) (file : File) (Tells : List ℕ → A → Type 0) (bytes seen : List ℕ) (a : A) → IsTold most file Holds bytes → seen ≡ bytes → Tells seen a → IsTold most file Tells a

@@ -1,5 +1,5 @@
 // VIEW: from bytes to a safe view of a grammar.
-ghost use Rattle.std.specs.Prelude.{◌≡◌, ◌≤◌, ℕ, List, Some, None, IfOk, IfErr, OnOk};
+ghost use Rattle.std.specs.Prelude.{◌≡◌, ◌⊎◌, ◌≤◌, ℕ, List, Some, None, IfOk, IfErr, OnOk};
 ghost use Rattle.wf_model.specs.Safe.{IsSafe};
 ghost use Rattle.wf_io.specs.Told.{File};
 ghost use Rattle.wf_check.specs.Proper.{IsRankingOf};
@@ -7,7 +7,8 @@ ghost use Rattle.wf_view.specs.Viewing.{view_of};
 ghost use Rattle.wf_view.specs.Rules.{IsViewed};
 ghost use Rattle.wf_view.specs.Held.{IsHeldFor};
 ghost use Rattle.wf_top.specs.declared.ending.Place.TheVariants.{View as AtView};
-ghost use Rattle.wf_top.specs.Endings.{end_of};
+ghost use Rattle.wf_top.specs.Endings.{end_of, Refused, NoMemory};
+ghost use Rattle.wf_top.specs.Refusals.{view_text};
 ghost use Rattle.wf_top.specs.ViewTold.{IsViewText, TellsView, RefusesView, RefusesViewParts, RefusesUnsafe};
 ghost use Rattle.wf_top.specs.Viewed.{IsViewedBy};
 ghost use Rattle.wf_top.specs.Telling.{OfWhole};
@@ -49,6 +50,16 @@ fn parts_of_bytes(alloc: Global, bytes: &[u8]) -> Result<ViewParts, Ending>
     }
 }
 
+fn view_ending(fault: ViewFault) -> Ending
+    ensures memory { fault ≡ ViewFault.NoMemory → end_of result ≡ NoMemory }
+    ensures refused { (end_of result ≡ NoMemory) ⊎ (end_of result ≡ Refused AtView None (view_text fault)) }
+{
+    match fault {
+        ViewFault::NoMemory => Ending::NoMemory,
+        _ => refused_whole(Place::View, Refusal::View { fault }),
+    }
+}
+
 /// The view of a grammar that parts describe.
 fn view_of_parts(alloc: Global, g: &Grammar, parts: &ViewParts) -> Result<View, Ending>
     ensures ok { IfOk result (λ v. (v.core ≡ view_of g.now.core parts.now) × IsViewed g.now.core parts.now) }
@@ -57,8 +68,7 @@ fn view_of_parts(alloc: Global, g: &Grammar, parts: &ViewParts) -> Result<View, 
 {
     match View::build(alloc, g, parts) {
         Ok(view) => Ok(view),
-        Err(ViewFault::NoMemory) => Err(Ending::NoMemory),
-        Err(fault) => Err(refused_whole(Place::View, Refusal::View { fault })),
+        Err(fault) => Err(view_ending(fault)),
     }
 }
 
@@ -66,7 +76,7 @@ fn view_of_parts(alloc: Global, g: &Grammar, parts: &ViewParts) -> Result<View, 
 fn with_full(alloc: Global, spec: Spec, view: View) -> Result<Viewed, Ending>
     requires ranking { IsRankingOf spec.grammar.core spec.ranking }
     requires held { IsHeldFor spec.grammar.core view }
-    ensures grammar { IfOk result (λ v. (v.grammar ≡ spec.grammar) × (v.view ≡ view)) }
+    ensures ok { IfOk result (λ v. (v.grammar ≡ spec.grammar) × (v.view ≡ view) × IsSafe spec.grammar.core view.core) }
     ensures viewed { IfOk result (λ v. IsViewedBy v.grammar.core v.view v.full) }
     ensures declines { IfErr result (λ e. Declines AtView (OfWhole (RefusesUnsafe spec.grammar.core) view.core) (end_of e)) }
 {
