@@ -1,5 +1,4 @@
 use Rattle.std.proofs.Common.{◌≡◌, length}
-use Rattle.wf_model.specs.DefaultView.{default_view}
 use Rattle.wf_io.specs.Lines.{lines_of}
 use Rattle.wf_flat.specs.Table.{events_of}
 use Rattle.wf_top.proofs.Answering.{Leads}
@@ -7,7 +6,7 @@ use Rattle.wf_top.proofs.queries.answer_lines.Given as goal
 
 abbrev pub invariant-loop-next : goal.invariant-loop-next
 invariant-loop-next g l =
-    Leads l.p.grammar.now.core (default_view l.p.grammar.now.core) (events_of l.p.run.now) (lines_of l.bytes) (g.O.Sink.put_bytes l.initial.out) l.lines.left (g.O.Sink.put_bytes l.out)
+    Leads l.p.viewed.now.grammar.core l.p.viewed.now.view.core (events_of l.p.run.now) (lines_of l.bytes) (g.O.Sink.put_bytes l.initial.out) l.lines.left (g.O.Sink.put_bytes l.out)
     × (g.O.Sink.faults l.out ≡ g.O.Sink.faults l.initial.out)
 
 abbrev pub decreases-loop-next : goal.decreases-loop-next
