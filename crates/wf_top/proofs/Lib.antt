@@ -15,4 +15,6 @@ pub mod Marked
 pub mod Answered
 pub mod Tracing
 pub mod OutcomeLaws
+pub mod Writing
 pub mod ViewLines
+pub mod ViewWritten
