@@ -20,4 +20,6 @@ pub mod FlatLinks
 pub mod Answered
 pub mod Tracing
 pub mod OutcomeLaws
+pub mod Writing
 pub mod ViewLines
+pub mod ViewWritten

@@ -2,7 +2,7 @@
 use Rattle.std.specs.Prelude.{◌≡◌, ◌≢◌, ◌⊎◌, ℕ, Bool, List, ◌++◌, take, Option, Some, option_map, Result, MatchResult}
 use Rattle.wf_io.specs.Told.{File, Rose}
 use Rattle.wf_top.specs.declared.status.Status.{Status}
-use Rattle.wf_top.specs.Endings.{End, WriteFault, NoMemory, status_of, line_of}
+use Rattle.wf_top.specs.Endings.{End, Done, WriteFault, NoMemory, status_of, line_of}
 use Rattle.wf_top.specs.Outcome.{IsOutcome}
 
 -- a sink that tells its bytes has got these too
@@ -29,6 +29,10 @@ IsOfOutcome ending = (ending ≢ WriteFault) × (ending ≢ NoMemory)
 pub record EndsBy (Outcome : End → List ℕ → Type 0) (ending : End) (old new : Option (List ℕ)) : Type 0 where
   pub whole : IsOfOutcome ending → (text : List ℕ) × Outcome ending text × Appended text old new
   pub begun : (e : End) (text : List ℕ) → Outcome e text → (k : ℕ) × Appended (take k text) old new
+
+-- one text is written, and that is all
+abbrev pub IsWritten : List ℕ → End → List ℕ → Type 0
+IsWritten written ending text = (ending ≡ Done) × (text ≡ written)
 
 -- over a shelf that tells its files, the program ended by its outcome
 abbrev pub EndsAsTold : Option (List ℕ → File) → List (List ℕ) → End → Option (List ℕ) → Option (List ℕ) → Type 0

@@ -1,14 +1,16 @@
--- A grammar with a safe view of it, and the full assignment.
+-- A proper grammar with a safe view of it, and the full assignment.
 use Rattle.std.specs.Prelude.{ℕ, List, Option}
 use Rattle.wf_model.specs.Grammar.{Grammar}
 use Rattle.wf_model.specs.WellFormed.{IsWellFormed}
+use Rattle.wf_model.specs.Proper.{IsProper}
 use Rattle.wf_model.specs.Safe.{IsSafe}
 use Rattle.wf_view.specs.Held.{HeldView, IsHeldFor}
 use Rattle.wf_safe.specs.Full.{AreFullRows}
 
--- a well-formed grammar, a safe view of it, and rows with exactly the pairs that every expansion of a seen module joins
+-- a well-formed, proper grammar, a safe view of it, and rows with exactly the pairs that every expansion of a seen module joins
 pub record IsViewedBy (g : Grammar) (v : HeldView) (rows : List (Option (List ℕ))) : Type 0 where
   pub formed : IsWellFormed g
+  pub proper : IsProper g
   pub held : IsHeldFor g v
   pub safe : IsSafe g v.core
   pub full : AreFullRows g v.core rows

@@ -117,6 +117,7 @@ fn taken(alloc: Global, g: Grammar) -> Result<Spec, Ending>
 /// Cost: those of `read_spec`, `Grammar::build`, `proper` and `cycles`.
 fn spec_of_bytes(alloc: Global, bytes: &[u8]) -> Result<Spec, Ending>
     ensures ok { IfOk result (λ s. TellsGrammar bytes.now s.grammar.core) }
+    ensures proper { IfOk result (λ s. IsProper s.grammar.core) }
     ensures linear { IfOk result (λ s. IsLinear s.grammar.core) }
     ensures ranking { IfOk result (λ s. IsRankingOf s.grammar.core s.ranking) }
     ensures cycles { IfOk result (λ s. AreCyclesOf s.grammar.core s.cycles) }
@@ -130,6 +131,7 @@ fn spec_of_bytes(alloc: Global, bytes: &[u8]) -> Result<Spec, Ending>
 /// The grammar of SPEC.
 pub fn spec_stage<H: Shelf>(alloc: Global, shelf: &mut H, name: &str) -> Result<Spec, Ending>
     ensures ok { IfOk result (λ s. (f : List ℕ → File) → H.files shelf.old ≡ Some f → IsTold short_most (f name.now) TellsGrammar s.grammar.core) }
+    ensures proper { IfOk result (λ s. IsProper s.grammar.core) }
     ensures linear { IfOk result (λ s. IsLinear s.grammar.core) }
     ensures ranking { IfOk result (λ s. IsRankingOf s.grammar.core s.ranking) }
     ensures cycles { IfOk result (λ s. AreCyclesOf s.grammar.core s.cycles) }

@@ -1,6 +1,7 @@
 // VIEW: from bytes to a safe view of a grammar.
 ghost use Rattle.std.specs.Prelude.{◌≡◌, ◌⊎◌, ◌≤◌, ℕ, List, Some, None, IfOk, IfErr, OnOk};
 ghost use Rattle.wf_model.specs.Safe.{IsSafe};
+ghost use Rattle.wf_model.specs.Proper.{IsProper};
 ghost use Rattle.wf_io.specs.Told.{File};
 ghost use Rattle.wf_check.specs.Proper.{IsRankingOf};
 ghost use Rattle.wf_view.specs.Viewing.{view_of};
@@ -74,6 +75,7 @@ fn view_of_parts(alloc: Global, g: &Grammar, parts: &ViewParts) -> Result<View, 
 
 /// A view that is safe, with its full assignment.
 fn with_full(alloc: Global, spec: Spec, view: View) -> Result<Viewed, Ending>
+    requires proper { IsProper spec.grammar.core }
     requires ranking { IsRankingOf spec.grammar.core spec.ranking }
     requires held { IsHeldFor spec.grammar.core view }
     ensures ok { IfOk result (λ v. (v.grammar ≡ spec.grammar) × (v.view ≡ view) × IsSafe spec.grammar.core view.core) }
@@ -103,6 +105,7 @@ fn with_full(alloc: Global, spec: Spec, view: View) -> Result<Viewed, Ending>
 ///
 /// Cost: those of `read_view`, `View::build` and `full_deps`.
 fn view_of_bytes(alloc: Global, spec: Spec, bytes: &[u8]) -> Result<Viewed, Ending>
+    requires proper { IsProper spec.grammar.core }
     requires ranking { IsRankingOf spec.grammar.core spec.ranking }
     ensures grammar { IfOk result (λ v. v.grammar ≡ spec.grammar) }
     ensures viewed { IfOk result (λ v. IsViewedBy v.grammar.core v.view v.full) }
@@ -121,6 +124,7 @@ pub fn view_stage<H: Shelf>(
     name: &str,
     spec: Spec,
 ) -> Result<Viewed, Ending>
+    requires proper { IsProper spec.grammar.core }
     requires ranking { IsRankingOf spec.grammar.core spec.ranking }
     ensures grammar { IfOk result (λ v. v.grammar ≡ spec.grammar) }
     ensures viewed { IfOk result (λ v. IsViewedBy v.grammar.core v.view v.full) }

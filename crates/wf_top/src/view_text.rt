@@ -8,7 +8,7 @@ ghost use Rattle.wf_top.specs.ViewText.{pair_text, row_text, pairs_text, state_t
 use crate::names::{input_name, module_name, output_name};
 use crate::view::Viewed;
 use bool_mat::has_column;
-use std::alloc::{AllocError, Global};
+use std::alloc::AllocError;
 use wf_spec::{Grammar, ModNo, PortNo};
 
 /// Appends a pair of ports of a module.
