@@ -6,7 +6,7 @@ use Rattle.wf_top.specs.Endings.{end_of}
 use Rattle.wf_top.specs.Telling.{OfWhole}
 use Rattle.wf_top.specs.ViewTold.{TellsView, RefusesUnsafe, RefusesView}
 use Rattle.wf_top.proofs.EventLines.{handed_on}
-use Rattle.wf_top.proofs.SpecSteps.{declines_by}
+use Rattle.wf_top.proofs.Stages.{declines_by}
 use Rattle.wf_top.proofs.ViewSteps.{refuses_by_view, told_view}
 use Rattle.wf_top.proofs.view.view_of_bytes.Goals as goal
 
