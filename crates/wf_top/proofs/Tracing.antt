@@ -2,21 +2,25 @@
 use Rattle.std.proofs.Common.{◌≡◌, ℕ, List, Option, Some, sym, subst}
 use Rattle.wf_model.specs.declared.event.Event.{Event}
 use Rattle.wf_model.specs.Grammar.{Grammar}
-use Rattle.wf_model.specs.DefaultView.{default_view}
+use Rattle.wf_model.specs.View.{View as ViewOf}
 use Rattle.wf_io.specs.Told.{File}
+use Rattle.wf_spec.specs.Held.{HeldGrammar}
 use Rattle.wf_flat.specs.Table.{Table, events_of}
+use Rattle.wf_top.specs.declared.view.Viewed.{Viewed}
 use Rattle.wf_top.specs.declared.ending.Place.TheVariants.{Spec, View, Events}
 use Rattle.wf_top.specs.Endings.{End}
 use Rattle.wf_top.specs.Words.{Command}
 use Rattle.wf_top.specs.Specification.{TellsGrammar, RefusesSpec}
-use Rattle.wf_top.specs.Telling.{IsNotBuilt, OfWhole}
+use Rattle.wf_top.specs.Telling.{OfWhole}
+use Rattle.wf_top.specs.ViewTold.{TellsView, RefusesView}
 use Rattle.wf_top.specs.RunTold.{TellsRun, RefusesRun}
-use Rattle.wf_top.specs.Outcome.{SpecStage, TellsView, AnswersQueries, AnswersRun, AnswersView, Does, short_most, long_most, instance_most}
+use Rattle.wf_top.specs.Outcome.{SpecStage, ViewStage, AnswersQueries, AnswersRun, Does, short_most, long_most, instance_most}
 use Rattle.wf_top.specs.Meets.{EndsBy}
 use Rattle.wf_top.specs.Stages.{IsTold, StopsAt}
-use Rattle.wf_top.proofs.Stages.{stop_ends, on_ends, tells_one}
+use Rattle.wf_top.proofs.Stages.{stop_ends, on_ends}
 use Rattle.wf_top.proofs.OneOutcome.{one_grammar, one_view, one_run}
 use Rattle.wf_top.proofs.OneFault.{no_refusal}
+use Rattle.wf_top.proofs.OneViewFault.{no_refusal_of_view}
 use Rattle.wf_top.proofs.OneRunFault.{no_refusal_of_run}
 
 module _ (spec : File) (Next : Grammar → End → List ℕ → Type 0) (old new : Option (List ℕ)) (d : End) where
@@ -29,33 +33,38 @@ module _ (spec : File) (Next : Grammar → End → List ℕ → Type 0) (old new
   spec_goes g told ends =
       on_ends short_most Spec spec TellsGrammar (OfWhole RefusesSpec) Next old new g told (λ h t. one_grammar spec.bytes g h told.tells t) (λ line fault r. no_refusal spec.bytes fault g told.tells r.1) d ends
 
-module _ (g : Grammar) (view events queries : File) (old new : Option (List ℕ)) (d : End) where
+module _ (g : Grammar) (view : File) (Next : ViewOf → End → List ℕ → Type 0) (old new : Option (List ℕ)) (d : End) where
   -- VIEW ends the program
-  pub view_ends : StopsAt short_most View view (OfWhole (IsNotBuilt (TellsView g))) d → new ≡ old → EndsBy (AnswersView g view events queries) d old new
-  view_ends h s = stop_ends short_most View view (TellsView g) (OfWhole (IsNotBuilt (TellsView g))) _ old new d h s
+  pub view_ends : StopsAt short_most View view (OfWhole (RefusesView g)) d → new ≡ old → EndsBy (ViewStage g view Next) d old new
+  view_ends h s = stop_ends short_most View view (TellsView g) (OfWhole (RefusesView g)) Next old new d h s
 
-  module _ (shown : IsTold short_most view (TellsView g) (default_view g)) where
-    view_goes : EndsBy (AnswersRun g (default_view g) events queries) d old new → EndsBy (AnswersView g view events queries) d old new
-    view_goes ends =
-        on_ends short_most View view (TellsView g) (OfWhole (IsNotBuilt (TellsView g))) _ old new (default_view g) shown (λ v t. one_view g view.bytes (default_view g) v shown.tells t) (tells_one (TellsView g) view.bytes (default_view g) shown.tells) d ends
+  -- the view of VIEW is taken on
+  pub view_goes : (u : ViewOf) → IsTold short_most view (TellsView g) u → EndsBy (Next u) d old new → EndsBy (ViewStage g view Next) d old new
+  view_goes u told ends =
+      on_ends short_most View view (TellsView g) (OfWhole (RefusesView g)) Next old new u told (λ v t. one_view g view.bytes u v told.tells t) (λ line fault r. no_refusal_of_view g view.bytes fault u told.tells r.1) d ends
 
-    -- EVENTS ends the program
-    pub events_end : StopsAt long_most Events events (RefusesRun g (default_view g) instance_most) d → new ≡ old → EndsBy (AnswersView g view events queries) d old new
-    events_end h s = view_goes (stop_ends long_most Events events (TellsRun g (default_view g) instance_most) (RefusesRun g (default_view g) instance_most) _ old new d h s)
+module _ (g : Grammar) (u : ViewOf) (events queries : File) (old new : Option (List ℕ)) (d : End) where
+  -- EVENTS ends the program
+  pub events_end : StopsAt long_most Events events (RefusesRun g u instance_most) d → new ≡ old → EndsBy (AnswersRun g u events queries) d old new
+  events_end h s = stop_ends long_most Events events (TellsRun g u instance_most) (RefusesRun g u instance_most) _ old new d h s
 
-    -- what is answered on the run ends the program
-    pub answers_end : (e : List Event) → IsTold long_most events (TellsRun g (default_view g) instance_most) e → EndsBy (AnswersQueries g (default_view g) e queries) d old new → EndsBy (AnswersView g view events queries) d old new
-    answers_end e run ends =
-        view_goes (on_ends long_most Events events (TellsRun g (default_view g) instance_most) (RefusesRun g (default_view g) instance_most) _ old new e run
-        (λ es t. one_run g (default_view g) instance_most events.bytes e es run.tells t) (λ line fault r. no_refusal_of_run g instance_most (default_view g) events.bytes e line fault run.tells r) d ends)
+  -- the run of EVENTS is taken on
+  pub events_go : (e : List Event) → IsTold long_most events (TellsRun g u instance_most) e → EndsBy (AnswersQueries g u e queries) d old new → EndsBy (AnswersRun g u events queries) d old new
+  events_go e told ends =
+      on_ends long_most Events events (TellsRun g u instance_most) (RefusesRun g u instance_most) _ old new e told
+      (λ es t. one_run g u instance_most events.bytes e es told.tells t) (λ line fault r. no_refusal_of_run g instance_most u events.bytes e line fault told.tells r) d ends
 
 -- a command that is known
 pub does : (files : List ℕ → File) (c : Option Command) (x : Command) (d : End) (old new : Option (List ℕ)) → c ≡ Some x → EndsBy (Does files (Some x)) d old new → EndsBy (Does files c) d old new
 does files c x d old new p = subst (λ y. EndsBy (Does files y) d old new) (sym p)
 
--- the same answers by the same grammar and run
-pub for_run : (queries : File) (g h : Grammar) (r t : Table) (d : End) (old new : Option (List ℕ)) → g ≡ h → r ≡ t →
-    EndsBy (AnswersQueries g (default_view g) (events_of r) queries) d old new → EndsBy (AnswersQueries h (default_view h) (events_of t) queries) d old new
-for_run queries g h r t d old new p q ends =
-    subst (λ x. EndsBy (AnswersQueries h (default_view h) (events_of x) queries) d old new) q
-    (subst (λ x. EndsBy (AnswersQueries x (default_view x) (events_of r) queries) d old new) p ends)
+-- the same end by the same grammar
+pub for_grammar : (Next : Grammar → End → List ℕ → Type 0) (g h : HeldGrammar) (d : End) (old new : Option (List ℕ)) → g ≡ h → EndsBy (Next g.core) d old new → EndsBy (Next h.core) d old new
+for_grammar Next g h d old new p = subst (λ (x : HeldGrammar). EndsBy (Next x.core) d old new) p
+
+-- the same answers by the same view and run
+pub for_run : (queries : File) (v w : Viewed) (r t : Table) (d : End) (old new : Option (List ℕ)) → v ≡ w → r ≡ t →
+    EndsBy (AnswersQueries v.grammar.core v.view.core (events_of r) queries) d old new → EndsBy (AnswersQueries w.grammar.core w.view.core (events_of t) queries) d old new
+for_run queries v w r t d old new p q ends =
+    subst (λ x. EndsBy (AnswersQueries w.grammar.core w.view.core (events_of x) queries) d old new) q
+    (subst (λ (x : Viewed). EndsBy (AnswersQueries x.grammar.core x.view.core (events_of r) queries) d old new) p ends)
