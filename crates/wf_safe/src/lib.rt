@@ -12,3 +12,6 @@ pub use fault::SafeFault;
 pub use full::FullDeps;
 pub use safety::full_deps;
 pub use witness::{Choice, Witness};
+
+#[cfg(test)]
+mod tests;
