@@ -1,4 +1,5 @@
 pub mod Held
 pub mod Laws
+pub mod Marks
 pub mod Rules
 pub mod Viewing

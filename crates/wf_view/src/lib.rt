@@ -2,7 +2,10 @@
 #![tactic(auto)]
 
 mod build;
+mod checks;
+mod composite;
 mod fault;
+mod marks;
 mod view;
 
 pub use fault::{ViewFault, ViewSpot};

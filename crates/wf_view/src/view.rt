@@ -6,7 +6,7 @@ use std::marker::Model;
 use wf_spec::ModNo;
 
 /// Whether the flag of a module is set.
-fn is_flagged(flags: &[bool], m: ModNo) -> bool
+pub(crate) fn is_flagged(flags: &[bool], m: ModNo) -> bool
     ensures { result ≡ get_or flags.now m.0 false }
 {
     let m = m.0 as usize;
