@@ -1,12 +1,13 @@
 -- Composite modules: the heads of productions.
-use Rattle.std.proofs.Common.{◌≡◌, ℕ, suc, ◌<◌, ◌≤◌, ◌==◌, Bool, true, false, not, List, [], ◌∷◌, length, map, refl, sym, ap, ◌∙◌, subst, inl, arith, true≢false}
+use Rattle.std.proofs.Common.{◌≡◌, ◌↔◌, ℕ, suc, ◌<◌, ◌≤◌, ◌==◌, Bool, true, false, not, List, [], ◌∷◌, length, get_or, map, flat_map, refl, sym, ap, ◌∙◌, subst, inl, arith, true≢false}
 use Rattle.std.proofs.lemmas.Bool.{eqb-true, eq-eqb}
 use Rattle.std.proofs.lemmas.Bool.Decides.{nat_tests}
 use Rattle.wf_model.specs.declared.numbers.ProdNo.{ProdNo}
 use Rattle.wf_model.specs.Lists.{IsIn, numbers_from}
-use Rattle.wf_model.specs.Grammar.{Grammar, Production, production_at, head_of, IsComposite, IsProductionOf}
+use Rattle.wf_model.specs.Grammar.{Grammar, Production, production_at, body_of, head_of, IsComposite, IsProductionOf}
+use Rattle.wf_model.specs.Proper.{Makes}
 use Rattle.wf_model.specs.WellFormed.{IsWellFormed}
-use Rattle.wf_model.proofs.Lists.{some_from, some_gives, in_filter, in_filter_from, at_below, at_in, at_is, in_at, is_at}
+use Rattle.wf_model.proofs.Lists.{some_from, some_gives, in_filter, in_filter_from, in_flat_map, in_flat_map_from, in_map, at_below, at_in, at_is, in_at, is_at}
 use Rattle.wf_model.proofs.Level.{in_numbers, numbers_in}
 use Rattle.wf_spec.specs.Tables.{productions_of}
 use Rattle.wf_view.specs.Viewing.{is_composite}
@@ -54,3 +55,14 @@ composite_told g m (p ∷ ps) empty e is =
   where
     some_there : (n : ℕ) → 0 < n → (n == 0) ≡ false
     some_there n h = grind (arith, nat_tests)
+
+-- each of a list of numbers is of such a production
+pub headed_at : (g : Grammar) (m : ℕ) (ps : List ProdNo) (k : ℕ) (d : ProdNo) → map (λ (p : ProdNo). p.0) ps ≡ productions_of g m → k < length ps → IsProductionOf g (get_or ps k d).0 m
+headed_at g m ps k d e h = headed_gives g m (get_or ps k d).0 (subst (IsIn (get_or ps k d).0) e (in_map (λ (p : ProdNo). p.0) (get_or ps k d) ps (at_in (get_or ps k d) k ps (is_at k ps d h))))
+
+-- the modules of all bodies of a module
+pub bodies_make : (g : Grammar) (m k : ℕ) → IsIn k (flat_map (body_of g) (productions_of g m)) ↔ Makes g m k
+bodies_make g m k = (
+  λ i. (let r = in_flat_map_from (body_of g) k (productions_of g m) i in (r.0, headed_gives g m r.0 r.1, r.2)),
+  λ d. in_flat_map (body_of g) d.0 k (productions_of g m) (headed_from g m d.0 d.1) d.2,
+)

@@ -1,6 +1,6 @@
 -- Names that are looked up among those of modules.
 use Rattle.std.proofs.Common.{◌≡◌, ℕ, ◌≤◌, Bool, true, false, List, length, Option, Some, None, bytes_eq, refl, sym, ap}
-use Rattle.std.specs.Prelude.{position, option_map, is_some}
+use Rattle.std.specs.Prelude.{position, option_map, is_some, IsSome}
 use Rattle.wf_model.specs.declared.numbers.ModNo.{ModNo}
 use Rattle.wf_model.specs.Faults.{is_one_of}
 use Rattle.wf_model.specs.Lists.{IsIn}
@@ -30,3 +30,11 @@ module _ (names : List (List ℕ)) (name : List ℕ) (answer : Option ModNo) (is
       by None e true t = absurd (none_there e (among_gives name names t))
       by None e false t = sym t
       by (Some m) e b t = sym (among_from name names (one_there m e).1)
+
+  -- a name that is there is found
+  pub is_some_there : IsIn name names → IsSome answer
+  is_some_there here = by answer refl
+    where
+      by : (o : Option ModNo) → answer ≡ o → IsSome o
+      by None e = absurd (none_there e here)
+      by (Some m) e = refl

@@ -2,4 +2,5 @@ pub mod Held
 pub mod Laws
 pub mod Marks
 pub mod Rules
+pub mod Tables
 pub mod Viewing

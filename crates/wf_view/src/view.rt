@@ -1,6 +1,7 @@
 // Views.
 ghost use Rattle.std.specs.Prelude.{◌≡◌, ◌<◌, [], false, length, get_or};
 ghost use Rattle.wf_model.specs.View.{expands};
+ghost use Rattle.wf_view.specs.Tables.{held_by};
 
 use std::marker::Model;
 use wf_spec::ModNo;
@@ -38,6 +39,16 @@ impl Model for View {
 }
 
 impl View {
+    pub(crate) fn of_tables(expanded: Vec<bool>, seen: Vec<bool>, shown: Vec<Shown>) -> View
+        ensures { result ≡ held_by expanded.items seen.items shown.items }
+    {
+        View {
+            expanded,
+            seen,
+            shown,
+        }
+    }
+
     /// Whether the view expands a module: an instance of it, once it is expanded in a run, is shown with its inner steps.
     pub fn expanded(&self, m: ModNo) -> bool
         ensures { result ≡ expands self.now.core m.0 }
