@@ -1,16 +1,15 @@
 -- Parts that keep the rules describe a view of the grammar, and what it expands and shows.
-use Rattle.std.proofs.Common.{◌≡◌, ◌↔◌, ℕ, ◌<◌, ◌&&◌, Bool, true, false, cond, IsTrue, List, length, Option, Some, None, bytes_eq, refl, sym, ap, ◌∙◌, subst, true≢false}
+use Rattle.std.proofs.Common.{◌≡◌, ◌↔◌, ℕ, ◌<◌, ◌&&◌, Bool, true, false, cond, IsTrue, List, length, Option, Some, None, bytes_eq, refl, sym, ap, ◌∙◌, subst}
 use Rattle.std.proofs.lemmas.Bool.{and_parts, and_from}
 use Rattle.wf_model.specs.declared.parts.DepsPart.{DepsPart}
-use Rattle.wf_model.specs.declared.parts.PairPart.{PairPart}
 use Rattle.wf_model.specs.declared.parts.ViewParts.{ViewParts}
 use Rattle.wf_model.specs.Lists.{IsIn, some}
-use Rattle.wf_model.specs.Grammar.{Grammar, IsComposite, inputs_of, outputs_of, is_given}
-use Rattle.wf_model.specs.View.{expands, shows, IsViewOf, IsShownByDefault}
+use Rattle.wf_model.specs.Grammar.{Grammar, IsComposite, is_given}
+use Rattle.wf_model.specs.View.{expands, IsViewOf, IsShownByDefault}
 use Rattle.wf_model.specs.WellFormed.{IsWellFormed}
 use Rattle.wf_model.proofs.Lists.{some_from, some_gives, in_map, same_bytes, bytes_same, among_gives, among_from}
 use Rattle.wf_spec.specs.Rules.{HasKnownPairs}
-use Rattle.wf_view.specs.declared.fault.ViewSpot.TheVariants.{ExpandAt, DepsAt}
+use Rattle.wf_view.specs.declared.fault.ViewSpot.TheVariants.{DepsAt}
 use Rattle.wf_view.specs.declared.fault.ViewFault.TheVariants.{UnknownModule, NotComposite, DepsOnExpanded, UnknownPort}
 use Rattle.wf_view.specs.Laws.{DescribedLaw, IsDescribed, ShowsPart}
 use Rattle.wf_view.specs.Rules.{listed, number_in, deps_names, IsCompositeName, IsModuleName, IsOnShown, IsViewed}

@@ -1,5 +1,5 @@
 -- A view that is kept in tables is the one that its parts describe.
-use Rattle.std.proofs.Common.{◌≡◌, ◌↔◌, ℕ, ◌+◌, ◌*◌, ◌-◌, ◌/◌, ◌%◌, ◌<◌, ◌≤◌, ◌^◌, ◌==◌, Bool, true, false, cond, List, [], ◌∷◌, ◌++◌, map, length, get_or, flat_map, All, refl, sym, ap, ◌∙◌, subst, inl, inr, arith}
+use Rattle.std.proofs.Common.{◌≡◌, ℕ, ◌+◌, ◌*◌, ◌-◌, ◌/◌, ◌%◌, ◌<◌, ◌≤◌, ◌^◌, ◌==◌, Bool, true, false, cond, List, [], ◌∷◌, ◌++◌, map, length, get_or, flat_map, refl, sym, ap, ◌∙◌, subst, inl, inr, arith}
 use Rattle.std.specs.Int.{bit_at}
 use Rattle.std.specs.List.{filter}
 use Rattle.std.proofs.Math.Nat.{mod-lt}
@@ -15,7 +15,7 @@ use Rattle.wf_model.specs.WellFormed.{IsWellFormed}
 use Rattle.wf_model.proofs.Lists.{filter_same, at_below}
 use Rattle.wf_spec.proofs.Lawful.{number_below}
 use Rattle.wf_view.specs.declared.view.Shown.{Shown}
-use Rattle.wf_view.specs.Held.{HeldView, IsHeldFor, AreShownRows, flagged, pairs_in}
+use Rattle.wf_view.specs.Held.{IsHeldFor, AreShownRows, flagged, pairs_in}
 use Rattle.wf_view.specs.Marks.{AreMarks}
 use Rattle.wf_view.specs.Rules.{number_in, IsViewed}
 use Rattle.wf_view.specs.Tables.{AreRowsBy, IsKept, AreKept, AreSeen, AreSound, held_by}

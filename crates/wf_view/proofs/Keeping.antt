@@ -1,5 +1,5 @@
 -- Tables of what is shown, made module by module and deps part by deps part.
-use Rattle.std.proofs.Common.{◌≡◌, ◌≢◌, ℕ, ◌+◌, ◌<◌, ◌==◌, Bool, true, false, List, [], ◌∷◌, ◌++◌, Vec, Global, length, get_or, set, take, bytes_eq, refl, sym, ap, ◌∙◌, subst, ⊎_elim, true≢false}
+use Rattle.std.proofs.Common.{◌≡◌, ◌≢◌, ℕ, ◌+◌, ◌<◌, ◌==◌, Bool, true, false, List, [], ◌∷◌, ◌++◌, Vec, Global, length, get_or, set, take, refl, sym, ap, ◌∙◌, subst, ⊎_elim, true≢false}
 use Rattle.std.proofs.lemmas.Bool.{eqb-true, eq-eqb}
 use Rattle.std.proofs.lemmas.List.{length-append, length-set, take_more}
 use Rattle.wf_model.specs.declared.parts.DepsPart.{DepsPart}

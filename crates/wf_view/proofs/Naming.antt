@@ -1,8 +1,8 @@
 -- Names that differ and their places, and modules and their names.
-use Rattle.std.proofs.Common.{◌≡◌, ℕ, ◌<◌, ◌==◌, Bool, true, false, List, [], map, length, get_or, bytes_eq, refl, sym, ap, ◌∙◌, subst}
+use Rattle.std.proofs.Common.{◌≡◌, ℕ, ◌<◌, ◌==◌, Bool, true, false, List, [], length, get_or, bytes_eq, refl, sym, ap, ◌∙◌, subst}
 use Rattle.std.proofs.lemmas.Bool.{eqb-true, eq-eqb}
 use Rattle.std.proofs.lemmas.List.{get_or-map, length-map}
-use Rattle.wf_model.specs.Lists.{IsIn, IsAt, AllDiffer}
+use Rattle.wf_model.specs.Lists.{IsIn, AllDiffer}
 use Rattle.wf_model.specs.Grammar.{Grammar, Module, module_at}
 use Rattle.wf_model.specs.WellFormed.{IsWellFormed, IsWellFormedModule}
 use Rattle.wf_model.proofs.Lists.{at_in, at_is, is_at, differ_at, same_bytes, bytes_same}

@@ -10,7 +10,7 @@ use Rattle.wf_model.specs.Grammar.{Grammar, Module, Given, is_given, inputs_of, 
 use Rattle.wf_model.specs.WellFormed.{IsWellFormed, IsWellFormedModule}
 use Rattle.wf_model.proofs.Lists.{some_gives}
 use Rattle.wf_spec.specs.Forming.{place_of}
-use Rattle.wf_spec.specs.Rows.{bit_in, pair_in, has_pair, AreAlike, AreAdded}
+use Rattle.wf_spec.specs.Rows.{bit_in, pair_in, has_pair, AreAdded}
 use Rattle.wf_spec.specs.Tables.{AreRowsOf}
 use Rattle.wf_spec.proofs.Finding.{place_within}
 use Rattle.wf_spec.proofs.Lawful.{differ_left, differ_right}

@@ -1,5 +1,5 @@
 -- The pairs that deps parts show of a module.
-use Rattle.std.proofs.Common.{◌≡◌, ℕ, ◌&&◌, ◌||◌, Bool, true, false, cond, List, [], ◌∷◌, ◌++◌, map, bytes_eq, refl, sym, ap, ◌∙◌, subst, inl, inr, ⊎_elim, true≢false}
+use Rattle.std.proofs.Common.{◌≡◌, ℕ, ◌&&◌, ◌||◌, Bool, true, false, cond, List, [], ◌∷◌, ◌++◌, refl, sym, ap, ◌∙◌, subst, inl, ⊎_elim}
 use Rattle.std.proofs.lemmas.Bool.{and_parts, and_from}
 use Rattle.wf_model.specs.declared.parts.DepsPart.{DepsPart}
 use Rattle.wf_model.specs.Lists.{IsIn, some}

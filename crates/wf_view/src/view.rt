@@ -1,5 +1,5 @@
 // Views.
-ghost use Rattle.std.specs.Prelude.{◌≡◌, ◌<◌, [], false, length, get_or};
+ghost use Rattle.std.specs.Prelude.{◌≡◌, ◌<◌, ℕ, [], false, length, get_or};
 ghost use Rattle.wf_model.specs.View.{expands};
 ghost use Rattle.wf_view.specs.Tables.{held_by};
 
@@ -54,6 +54,13 @@ impl View {
         ensures { result ≡ expands self.now.core m.0 }
     {
         is_flagged(self.expanded.as_slice(), m)
+    }
+
+    /// Flags of the modules that the view expands, by number.
+    pub fn marks(&self) -> &[bool]
+        ensures { (m : ℕ) → expands self.now.core m ≡ get_or result.now m false }
+    {
+        self.expanded.as_slice()
     }
 
     /// Whether instances of a module may be seen: it is the start module, or stands in a body of a seen module that is expanded.

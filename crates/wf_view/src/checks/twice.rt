@@ -1,7 +1,5 @@
 // Names that stand a second time in a list, found by hashing.
-ghost use Rattle.std.specs.Prelude.{◌≡◌, ◌++◌, ◌∷◌, [], not, IfOk};
-ghost use Rattle.std.specs.Bool.{OnTrue};
-ghost use Rattle.wf_model.specs.Faults.{is_one_of};
+ghost use Rattle.std.specs.Prelude.{IfOk};
 ghost use Rattle.wf_view.specs.Rules.{deps_names, new_names, IsFirstFailing};
 ghost use Rattle.wf_view.specs.declared.fault.ViewSpot.TheVariants.{DepsAt, ExpandAt};
 ghost use Rattle.wf_view.specs.declared.fault.ViewFault.TheVariants.{ModuleTwice};

@@ -1,9 +1,7 @@
-use Rattle.std.proofs.Common.{◌≡◌, ◌∙◌, Bool, List, length, ap, sym, subst}
+use Rattle.std.proofs.Common.{◌∙◌, Bool, List, length, ap, sym, subst}
 use Rattle.wf_model.specs.declared.parts.DepsPart.{DepsPart}
-use Rattle.wf_view.specs.declared.view.Shown.{Shown}
 use Rattle.wf_view.specs.Held.{HeldView, IsHeldFor}
 use Rattle.wf_view.specs.Tables.{AreKept, AreSeen, AreSound}
-use Rattle.wf_view.specs.Viewing.{view_of}
 use Rattle.wf_view.proofs.Holding.{core_is, held_is, parts_sound}
 use Rattle.wf_view.proofs.assemble.assemble.Goals as goal
 use Rattle.wf_view.proofs.assemble.assemble.Goals.{After-of_tables}

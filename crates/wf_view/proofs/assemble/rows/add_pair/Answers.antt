@@ -1,4 +1,4 @@
-use Rattle.std.proofs.Common.{◌<◌, ◌≤◌, length, sym, ap, subst, arith}
+use Rattle.std.proofs.Common.{length, ap, arith}
 use Rattle.wf_view.proofs.Pairing.{pair_put}
 use Rattle.wf_view.proofs.assemble.rows.add_pair.Goals as goal
 

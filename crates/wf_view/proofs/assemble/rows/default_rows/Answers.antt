@@ -1,6 +1,6 @@
-use Rattle.std.proofs.Common.{◌≡◌, ◌≤◌, true, length, sym, ap, ◌∙◌, subst}
+use Rattle.std.proofs.Common.{◌≤◌, true, length, sym, ◌∙◌, subst}
 use Rattle.std.proofs.lemmas.Result.{IfOk-weaker}
-use Rattle.wf_model.specs.Grammar.{Module, module_at, inputs_of, outputs_of, is_given}
+use Rattle.wf_model.specs.Grammar.{Module, inputs_of, outputs_of, is_given}
 use Rattle.wf_view.specs.Tables.{AreRowsBy}
 use Rattle.wf_view.proofs.Naming.{module_is, module_formed}
 use Rattle.wf_view.proofs.Pairing.{by_same, composite_all}

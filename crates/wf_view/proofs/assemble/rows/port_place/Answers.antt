@@ -1,4 +1,3 @@
-use Rattle.std.proofs.Common.{◌∙◌, sym}
 use Rattle.wf_spec.proofs.Numbering.{is_found}
 use Rattle.wf_view.proofs.assemble.rows.port_place.Goals as goal
 

@@ -1,4 +1,4 @@
-use Rattle.std.proofs.Common.{◌≡◌, ◌<◌, ◌↔◌, ◌∙◌, ℕ, Bool, List, Vec, true, false, length, get_or, ap, sym, subst}
+use Rattle.std.proofs.Common.{◌<◌, ◌↔◌, ◌∙◌, ℕ, List, Vec, length, ap, sym, subst}
 use Rattle.std.proofs.lemmas.Result.{IfOk-weaker}
 use Rattle.std.specs.declared.alloc.Global.{Global}
 use Rattle.wf_graph.specs.Graph.{HasEdge}

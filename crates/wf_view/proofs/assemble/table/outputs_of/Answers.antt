@@ -1,4 +1,4 @@
-use Rattle.std.proofs.Common.{◌≡◌, ◌≤◌, ◌∙◌, length, ap, sym, subst, arith}
+use Rattle.std.proofs.Common.{◌≤◌, ◌∙◌, length, ap, sym, subst, arith}
 use Rattle.wf_model.specs.Grammar.{Module}
 use Rattle.wf_view.proofs.Naming.{module_is, module_formed}
 use Rattle.wf_view.proofs.assemble.table.outputs_of.Goals as goal
