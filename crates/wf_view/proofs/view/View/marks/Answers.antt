@@ -5,4 +5,6 @@ use Rattle.wf_view.proofs.Flagged.{flagged_is}
 use Rattle.wf_view.proofs.view.View.marks.Goals as goal
 
 pub returns : goal.returns
-returns c = λ m. sym (ap (λ (h : HeldView). expands h.core m) c.self.view_is) ∙ (flagged_is c.self.inside.expanded.items m ∙ sym (ap (λ (l : List Bool). get_or l m false) c.as_slice.ensures.value))
+returns c = λ m.
+    ap (λ (h : HeldView). expands h.core m) (sym c.self.view_is)
+    ∙ (flagged_is c.self.inside.expanded.items m ∙ ap (λ (l : List Bool). get_or l m false) (sym c.as_slice.ensures.value))
