@@ -1,9 +1,8 @@
 -- The modules that flags tell a view to expand.
-use Rattle.std.proofs.Common.{◌≡◌, ◌∷◌, [], zero, suc, ℕ, ◌+◌, ◌<◌, ◌==◌, Bool, true, false, List, length, get_or, refl, sym, ap, ◌∙◌, subst, arith, true≢false}
+use Rattle.std.proofs.Common.{◌≡◌, ◌∷◌, [], zero, suc, ℕ, ◌<◌, ◌==◌, Bool, true, false, List, length, get_or, refl, sym, subst, arith, true≢false}
 use Rattle.std.proofs.lemmas.Bool.Decides.{nat_tests}
-use Rattle.std.specs.List.{filter}
-use Rattle.wf_model.specs.Lists.{IsIn, some, numbers_from}
-use Rattle.wf_model.proofs.Lists.{some_from, some_gives, in_filter, in_filter_from, at_below, is_at}
+use Rattle.wf_model.specs.Lists.{some, numbers_from}
+use Rattle.wf_model.proofs.Lists.{some_from, some_gives, in_filter, in_filter_from}
 use Rattle.wf_model.proofs.Level.{numbers_in}
 use Rattle.wf_view.specs.Held.{flagged}
 

@@ -1,1 +1,17 @@
+pub mod Again
+pub mod Described
+pub mod First
 pub mod Flagged
+pub mod Heading
+pub mod Holding
+pub mod Keeping
+pub mod Looked
+pub mod Marking
+pub mod Naming
+pub mod Opening
+pub mod Pairing
+pub mod Places
+pub mod Ports
+pub mod Showing
+pub mod Tests
+pub mod Viewed

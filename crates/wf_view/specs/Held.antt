@@ -1,5 +1,5 @@
 -- What contracts see of a view, and when it is one of a grammar.
-use Rattle.std.specs.Prelude.{◌≡◌, ◌↔◌, ◌<◌, ◌^◌, ℕ, Bool, false, cond, IsTrue, List, [], ◌∷◌, map, length, get_or}
+use Rattle.std.specs.Prelude.{◌≡◌, ◌↔◌, ◌<◌, ◌^◌, ℕ, Bool, false, cond, IsTrue, List, [], ◌∷◌, length, get_or}
 use Rattle.std.specs.List.{All, filter, flat_map}
 use Rattle.wf_model.specs.Lists.{numbers_from}
 use Rattle.wf_model.specs.Grammar.{Grammar, inputs_of, outputs_of}

@@ -1,4 +1,6 @@
 pub mod Held
 pub mod Laws
+pub mod Marks
 pub mod Rules
+pub mod Tables
 pub mod Viewing

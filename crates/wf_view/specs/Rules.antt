@@ -1,9 +1,9 @@
 -- The rules that the parts of a view keep, in the order in which they are tried, and the fault that is told where one is broken.
-use Rattle.std.specs.Prelude.{◌≡◌, ◌⊎◌, ℕ, ◌<◌, false, List, [], ◌∷◌, map, length, Option, Some, None, IsTrue}
+use Rattle.std.specs.Prelude.{◌≡◌, ◌⊎◌, ℕ, ◌<◌, false, List, [], ◌∷◌, map, length, Option, Some, None, MatchOption, IsTrue}
 use Rattle.wf_model.specs.declared.parts.ViewParts.{ViewParts}
 use Rattle.wf_model.specs.declared.parts.DepsPart.{DepsPart}
 use Rattle.wf_model.specs.Lists.{IsIn, IsAt}
-use Rattle.wf_model.specs.Grammar.{Grammar, Module}
+use Rattle.wf_model.specs.Grammar.{Grammar}
 use Rattle.wf_spec.specs.Forming.{place_of, names_of}
 use Rattle.wf_spec.specs.Rules.{FailsFirstAt, IsNewAt, HasKnownPairs}
 use Rattle.wf_view.specs.declared.fault.ViewSpot.TheVariants.{ExpandAt, DepsAt}
@@ -65,6 +65,10 @@ rules_of g parts =
 -- a rule holds at each of its places
 abbrev pub HoldsThroughout : Rule → Type 0
 HoldsThroughout r = (k : ℕ) → k < r.places → r.holds k
+
+-- the answer of a search for the first place at which a rule does not hold
+abbrev pub IsFirstFailing : Rule → Option ℕ → Type 0
+IsFirstFailing r answer = MatchOption answer (HoldsThroughout r) (FailsFirstAt r.places r.holds)
 
 -- all rules hold
 abbrev pub AllHold : List Rule → Type 0

@@ -5,7 +5,7 @@ use Rattle.wf_model.specs.declared.parts.ViewParts.{ViewParts}
 use Rattle.wf_model.specs.declared.parts.DepsPart.{DepsPart}
 use Rattle.wf_model.specs.declared.parts.PairPart.{PairPart}
 use Rattle.wf_model.specs.Lists.{some, numbers_from}
-use Rattle.wf_model.specs.Grammar.{Grammar, Module, Production, module_at, inputs_of, outputs_of, is_given}
+use Rattle.wf_model.specs.Grammar.{Grammar, Production, module_at, inputs_of, outputs_of, is_given}
 use Rattle.wf_model.specs.View.{View}
 
 -- a module is the head of a production

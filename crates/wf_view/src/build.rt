@@ -5,7 +5,10 @@ ghost use Rattle.wf_view.specs.Rules.{IsViewed, IsFaultOf};
 ghost use Rattle.wf_view.specs.Held.{IsHeldFor};
 ghost use Rattle.wf_view.specs.declared.fault.ViewFault.TheVariants.{NoMemory};
 
+use crate::assemble::assemble;
+use crate::checks::{check_lists, check_names};
 use crate::fault::ViewFault;
+use crate::marks::expanded_marks;
 use crate::view::View;
 use std::alloc::Global;
 use wf_spec::{Grammar, ViewParts};
@@ -23,6 +26,10 @@ impl View {
         ensures held { IfOk result (λ v. IsHeldFor g.now.core v) }
         ensures refused { IfErr result (λ f. (f ≡ NoMemory) ⊎ IsFaultOf g.now.core parts.now f) }
     {
-        Err(ViewFault::NoMemory)
+        check_names(g, parts)?;
+        let marks = expanded_marks(alloc, g, parts)?;
+        check_lists(alloc, g, parts, &marks)?;
+        let view = assemble(alloc, g, parts, marks)?;
+        Ok(view)
     }
 }

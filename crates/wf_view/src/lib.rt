@@ -1,9 +1,15 @@
 //! Views of workflow grammars: the modules that a view expands, those that it lets a reader see, and the pairs that it shows.
 #![tactic(auto)]
 
+mod assemble;
 mod build;
+mod checks;
+mod composite;
 mod fault;
+mod law;
+mod marks;
 mod view;
 
 pub use fault::{ViewFault, ViewSpot};
+pub use law::described_law;
 pub use view::View;
