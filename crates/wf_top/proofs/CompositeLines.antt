@@ -1,19 +1,17 @@
 -- Composite modules, and texts for each of them in order.
-use Rattle.std.proofs.Common.{◌≡◌, ◌↔◌, IsTrue, ℕ, suc, ◌+◌, Bool, true, false, not, cond, List, [], ◌∷◌, ◌++◌, length, map, refl, sym, ap, ◌∙◌, true≢false, arith, append_assoc, append-nil}
+use Rattle.std.proofs.Common.{◌≡◌, ◌↔◌, IsTrue, ℕ, ◌+◌, Bool, true, false, not, cond, List, [], ◌++◌, length, map, refl, sym, ap, ◌∙◌, true≢false, arith, append_assoc}
 use Rattle.std.specs.Prelude.{◌==◌, filter, flat_map, codes, decimal}
 use Rattle.std.proofs.lemmas.Bool.{eq-eqb}
-use Rattle.std.proofs.lemmas.Grind.{flat_map-append}
-use Rattle.std.proofs.lemmas.List.Elements.{filter-append}
 use Rattle.wf_model.specs.declared.numbers.ProdNo.{ProdNo}
 use Rattle.wf_model.specs.Lists.{numbers_from}
 use Rattle.wf_model.specs.Grammar.{Grammar, Production, IsComposite, production_at}
 use Rattle.wf_model.proofs.Lists.{some_from}
 use Rattle.wf_spec.specs.Tables.{productions_of}
 use Rattle.wf_spec.proofs.Sizes.{rule_in}
-use Rattle.wf_spec.proofs.Tables.{numbers_from-last}
 use Rattle.wf_check.proofs.Heads.{composite_told}
 use Rattle.wf_top.specs.CheckText.{is_composite}
 use Rattle.wf_top.proofs.OneText.{composite_from}
+use Rattle.wf_top.proofs.NumberedTexts.{texts_tested, text_more}
 
 composite_to : (g : Grammar) (m : ℕ) → IsComposite g m → is_composite g m ≡ true
 composite_to g m c = some_from (λ (r : Production). r.head == m) (production_at g c.0) g.productions (rule_in g c.0 c.1.0) (eq-eqb (production_at g c.0).head m c.1.1)
@@ -30,25 +28,12 @@ composite_by g m ps empty e is = go (not empty) (is_composite g m) refl refl
     go false true p q = absurd (true≢false (sym (told.1 (composite_from g m q)) ∙ p))
     go false false p q = p ∙ sym q
 
-one_or_none : (f : ℕ → List ℕ) (b : Bool) (k : ℕ) → flat_map f (cond b (k ∷ []) []) ≡ cond b (f k) []
-one_or_none f true k = append-nil (f k)
-one_or_none f false k = refl
-
-texts_more : (f : ℕ → List ℕ) (test : ℕ → Bool) (k : ℕ) → flat_map f (filter test (numbers_from 0 (suc k))) ≡ flat_map f (filter test (numbers_from 0 k)) ++ cond (test k) (f k) []
-texts_more f test k =
-    ap (λ ns. flat_map f (filter test ns)) (numbers_from-last 0 k ∙ ap (λ j. numbers_from 0 k ++ j ∷ []) (let e : 0 + k ≡ k = omega arith in e))
-    ∙ ap (flat_map f) (filter-append test (numbers_from 0 k) (k ∷ []))
-    ∙ flat_map-append f (filter test (numbers_from 0 k)) (cond (test k) (k ∷ []) [])
-    ∙ ap (λ t. flat_map f (filter test (numbers_from 0 k)) ++ t) (one_or_none f (test k) k)
-
 -- the text of one number more was appended, if it passes the test
 pub appended_more : (f : ℕ → List ℕ) (test : ℕ → Bool) (k : ℕ) (start before after : List ℕ) → before ≡ start ++ flat_map f (filter test (numbers_from 0 k)) → after ≡ before ++ cond (test k) (f k) []
     → after ≡ start ++ flat_map f (filter test (numbers_from 0 (k + 1)))
 appended_more f test k start before after so_far more =
-    more ∙ ap (λ t. t ++ cond (test k) (f k) []) so_far
-    ∙ append_assoc start (flat_map f (filter test (numbers_from 0 k))) (cond (test k) (f k) [])
-    ∙ ap (λ t. start ++ t) (sym (texts_more f test k))
-    ∙ ap (λ j. start ++ flat_map f (filter test (numbers_from 0 j))) (let e : suc k ≡ k + 1 = omega arith in e)
+    text_more (λ j. cond (test j) (f j) []) k start before after (so_far ∙ ap (λ t. start ++ t) (texts_tested f test (numbers_from 0 k))) more
+    ∙ ap (λ t. start ++ t) (sym (texts_tested f test (numbers_from 0 (k + 1))))
 
 -- a name, two pieces with numbers behind them, and two more were appended
 pub line_made : (old a b c d e name named one two on end : List ℕ) (m n r p : ℕ) → named ≡ name → m ≡ r → n ≡ p → a ≡ old ++ named → b ≡ a ++ (one ++ decimal m) → c ≡ b ++ (two ++ decimal n) → d ≡ c ++ on → e ≡ d ++ end

@@ -21,5 +21,7 @@ pub mod Answered
 pub mod Tracing
 pub mod OutcomeLaws
 pub mod Writing
+pub mod NumberedTexts
 pub mod ViewLines
 pub mod ViewWritten
+pub mod ViewTaken

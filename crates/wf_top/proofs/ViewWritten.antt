@@ -1,6 +1,6 @@
 -- The lines of the modules, one by one, make the text of a view.
-use Rattle.std.proofs.Common.{◌≡◌, ℕ, zero, suc, ◌+◌, ◌-◌, ◌<◌, Bool, true, false, cond, List, [], ◌∷◌, ◌++◌, length, get_or, Option, refl, sym, ap, ◌∙◌, subst, arith, append_assoc}
-use Rattle.std.specs.Prelude.{filter, flat_map}
+use Rattle.std.proofs.Common.{◌≡◌, ℕ, suc, ◌+◌, ◌-◌, ◌<◌, Bool, false, cond, List, [], ◌++◌, length, get_or, Option, refl, sym, ap, ◌∙◌, subst, arith}
+use Rattle.std.specs.Prelude.{flat_map}
 use Rattle.wf_model.specs.Lists.{numbers_from}
 use Rattle.wf_model.specs.Grammar.{Grammar}
 use Rattle.wf_model.specs.Meaning.{pairs_of}
@@ -11,35 +11,9 @@ use Rattle.wf_top.specs.Viewed.{IsViewedBy}
 use Rattle.wf_top.specs.Outcome.{IsViewWritten}
 use Rattle.wf_top.specs.Meets.{Appended, EndsBy, IsWritten}
 use Rattle.wf_top.proofs.Putting.{appended_twice}
-use Rattle.wf_top.proofs.ViewLines.{text_more}
+use Rattle.wf_top.proofs.NumberedTexts.{texts_tested, texts_split, text_more}
 use Rattle.wf_top.proofs.Writing.{whole_written, put_by_end, piece_ends, ends_alike}
 use Rattle.wf_top.proofs.OneViewText.{one_view_text}
-
--- texts of the numbers that pass a test
-texts_tested : (f : ℕ → List ℕ) (test : ℕ → Bool) (ns : List ℕ) → flat_map f (filter test ns) ≡ flat_map (λ k. cond (test k) (f k) []) ns
-texts_tested f test [] = refl
-texts_tested f test (k ∷ ns) = go (texts_tested f test ns) (test k)
-  where
-    go : flat_map f (filter test ns) ≡ flat_map (λ j. cond (test j) (f j) []) ns → (b : Bool) → flat_map f (cond b (k ∷ filter test ns) (filter test ns)) ≡ cond b (f k) [] ++ flat_map (λ j. cond (test j) (f j) []) ns
-    go later true = ap (λ t. f k ++ t) later
-    go later false = later
-
--- texts of numbers from j on begin with those of the first k, and then that of the next
-texts_split : (f : ℕ → List ℕ) (j k n : ℕ) → (rest : List ℕ) × (flat_map f (numbers_from j (k + suc n)) ≡ flat_map f (numbers_from j k) ++ (f (j + k) ++ rest))
-texts_split f j zero n =
-    let e : 0 + suc n ≡ suc n = omega arith in
-    let s : j ≡ j + 0 = omega arith in
-    (flat_map f (numbers_from (suc j) n), ap (λ i. flat_map f (numbers_from j i)) e ∙ ap (λ i. f i ++ flat_map f (numbers_from (suc j) n)) s)
-texts_split f j (suc k) n =
-    let e : suc k + suc n ≡ suc (k + suc n) = omega arith in
-    let s : suc j + k ≡ j + suc k = omega arith in
-    let r = texts_split f (suc j) k n in (
-      r.0,
-      ap (λ i. flat_map f (numbers_from j i)) e
-          ∙ ap (λ t. f j ++ t) r.1
-          ∙ sym (append_assoc (f j) (flat_map f (numbers_from (suc j) k)) (f (suc j + k) ++ r.0))
-          ∙ ap (λ i. flat_map f (numbers_from j (suc k)) ++ (f i ++ r.0)) s,
-    )
 
 module _ (g : Grammar) (v : HeldView) (rows : List (Option (List ℕ))) (viewed : IsViewedBy g v rows) where
   -- the flag of a module
@@ -63,8 +37,8 @@ module _ (g : Grammar) (v : HeldView) (rows : List (Option (List ℕ))) (viewed 
   text_is : (e : End) (t : List ℕ) → IsWritten text e t → IsViewWritten g v.core e t
   text_is e t h = (h.0, (seen, pairs_of rows, viewed.held.seen, viewed.full.full, h.1))
 
-  view_ends : (t : List ℕ) → text ≡ t → (d : End) (old new : Option (List ℕ)) → EndsBy (IsWritten t) d old new → EndsBy (IsViewWritten g v.core) d old new
-  view_ends t e d old new ends = ends_alike (IsWritten text) (IsViewWritten g v.core) text_is this_text d old new (subst (λ x. EndsBy (IsWritten x) d old new) (sym e) ends)
+  text_ends : (t : List ℕ) → text ≡ t → (d : End) (old new : Option (List ℕ)) → EndsBy (IsWritten t) d old new → EndsBy (IsViewWritten g v.core) d old new
+  text_ends t e d old new ends = ends_alike (IsWritten text) (IsViewWritten g v.core) text_is this_text d old new (subst (λ x. EndsBy (IsWritten x) d old new) (sym e) ends)
 
   -- the line of one module more was put
   pub line_more : (k : ℕ) (a b c : Option (List ℕ)) → Appended (flat_map line (numbers_from 0 k)) a b → EndsBy (IsWritten (line k)) Done b c → Appended (flat_map line (numbers_from 0 (k + 1))) a c
@@ -76,7 +50,7 @@ module _ (g : Grammar) (v : HeldView) (rows : List (Option (List ℕ))) (viewed 
   pub lines_put : (k : ℕ) → k ≡ length g.modules → (old new : Option (List ℕ)) → Appended (flat_map line (numbers_from 0 k)) old new → EndsBy (IsViewWritten g v.core) Done old new
   lines_put k e old new put =
       let all = numbers_from 0 (length g.modules) in
-      view_ends (flat_map line (numbers_from 0 k)) (texts_tested (module_line g v.core (pairs_of rows)) seen all ∙ ap (λ n. flat_map line (numbers_from 0 n)) (sym e)) Done old new (whole_written (flat_map line (numbers_from 0 k)) old new put)
+      text_ends (flat_map line (numbers_from 0 k)) (texts_tested (module_line g v.core (pairs_of rows)) seen all ∙ ap (λ n. flat_map line (numbers_from 0 n)) (sym e)) Done old new (whole_written (flat_map line (numbers_from 0 k)) old new put)
 
   -- the lines before that of a module were put, and this ended the program
   pub line_stops : (k : ℕ) → k < length g.modules → (d : End) (a b c : Option (List ℕ)) → Appended (flat_map line (numbers_from 0 k)) a b → EndsBy (IsWritten (line k)) d b c → (d ≡ Done → ⊥) → EndsBy (IsViewWritten g v.core) d a c
@@ -85,6 +59,6 @@ module _ (g : Grammar) (v : HeldView) (rows : List (Option (List ℕ))) (viewed 
       let e : length g.modules ≡ k + suc (length g.modules - suc k) = omega arith in
       let s : 0 + k ≡ k = omega arith in
       let r = texts_split line 0 k (length g.modules - suc k) in
-      view_ends (flat_map line (numbers_from 0 k) ++ (line k ++ r.0))
+      text_ends (flat_map line (numbers_from 0 k) ++ (line k ++ r.0))
       (texts_tested (module_line g v.core (pairs_of rows)) seen all ∙ ap (λ n. flat_map line (numbers_from 0 n)) e ∙ r.1 ∙ ap (λ i. flat_map line (numbers_from 0 k) ++ (line i ++ r.0)) s)
       d a c (piece_ends (flat_map line (numbers_from 0 k)) (line k) r.0 d a b c put ends stopped)

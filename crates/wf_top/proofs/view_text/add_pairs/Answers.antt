@@ -1,6 +1,6 @@
 use Rattle.wf_model.specs.Meaning.{pairs_of}
 use Rattle.wf_top.specs.ViewText.{row_text}
-use Rattle.wf_top.proofs.ViewLines.{text_more}
+use Rattle.wf_top.proofs.NumberedTexts.{text_more}
 use Rattle.wf_top.proofs.view_text.add_pairs.Goals as goal
 
 pub loop-i-preserved : goal.loop-i-preserved

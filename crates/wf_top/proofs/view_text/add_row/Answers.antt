@@ -1,7 +1,7 @@
 use Rattle.std.proofs.Common.{cond, []}
 use Rattle.wf_model.specs.Meaning.{pairs_of}
 use Rattle.wf_top.specs.ViewText.{pair_text}
-use Rattle.wf_top.proofs.ViewLines.{text_more}
+use Rattle.wf_top.proofs.NumberedTexts.{text_more}
 use Rattle.wf_top.proofs.view_text.add_row.Goals as goal
 
 pub loop-o-preserved : goal.loop-o-preserved
