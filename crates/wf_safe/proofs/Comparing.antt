@@ -10,7 +10,7 @@ use Rattle.bool_mat.proofs.Rows.{has_below, row_within}
 use Rattle.wf_body.specs.Matrices.{HasRows, HaveRows, IsMatrixOf}
 use Rattle.wf_body.proofs.Rowing.{pair_is}
 use Rattle.wf_safe.specs.declared.safety.difference.Difference.{Difference}
-use Rattle.wf_safe.specs.Disagreeing.{AgreesIfExpanded, IsFirstDifference, IsFirstOf}
+use Rattle.wf_safe.specs.Disagreeing.{AgreesIfExpanded, IsFirstDifference, IsFirstPair}
 use Rattle.wf_safe.specs.Inducing.{IsSeenExpanded}
 use Rattle.wf_safe.specs.Witness.{AgreesOn, Disagree}
 
@@ -47,7 +47,7 @@ module _ (g : Grammar) (u : View) (p : ℕ) (deps : List (Option (List ℕ))) (o
   within true i o e f = has_below (get_or one i 0) o (outputs_of g (head_of g p)) (row_within one (outputs_of g (head_of g p)) i (subst (All (λ r. r < 2 ^ outputs_of g (head_of g p))) (sym (same_rows g deps (head_of g p) one held told)) held.no_more)) e
   within false i o e f = has_below (get_or other.rows i 0) o (outputs_of g (head_of g p)) (row_within other.rows (outputs_of g (head_of g p)) i (subst (λ n. All (λ r. r < 2 ^ n) other.rows) joined.has_columns joined.is_matrix.within)) f
 
-  disagrees : (x : Difference) → IsSeenExpanded g u (head_of g p) → IsFirstDifference one other.rows x → IsFirstOf g u (pairs_of deps) p x
+  disagrees : (x : Difference) → IsSeenExpanded g u (head_of g p) → IsFirstDifference one other.rows x → IsFirstPair g u (pairs_of deps) p x
   disagrees x known d = record {
     head = known;
     input = let l = d.input in let e = ap length (same_rows g deps (head_of g p) one held told) ∙ held.one_each in omega arith;
@@ -57,6 +57,6 @@ module _ (g : Grammar) (u : View) (p : ℕ) (deps : List (Option (List ℕ))) (o
     first = λ i o hi ho c. agree_at i o (d.first i o c);
   }
 
-  pub compared : (o : Option Difference) → IsSeenExpanded g u (head_of g p) → MatchOption o (one ≡ other.rows) (IsFirstDifference one other.rows) → MatchOption o (AgreesIfExpanded g u (pairs_of deps) p) (IsFirstOf g u (pairs_of deps) p)
+  pub compared : (o : Option Difference) → IsSeenExpanded g u (head_of g p) → MatchOption o (one ≡ other.rows) (IsFirstDifference one other.rows) → MatchOption o (AgreesIfExpanded g u (pairs_of deps) p) (IsFirstPair g u (pairs_of deps) p)
   compared None known h = agrees h
   compared (Some x) known h = disagrees x known h

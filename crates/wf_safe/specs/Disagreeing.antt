@@ -23,7 +23,7 @@ abbrev pub AgreesIfExpanded : Grammar → View → Assignment → ℕ → Type 0
 AgreesIfExpanded g u d p = IsSeenExpanded g u (head_of g p) → Agrees g d p
 
 -- the head of a production is seen and expanded, and this is the first pair, by input and then output, on which the two disagree
-pub record IsFirstOf (g : Grammar) (u : View) (d : Assignment) (p : ℕ) (x : Difference) : Type 0 where
+pub record IsFirstPair (g : Grammar) (u : View) (d : Assignment) (p : ℕ) (x : Difference) : Type 0 where
   pub head : IsSeenExpanded g u (head_of g p)
   pub input : x.input.0 < inputs_of g (head_of g p)
   pub output : x.output.0 < outputs_of g (head_of g p)
@@ -33,7 +33,7 @@ pub record IsFirstOf (g : Grammar) (u : View) (d : Assignment) (p : ℕ) (x : Di
 -- the least production that disagrees with its seen, expanded head, and the first pair on which it does
 pub record IsLeastDisagreement (g : Grammar) (u : View) (d : Assignment) (x : Disagreement) : Type 0 where
   pub production : x.production.0 < length g.productions
-  pub pair : IsFirstOf g u d x.production.0 x.pair
+  pub pair : IsFirstPair g u d x.production.0 x.pair
   pub least : (p : ℕ) → p < x.production.0 → AgreesIfExpanded g u d p
 
 -- so it is by the rows that chosen productions induce

@@ -6,6 +6,17 @@ ghost use Rattle.wf_body.specs.Matrices.{HasRows};
 use std::marker::Model;
 use wf_spec::{Deps, ModNo};
 
+/// The rows of a module that has them.
+pub(crate) fn rows_of(deps: &Deps, m: ModNo) -> &[u64]
+    requires { (g : GrammarSeen) × HasRows g deps.now m.0 }
+    ensures { Some result.now ≡ get_or deps.now m.0 None }
+{
+    match deps.rows(m) {
+        Some(rows) => rows,
+        None => &[],
+    }
+}
+
 /// The pairs that every expansion of a module joins, for each module that is seen under a safe view.
 #[derive(Drop)]
 pub struct FullDeps {
@@ -32,10 +43,7 @@ impl FullDeps {
         requires { (g : GrammarSeen) × HasRows g self.now m.0 }
         ensures { Some result.now ≡ get_or self.now m.0 None }
     {
-        match self.deps.rows(m) {
-            Some(rows) => rows,
-            None => &[],
-        }
+        rows_of(&self.deps, m)
     }
 
     /// The rows of all seen modules.

@@ -20,7 +20,7 @@ use crate::full::FullDeps;
 use crate::safety::disagreement::least_disagreement;
 use crate::safety::ranked::induce_all;
 use crate::safety::shown::shown_deps;
-use crate::safety::telling::told;
+use crate::safety::telling::witness_of;
 use std::alloc::Global;
 use wf_check::Proper;
 use wf_spec::Grammar;
@@ -32,7 +32,7 @@ use wf_view::View;
 ///
 /// Errors: `Unsafe` with the least production that does not join the pairs of its head, and the first pair, by input and then output, on which the two disagree; `NoMemory` may come at any time.
 ///
-/// Cost: for each seen, expanded module and each of its productions one pass through a body, with words of 64 bits.
+/// Cost: for each seen, expanded module and each of its productions one pass through a body, with words of 64 bits, and for each rank one look at each module.
 ///
 /// Source of the idea: Bao, Davidson, Milo, "Labeling Workflow Views with Fine-Grained Dependencies", VLDB 2012 (safe views and full dependency assignments).
 pub fn full_deps(
@@ -51,7 +51,7 @@ pub fn full_deps(
     induce_all(alloc, g, proper, view, &mut deps)?;
     match least_disagreement(alloc, g, view, &deps)? {
         Some(found) => {
-            let witness = told(alloc, g, proper, view, found)?;
+            let witness = witness_of(alloc, g, proper, view, found)?;
             Err(SafeFault::Unsafe { witness })
         }
         None => Ok(FullDeps::of_rows(deps)),

@@ -214,81 +214,46 @@ fn is_choice(choice: &[Choice], wanted: &[(u16, u16)]) -> bool {
             .all(|(c, w)| c.module.0 == w.0 && c.production.0 == w.1)
 }
 
+/// Whether a witness names a module and two productions of it, a pair that the first does or does not join, and this choice.
+fn is_told(
+    w: &Witness,
+    productions: (ModNo, ProdNo, ProdNo),
+    pair: (PortNo, PortNo, bool),
+    choice: &[(u16, u16)],
+) -> bool {
+    (w.module, w.one, w.other) == productions
+        && (w.input, w.output, w.joined_by_one) == pair
+        && is_choice(w.choice.items(), choice)
+}
+
 const STRAIGHT: &[u64] = &[0b01, 0b10];
 
 const CROSSED: &[u64] = &[0b10, 0b01];
 
 const ALL: &[u64] = &[0b11, 0b11];
 
-#[test]
-fn rows_of_safe_views_are_told(rt: HostRuntime) -> Result<(), Fail> {
-    let g = grammar(
-        rt.alloc(),
+/// L to a W, an L and a W, or to a T; or, where it is short, to a W and an L, or to a T.
+fn twisting(alloc: Global, is_short: bool) -> Result<Grammar, Fail> {
+    let long: &[Place] = &[(b'w', b'W'), (b'l', b'L'), (b'v', b'W')];
+    let short: &[Place] = &[(b'w', b'W'), (b'l', b'L')];
+    grammar(
+        alloc,
         &[
             (b'S', &[(b'u', b'L')]),
-            (b'L', &[(b'w', b'W'), (b'l', b'L'), (b'v', b'W')]),
+            (b'L', if is_short { short } else { long }),
             (b'L', &[(b't', b'T')]),
         ],
         &[
             (b'W', &[(b'1', b'2'), (b'2', b'1')]),
             (b'T', &[(b'1', b'1'), (b'2', b'2')]),
         ],
-    )?;
-    let whole = view(rt.alloc(), &g, b"SL", &[])?;
-    assert!(rt;
-        has_rows(
-            rt.alloc(),
-            &g,
-            &whole,
-            &[STRAIGHT, STRAIGHT, CROSSED, STRAIGHT, &[]]
-        )
-    );
-    let outer = view(rt.alloc(), &g, b"S", &[])?;
-    assert!(rt; has_rows(rt.alloc(), &g, &outer, &[ALL, ALL, &[], &[], &[]]));
-    let given = view(rt.alloc(), &g, b"S", &[(b'L', &[(b'1', b'2')])])?;
-    assert!(rt;
-        has_rows(
-            rt.alloc(),
-            &g,
-            &given,
-            &[&[0b10, 0], &[0b10, 0], &[], &[], &[]]
-        )
-    );
-    Ok(())
+    )
 }
 
-#[test]
-fn the_skewed_view_is_refused(rt: HostRuntime) -> Result<(), Fail> {
-    let g = grammar(
-        rt.alloc(),
-        &[
-            (b'S', &[(b'u', b'L')]),
-            (b'L', &[(b'w', b'W'), (b'l', b'L')]),
-            (b'L', &[(b't', b'T')]),
-        ],
-        &[
-            (b'W', &[(b'1', b'2'), (b'2', b'1')]),
-            (b'T', &[(b'1', b'1'), (b'2', b'2')]),
-        ],
-    )?;
-    let whole = view(rt.alloc(), &g, b"SL", &[])?;
-    let w = witness(rt.alloc(), &g, &whole)?;
-    assert_eq!(rt;
-        (w.module, w.one, w.other),
-        (ModNo(1), ProdNo(2), ProdNo(1))
-    );
-    assert_eq!(rt;
-        (w.input, w.output, w.joined_by_one),
-        (PortNo(0), PortNo(0), true)
-    );
-    assert!(rt; is_choice(w.choice.items(), &[(0, 0), (1, 2)]));
-    Ok(())
-}
-
-#[test]
-fn a_deep_disagreement_is_told(rt: HostRuntime) -> Result<(), Fail> {
-    let g = grammar(
-        rt.alloc(),
+/// S to an L, L to a W, and W to a T or to a U.
+fn deep(alloc: Global) -> Result<Grammar, Fail> {
+    grammar(
+        alloc,
         &[
             (b'S', &[(b'u', b'L')]),
             (b'L', &[(b'w', b'W')]),
@@ -299,18 +264,48 @@ fn a_deep_disagreement_is_told(rt: HostRuntime) -> Result<(), Fail> {
             (b'T', &[(b'1', b'1'), (b'2', b'2')]),
             (b'U', &[(b'1', b'1'), (b'2', b'1'), (b'2', b'2')]),
         ],
-    )?;
+    )
+}
+
+#[test]
+fn rows_of_safe_views_are_told(rt: HostRuntime) -> Result<(), Fail> {
+    let g = twisting(rt.alloc(), false)?;
+    let whole = view(rt.alloc(), &g, b"SL", &[])?;
+    let outer = view(rt.alloc(), &g, b"S", &[])?;
+    let given = view(rt.alloc(), &g, b"S", &[(b'L', &[(b'1', b'2')])])?;
+    let first = &[0b10, 0];
+    assert!(rt;
+        has_rows(
+            rt.alloc(),
+            &g,
+            &whole,
+            &[STRAIGHT, STRAIGHT, CROSSED, STRAIGHT, &[]]
+        )
+    );
+    assert!(rt; has_rows(rt.alloc(), &g, &outer, &[ALL, ALL, &[], &[], &[]]));
+    assert!(rt; has_rows(rt.alloc(), &g, &given, &[first, first, &[], &[], &[]]));
+    Ok(())
+}
+
+#[test]
+fn the_skewed_view_is_refused(rt: HostRuntime) -> Result<(), Fail> {
+    let g = twisting(rt.alloc(), true)?;
+    let whole = view(rt.alloc(), &g, b"SL", &[])?;
+    let w = witness(rt.alloc(), &g, &whole)?;
+    let productions = (ModNo(1), ProdNo(2), ProdNo(1));
+    let pair = (PortNo(0), PortNo(0), true);
+    assert!(rt; is_told(&w, productions, pair, &[(0, 0), (1, 2)]));
+    Ok(())
+}
+
+#[test]
+fn a_deep_disagreement_is_told(rt: HostRuntime) -> Result<(), Fail> {
+    let g = deep(rt.alloc())?;
     let whole = view(rt.alloc(), &g, b"SLW", &[])?;
     let w = witness(rt.alloc(), &g, &whole)?;
-    assert_eq!(rt;
-        (w.module, w.one, w.other),
-        (ModNo(2), ProdNo(2), ProdNo(3))
-    );
-    assert_eq!(rt;
-        (w.input, w.output, w.joined_by_one),
-        (PortNo(1), PortNo(0), false)
-    );
-    assert!(rt; is_choice(w.choice.items(), &[(0, 0), (1, 1), (2, 2)]));
+    let productions = (ModNo(2), ProdNo(2), ProdNo(3));
+    let pair = (PortNo(1), PortNo(0), false);
+    assert!(rt; is_told(&w, productions, pair, &[(0, 0), (1, 1), (2, 2)]));
     let above = view(rt.alloc(), &g, b"SL", &[])?;
     assert!(rt; has_rows(rt.alloc(), &g, &above, &[ALL, ALL, ALL, &[], &[]]));
     Ok(())

@@ -1,18 +1,18 @@
 // The least production that does not join the pairs of its head.
-ghost use Rattle.std.specs.Prelude.{◌≡◌, ◌<◌, ℕ, Some, None, length, get_or, IfOk, MatchOption};
-ghost use Rattle.wf_model.specs.Grammar.{Grammar as GrammarSeen};
+ghost use Rattle.std.specs.Prelude.{◌<◌, ℕ, length, IfOk, MatchOption};
 ghost use Rattle.wf_model.specs.Meaning.{pairs_of};
 ghost use Rattle.wf_model.specs.View.{IsSeenModule};
 ghost use Rattle.wf_body.specs.Matrices.{HasRows};
 ghost use Rattle.wf_view.specs.Held.{IsHeldFor};
-ghost use Rattle.wf_safe.specs.Disagreeing.{AgreesIfExpanded, IsFirstOf, IsLeastDisagreement};
+ghost use Rattle.wf_safe.specs.Disagreeing.{AgreesIfExpanded, IsFirstPair, IsLeastDisagreement};
 
+use crate::full::rows_of;
 use crate::safety::difference::{Difference, first_difference};
 use crate::safety::expanded::is_seen_expanded;
 use bool_mat::MatPool;
 use std::alloc::{AllocError, Global};
 use wf_body::induced;
-use wf_spec::{Deps, Grammar, ModNo, ProdNo};
+use wf_spec::{Deps, Grammar, ProdNo};
 use wf_view::View;
 
 /// A production that does not join the pairs of its head, and the first pair on which the two disagree.
@@ -22,21 +22,10 @@ pub struct Disagreement {
     pub pair: Difference,
 }
 
-/// The rows of a module that has them.
-fn rows_of(deps: &Deps, m: ModNo) -> &[u64]
-    requires { (g : GrammarSeen) × HasRows g deps.now m.0 }
-    ensures { Some result.now ≡ get_or deps.now m.0 None }
-{
-    match deps.rows(m) {
-        Some(rows) => rows,
-        None => &[],
-    }
-}
-
 /// The first pair on which a production disagrees with its head, if this is seen and expanded and there is one. Fails only for want of memory.
 ///
 /// Cost: one pass through the body.
-fn first_of(
+fn first_pair(
     alloc: Global,
     g: &Grammar,
     view: &View,
@@ -46,7 +35,7 @@ fn first_of(
     requires view { IsHeldFor g.now.core view.now }
     requires rows { (m : ℕ) → IsSeenModule g.now.core view.now.core m → HasRows g.now.core deps.now m }
     requires production { p.0 < length g.now.core.productions }
-    ensures { IfOk result (λ o. MatchOption o (AgreesIfExpanded g.now.core view.now.core (pairs_of deps.now) p.0) (λ x. IsFirstOf g.now.core view.now.core (pairs_of deps.now) p.0 x)) }
+    ensures { IfOk result (λ o. MatchOption o (AgreesIfExpanded g.now.core view.now.core (pairs_of deps.now) p.0) (λ x. IsFirstPair g.now.core view.now.core (pairs_of deps.now) p.0 x)) }
 {
     let head = g.production(p).head();
     if !is_seen_expanded(view, head) {
@@ -73,7 +62,7 @@ pub fn least_disagreement(
 {
     for k in 0..g.productions().len() {
         let production = ProdNo(k as u16);
-        if let Some(pair) = first_of(alloc, g, view, deps, production)? {
+        if let Some(pair) = first_pair(alloc, g, view, deps, production)? {
             return Ok(Some(Disagreement { production, pair }));
         }
     }

@@ -14,7 +14,7 @@ use wf_spec::Grammar;
 use wf_view::View;
 
 /// The witness that two expansions disagree, of a production that does not join the pairs of its head. Fails only for want of memory.
-pub fn told(
+pub fn witness_of(
     alloc: Global,
     g: &Grammar,
     proper: &Proper,

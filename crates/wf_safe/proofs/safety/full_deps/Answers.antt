@@ -11,8 +11,8 @@ induce_all-requires-clause-before c = none_before c.args.g.now.core c.args.view.
 pub least_disagreement-requires-clause-rows : goal.least_disagreement-requires-clause-rows
 least_disagreement-requires-clause-rows c = each_has_rows c.args.g.now.core c.args.view.now.core c.args.proper.now c.induce_all.new.deps c.in_ok-induce_all.ensures
 
-pub told-requires-clause-found : goal.told-requires-clause-found
-told-requires-clause-found c = record {
+pub witness_of-requires-clause-found : goal.witness_of-requires-clause-found
+witness_of-requires-clause-found c = record {
   rows = c.induce_all.new.deps;
   induced = c.in_ok-induce_all.ensures;
   least = MatchOption-at_some _ _ c.in-Some.found c.in-Some.is c.in_ok-found.ensures;

@@ -1,7 +1,7 @@
 use Rattle.std.proofs.Common.{ap, ◌∙◌}
 use Rattle.wf_model.specs.Grammar.{Production}
 use Rattle.wf_safe.proofs.FirstWitness.{first_witness}
-use Rattle.wf_safe.proofs.safety.telling.told.Goals as goal
+use Rattle.wf_safe.proofs.safety.telling.witness_of.Goals as goal
 
 pub returns : goal.returns
 returns c =

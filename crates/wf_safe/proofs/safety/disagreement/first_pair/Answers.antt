@@ -6,7 +6,7 @@ use Rattle.bool_mat.specs.Matrix.{Matrix}
 use Rattle.wf_body.specs.Matrices.{IsMatrixOf}
 use Rattle.wf_safe.proofs.Comparing.{as_many, body_rows, compared}
 use Rattle.wf_safe.proofs.SeenBelow.{seen_expanded_head}
-use Rattle.wf_safe.proofs.safety.disagreement.first_of.Goals as goal
+use Rattle.wf_safe.proofs.safety.disagreement.first_pair.Goals as goal
 
 pub induced-requires-clause-rows : goal.induced-requires-clause-rows
 induced-requires-clause-rows c =
