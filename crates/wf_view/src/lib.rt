@@ -8,6 +8,8 @@ mod composite;
 mod fault;
 mod law;
 mod marks;
+#[cfg(test)]
+mod tests;
 mod view;
 
 pub use fault::{ViewFault, ViewSpot};
