@@ -7,20 +7,18 @@ use Rattle.wf_io.specs.Told.{File}
 use Rattle.wf_spec.specs.Held.{HeldGrammar}
 use Rattle.wf_flat.specs.Table.{Table, events_of}
 use Rattle.wf_top.specs.declared.view.Viewed.{Viewed}
-use Rattle.wf_top.specs.declared.ending.Place.TheVariants.{Spec, View, Events}
+use Rattle.wf_top.specs.declared.ending.Place.TheVariants.{Spec, Events}
 use Rattle.wf_top.specs.Endings.{End}
 use Rattle.wf_top.specs.Words.{Command}
 use Rattle.wf_top.specs.Specification.{TellsGrammar, RefusesSpec}
 use Rattle.wf_top.specs.Telling.{OfWhole}
-use Rattle.wf_top.specs.ViewTold.{TellsView, RefusesView}
 use Rattle.wf_top.specs.RunTold.{TellsRun, RefusesRun}
-use Rattle.wf_top.specs.Outcome.{SpecStage, ViewStage, AnswersQueries, AnswersRun, Does, short_most, long_most, instance_most}
+use Rattle.wf_top.specs.Outcome.{SpecStage, AnswersQueries, AnswersRun, Does, short_most, long_most, instance_most}
 use Rattle.wf_top.specs.Meets.{EndsBy}
 use Rattle.wf_top.specs.Stages.{IsTold, StopsAt}
 use Rattle.wf_top.proofs.Stages.{stop_ends, on_ends}
-use Rattle.wf_top.proofs.OneOutcome.{one_grammar, one_view, one_run}
+use Rattle.wf_top.proofs.OneOutcome.{one_grammar, one_run}
 use Rattle.wf_top.proofs.OneFault.{no_refusal}
-use Rattle.wf_top.proofs.OneViewFault.{no_refusal_of_view}
 use Rattle.wf_top.proofs.OneRunFault.{no_refusal_of_run}
 
 module _ (spec : File) (Next : Grammar → End → List ℕ → Type 0) (old new : Option (List ℕ)) (d : End) where
@@ -32,16 +30,6 @@ module _ (spec : File) (Next : Grammar → End → List ℕ → Type 0) (old new
   pub spec_goes : (g : Grammar) → IsTold short_most spec TellsGrammar g → EndsBy (Next g) d old new → EndsBy (SpecStage spec Next) d old new
   spec_goes g told ends =
       on_ends short_most Spec spec TellsGrammar (OfWhole RefusesSpec) Next old new g told (λ h t. one_grammar spec.bytes g h told.tells t) (λ line fault r. no_refusal spec.bytes fault g told.tells r.1) d ends
-
-module _ (g : Grammar) (view : File) (Next : ViewOf → End → List ℕ → Type 0) (old new : Option (List ℕ)) (d : End) where
-  -- VIEW ends the program
-  pub view_ends : StopsAt short_most View view (OfWhole (RefusesView g)) d → new ≡ old → EndsBy (ViewStage g view Next) d old new
-  view_ends h s = stop_ends short_most View view (TellsView g) (OfWhole (RefusesView g)) Next old new d h s
-
-  -- the view of VIEW is taken on
-  pub view_goes : (u : ViewOf) → IsTold short_most view (TellsView g) u → EndsBy (Next u) d old new → EndsBy (ViewStage g view Next) d old new
-  view_goes u told ends =
-      on_ends short_most View view (TellsView g) (OfWhole (RefusesView g)) Next old new u told (λ v t. one_view g view.bytes u v told.tells t) (λ line fault r. no_refusal_of_view g view.bytes fault u told.tells r.1) d ends
 
 module _ (g : Grammar) (u : ViewOf) (events queries : File) (old new : Option (List ℕ)) (d : End) where
   -- EVENTS ends the program
@@ -59,8 +47,8 @@ pub does : (files : List ℕ → File) (c : Option Command) (x : Command) (d : E
 does files c x d old new p = subst (λ y. EndsBy (Does files y) d old new) (sym p)
 
 -- the same end by the same grammar
-pub for_grammar : (Next : Grammar → End → List ℕ → Type 0) (g h : HeldGrammar) (d : End) (old new : Option (List ℕ)) → g ≡ h → EndsBy (Next g.core) d old new → EndsBy (Next h.core) d old new
-for_grammar Next g h d old new p = subst (λ (x : HeldGrammar). EndsBy (Next x.core) d old new) p
+pub with_grammar : (Next : Grammar → End → List ℕ → Type 0) (g h : HeldGrammar) (d : End) (old new : Option (List ℕ)) → g ≡ h → EndsBy (Next g.core) d old new → EndsBy (Next h.core) d old new
+with_grammar Next g h d old new p = subst (λ (x : HeldGrammar). EndsBy (Next x.core) d old new) p
 
 -- the same answers by the same view and run
 pub for_run : (queries : File) (v w : Viewed) (r t : Table) (d : End) (old new : Option (List ℕ)) → v ≡ w → r ≡ t →

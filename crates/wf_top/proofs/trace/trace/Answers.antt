@@ -2,7 +2,8 @@ use Rattle.std.proofs.Common.{◌∙◌, refl}
 use Rattle.std.proofs.lemmas.Result.{err_from_is_err_and}
 use Rattle.wf_top.specs.Outcome.{AnswersRun}
 use Rattle.wf_top.proofs.Stages.{passed_on, cause_from}
-use Rattle.wf_top.proofs.Tracing.{spec_ends, spec_goes, view_ends, view_goes, for_grammar}
+use Rattle.wf_top.proofs.Tracing.{spec_ends, spec_goes, with_grammar}
+use Rattle.wf_top.proofs.ViewTaken.{view_ends, view_goes}
 use Rattle.wf_top.proofs.trace.trace.Goals as goal
 
 pub returns-in_err-spec-clause-ends : goal.returns-in_err-spec-clause-ends
@@ -24,7 +25,7 @@ returns-clause-ends g c = λ f told.
     let last = c.in_ok-viewed.ensures.same ∙ later in
     spec_goes _ _ _ _ _ c.in_ok-spec.spec.grammar.core (c.in_ok-spec.ensures.ok f told)
     (view_goes _ _ _ _ _ _ c.in_ok-viewed.viewed.view.core (c.in_ok-viewed.ensures.ok f later)
-    (for_grammar (λ x. AnswersRun x c.in_ok-viewed.viewed.view.core (f c.args.words.now.events.now) (f c.args.words.now.queries.now)) _ _ _ _ _ c.in_ok-viewed.ensures.grammar
+    (with_grammar (λ x. AnswersRun x c.in_ok-viewed.viewed.view.core (f c.args.words.now.events.now) (f c.args.words.now.queries.now)) _ _ _ _ _ c.in_ok-viewed.ensures.grammar
     (c.answer_view.ensures.ends f last)))
 
 pub returns-clause-cause : goal.returns-clause-cause
