@@ -10,8 +10,8 @@ pub mod Marking
 pub mod Naming
 pub mod Opening
 pub mod Pairing
+pub mod Passing
 pub mod Places
 pub mod Ports
 pub mod Showing
-pub mod Tests
 pub mod Viewed

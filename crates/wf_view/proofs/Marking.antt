@@ -2,7 +2,7 @@
 use Rattle.std.proofs.Common.{◌≡◌, ℕ, ◌<◌, ◌==◌, ◌||◌, Bool, true, false, List, length, get_or, set, refl, sym, ap, ◌∙◌}
 use Rattle.std.proofs.lemmas.Bool.{eqb-true, eqb-false}
 use Rattle.std.proofs.lemmas.List.{get_or-set_same, get_or-set_other}
-use Rattle.wf_view.proofs.Tests.{or_true, or_false}
+use Rattle.wf_view.proofs.Passing.{or_true, or_false}
 
 -- one flag more is set
 pub set_is : (marks : List Bool) (k m : ℕ) → k < length marks → get_or (set marks k true) m false ≡ get_or marks m false || (k == m)

@@ -19,7 +19,7 @@ use Rattle.wf_view.specs.Tables.{names_pair, AreRowsBy}
 use Rattle.wf_view.specs.Viewing.{is_composite}
 use Rattle.wf_view.proofs.Heading.{composite_gives, composite_from}
 use Rattle.wf_view.proofs.Naming.{named_at}
-use Rattle.wf_view.proofs.Tests.{some_more}
+use Rattle.wf_view.proofs.Passing.{some_more}
 
 -- rows that pass one test pass an equal one
 pub by_same : (inputs outputs : ℕ) (s t : ℕ → ℕ → Bool) (rows : List ℕ) → ((i o : ℕ) → i < inputs → o < outputs → s i o ≡ t i o) → AreRowsBy inputs outputs s rows → AreRowsBy inputs outputs t rows

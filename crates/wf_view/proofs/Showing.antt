@@ -8,7 +8,7 @@ use Rattle.wf_model.proofs.Lists.{in_map, in_append_right, in_append_cases, same
 use Rattle.wf_view.specs.Rules.{deps_names}
 use Rattle.wf_view.specs.Viewing.{name_of, is_about, is_pair, is_shown}
 use Rattle.wf_view.proofs.Flagged.{same_tests}
-use Rattle.wf_view.proofs.Tests.{or_false, some_more}
+use Rattle.wf_view.proofs.Passing.{or_false, some_more}
 
 -- where one part is about a module, and no other is, its pairs are shown
 pub shown_by : (g : Grammar) (deps : List DepsPart) (m : ℕ) (d : DepsPart) → IsIn d deps → is_about g m d ≡ true → ((e : DepsPart) → IsIn e deps → is_about g m e ≡ true → e ≡ d)

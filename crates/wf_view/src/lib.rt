@@ -8,10 +8,11 @@ mod composite;
 mod fault;
 mod law;
 mod marks;
-#[cfg(test)]
-mod tests;
 mod view;
 
 pub use fault::{ViewFault, ViewSpot};
 pub use law::described_law;
 pub use view::View;
+
+#[cfg(test)]
+mod tests;

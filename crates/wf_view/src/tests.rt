@@ -1,12 +1,12 @@
-// Views of a grammar of modules with two inputs and two outputs each, all named by letters.
+// Views of a grammar whose modules are each named by a letter: those without ports S, A, B, Q and R, of which the first three are composite, and C and N, each with the inputs a and b and the outputs c and d, of which C is composite.
 ghost use Rattle.wf_view.specs.Held.{IsHeldFor};
 
 use super::*;
 use std::alloc::{AllocError, Global};
 use std::test::Fail;
 use wf_spec::{
-    DepsPart, EdgePart, EntryPart, ExitPart, Grammar, ModulePart, Name, PairPart, Parts, PortPart,
-    PosPart, ProdPart, Seq, ViewParts,
+    DepsPart, EntryPart, ExitPart, Grammar, ModulePart, Name, PairPart, Parts, PortPart, PosPart,
+    ProdPart, Seq, ViewParts,
 };
 
 fn name(alloc: Global, letter: u8) -> Result<Name, AllocError> {
@@ -21,339 +21,236 @@ fn names(alloc: Global, letters: &[u8]) -> Result<Seq<Name>, AllocError> {
     Ok(Seq::from_vec(list))
 }
 
-fn module(alloc: Global, letter: u8) -> Result<ModulePart, AllocError> {
+fn module(
+    alloc: Global,
+    letter: u8,
+    inputs: &[u8],
+    outputs: &[u8],
+) -> Result<ModulePart, AllocError> {
     Ok(ModulePart {
         name: name(alloc, letter)?,
-        inputs: names(alloc, b"ac")?,
-        outputs: names(alloc, b"bd")?,
+        inputs: names(alloc, inputs)?,
+        outputs: names(alloc, outputs)?,
     })
 }
 
-fn port(alloc: Global, position: u8, letter: u8) -> Result<PortPart, AllocError> {
+fn modules(alloc: Global) -> Result<Seq<ModulePart>, AllocError> {
+    let mut list = Vec::new(alloc);
+    for letter in b"SABQR" {
+        list.push(module(alloc, *letter, b"", b"")?)?;
+    }
+    for letter in b"CN" {
+        list.push(module(alloc, *letter, b"ab", b"cd")?)?;
+    }
+    Ok(Seq::from_vec(list))
+}
+
+/// A body with a module for each letter, at the positions u and v.
+fn body(alloc: Global, letters: &[u8]) -> Result<Seq<PosPart>, AllocError> {
+    let mut list = Vec::new(alloc);
+    for (letter, place) in letters.iter().zip(b"uv") {
+        list.push(PosPart {
+            name: name(alloc, *place)?,
+            module: name(alloc, *letter)?,
+        })?;
+    }
+    Ok(Seq::from_vec(list))
+}
+
+/// A port of the position u.
+fn port(alloc: Global, letter: u8) -> Result<PortPart, AllocError> {
     Ok(PortPart {
-        pos: name(alloc, position)?,
+        pos: name(alloc, b'u')?,
         port: name(alloc, letter)?,
     })
 }
 
-/// The modules of a body, at positions of their own names.
-fn body(alloc: Global, letters: &[u8]) -> Result<Seq<PosPart>, AllocError> {
-    let mut list = Vec::new(alloc);
-    for letter in letters {
-        list.push(PosPart {
-            name: name(alloc, *letter)?,
-            module: name(alloc, *letter)?,
-        })?;
-    }
-    Ok(Seq::from_vec(list))
-}
-
-/// Edges from the outputs of a position to the inputs of another, b to a and d to c.
-fn edges(alloc: Global, from: u8, to: u8) -> Result<Seq<EdgePart>, AllocError> {
-    let mut list = Vec::new(alloc);
-    for (output, input) in [(b'b', b'a'), (b'd', b'c')] {
-        list.push(EdgePart {
-            from: port(alloc, from, output)?,
-            to: port(alloc, to, input)?,
-        })?;
-    }
-    Ok(Seq::from_vec(list))
-}
-
-/// Entries from the inputs of a head to those of a position.
-fn entries(alloc: Global, to: u8) -> Result<Seq<EntryPart>, AllocError> {
-    let mut list = Vec::new(alloc);
-    for input in b"ac" {
-        list.push(EntryPart {
+/// A production whose head has these ports, each linked to that of the same name at u.
+fn production(
+    alloc: Global,
+    head: u8,
+    letters: &[u8],
+    inputs: &[u8],
+    outputs: &[u8],
+) -> Result<ProdPart, AllocError> {
+    let mut entries = Vec::new(alloc);
+    for input in inputs {
+        entries.push(EntryPart {
             port: name(alloc, *input)?,
-            to: port(alloc, to, *input)?,
+            to: port(alloc, *input)?,
         })?;
     }
-    Ok(Seq::from_vec(list))
-}
-
-/// Exits from the outputs of a position to those of a head.
-fn exits(alloc: Global, from: u8) -> Result<Seq<ExitPart>, AllocError> {
-    let mut list = Vec::new(alloc);
-    for output in b"bd" {
-        list.push(ExitPart {
-            from: port(alloc, from, *output)?,
+    let mut exits = Vec::new(alloc);
+    for output in outputs {
+        exits.push(ExitPart {
+            from: port(alloc, *output)?,
             port: name(alloc, *output)?,
         })?;
     }
-    Ok(Seq::from_vec(list))
-}
-
-/// A head with one module in its body.
-fn single(alloc: Global, head: u8, inner: u8) -> Result<ProdPart, AllocError> {
     Ok(ProdPart {
         head: name(alloc, head)?,
-        body: body(alloc, [inner].as_slice())?,
+        body: body(alloc, letters)?,
         edges: Seq::from_vec(Vec::new(alloc)),
-        entries: entries(alloc, inner)?,
-        exits: exits(alloc, inner)?,
+        entries: Seq::from_vec(entries),
+        exits: Seq::from_vec(exits),
     })
 }
 
-/// A head with two modules in a line in its body.
-fn line(alloc: Global, head: u8, first: u8, second: u8) -> Result<ProdPart, AllocError> {
-    Ok(ProdPart {
-        head: name(alloc, head)?,
-        body: body(alloc, [first, second].as_slice())?,
-        edges: edges(alloc, first, second)?,
-        entries: entries(alloc, first)?,
-        exits: exits(alloc, second)?,
+fn pair(alloc: Global, input: u8, output: u8) -> Result<PairPart, AllocError> {
+    Ok(PairPart {
+        input: name(alloc, input)?,
+        output: name(alloc, output)?,
     })
 }
 
-fn deps(alloc: Global, parts: &[(u8, &[(u8, u8)])]) -> Result<Seq<DepsPart>, AllocError> {
+/// A deps part: the letter of its module, and for each pair those of its input and its output.
+fn part(alloc: Global, text: &[u8]) -> Result<DepsPart, Fail> {
+    let Some((letter, mut left)) = text.split_first() else {
+        return Err(Fail::new("the letter of a module"));
+    };
     let mut list = Vec::new(alloc);
-    for (letter, pairs) in parts {
-        let mut named = Vec::new(alloc);
-        for (input, output) in *pairs {
-            named.push(PairPart {
-                input: name(alloc, *input)?,
-                output: name(alloc, *output)?,
-            })?;
-        }
-        list.push(DepsPart {
-            module: name(alloc, *letter)?,
-            pairs: Seq::from_vec(named),
-        })?;
+    while let [input, output, rest @ ..] = left {
+        list.push(pair(alloc, *input, *output)?)?;
+        left = rest;
+    }
+    Ok(DepsPart {
+        module: name(alloc, *letter)?,
+        pairs: Seq::from_vec(list),
+    })
+}
+
+/// The deps parts of the words of a text.
+fn parts(alloc: Global, text: &str) -> Result<Seq<DepsPart>, Fail> {
+    let mut list = Vec::new(alloc);
+    for word in text.split_whitespace() {
+        list.push(part(alloc, word.as_bytes())?)?;
     }
     Ok(Seq::from_vec(list))
 }
 
-/// S to A and B in a line, A to P, and B to Q. The atomic module P is given the pair (a, b), and Q all pairs. The modules S, A, B, P, Q have the numbers 0 to 4.
+/// S to A, B; A to Q; B to R; C to N. The output d of N depends on both inputs, and c on none.
 fn grammar(alloc: Global) -> Result<Grammar, Fail> {
-    let mut modules = Vec::new(alloc);
-    for letter in b"SABPQ" {
-        modules.push(module(alloc, *letter)?)?;
+    let mut list = Vec::new(alloc);
+    for (head, letters) in [(b'S', b"AB".as_slice()), (b'A', b"Q"), (b'B', b"R")] {
+        list.push(production(alloc, head, letters, b"", b"")?)?;
     }
-    let mut productions = Vec::new(alloc);
-    productions.push(line(alloc, b'S', b'A', b'B')?)?;
-    productions.push(single(alloc, b'A', b'P')?)?;
-    productions.push(single(alloc, b'B', b'Q')?)?;
-    let parts = Parts {
+    list.push(production(alloc, b'C', b"N", b"ab", b"cd")?)?;
+    let given = Parts {
         start: name(alloc, b'S')?,
-        modules: Seq::from_vec(modules),
-        productions: Seq::from_vec(productions),
-        deps: deps(alloc, &[(b'P', &[(b'a', b'b')])])?,
+        modules: modules(alloc)?,
+        productions: Seq::from_vec(list),
+        deps: parts(alloc, "Nadbd")?,
     };
-    Ok(Grammar::build(alloc, parts)?)
+    Ok(Grammar::build(alloc, given)?)
 }
 
-fn parts(
-    alloc: Global,
-    expand: Option<&[u8]>,
-    pairs: &[(u8, &[(u8, u8)])],
-) -> Result<ViewParts, AllocError> {
+/// The parts of a view that expands the modules of these letters, or has no list of them.
+fn described(alloc: Global, expand: Option<&str>, deps: &str) -> Result<ViewParts, Fail> {
     let expand = match expand {
-        Some(letters) => Some(names(alloc, letters)?),
+        Some(letters) => Some(names(alloc, letters.as_bytes())?),
         None => None,
     };
-    let deps = deps(alloc, pairs)?;
+    let deps = parts(alloc, deps)?;
     Ok(ViewParts { expand, deps })
 }
 
-/// Whether a view expands a module, whether it is seen, and its rows, which an expanded module has not.
-fn told<'v>(g: &Grammar, view: &'v View, letter: u8) -> Option<(bool, bool, &'v [u64])>
-    requires { IsHeldFor g.now.core view.now }
+/// The letters of the modules that a view expands, and of those that it lets be seen.
+fn expanded_and_seen(alloc: Global, g: &Grammar, v: &View) -> Result<(Vec<u8>, Vec<u8>), AllocError>
+    requires { IsHeldFor g.now.core v.now }
 {
-    let m = g.find([letter].as_slice())?;
-    if view.expanded(m) {
-        return Some((true, view.seen(m), &[]));
+    let mut expanded = Vec::new(alloc);
+    let mut seen = Vec::new(alloc);
+    for letter in b"SABQRCN" {
+        if let Some(m) = g.find(&[*letter]) {
+            if v.expanded(m) {
+                expanded.push(*letter)?;
+            }
+            if v.seen(m) {
+                seen.push(*letter)?;
+            }
+        }
     }
-    Some((false, view.seen(m), view.shown_rows(m)))
+    Ok((expanded, seen))
+}
+
+/// The rows that a view shows of a module; none of one that it expands.
+fn rows_of<'a>(g: &Grammar, v: &'a View, letter: u8) -> &'a [u64]
+    requires { IsHeldFor g.now.core v.now }
+{
+    let Some(m) = g.find(&[letter]) else {
+        return &[];
+    };
+    if v.expanded(m) {
+        return &[];
+    }
+    v.shown_rows(m)
 }
 
 #[test]
-fn views_are_as_their_parts_say(rt: HostRuntime) -> Result<(), Fail> {
+fn modules_are_seen_below_those_that_are_expanded(rt: HostRuntime) -> Result<(), Fail> {
     let g = grammar(rt.alloc())?;
-    let all: &[u64] = &[0b11, 0b11];
-    let given: &[u64] = &[0b01, 0b00];
-    let none: &[u64] = &[];
-    let open = (true, true, none);
-    let cases: [(
-        Option<&[u8]>,
-        &[(u8, &[(u8, u8)])],
-        [(bool, bool, &[u64]); 5],
-    ); 6] = [
-        (
-            None,
-            &[],
-            [open, open, open, (false, true, given), (false, true, all)],
-        ),
-        (
-            Some(b"S"),
-            &[],
-            [
-                open,
-                (false, true, all),
-                (false, true, all),
-                (false, false, given),
-                (false, false, all),
-            ],
-        ),
-        (
-            Some(b"AS"),
-            &[
-                (b'Q', &[(b'c', b'b'), (b'a', b'b')]),
-                (b'B', &[(b'a', b'd')]),
-                (b'P', &[]),
-            ],
-            [
-                open,
-                open,
-                (false, true, &[0b10, 0b00]),
-                (false, true, &[0b00, 0b00]),
-                (false, false, &[0b01, 0b01]),
-            ],
-        ),
-        (
-            Some(b"A"),
-            &[(b'S', &[])],
-            [
-                (false, true, &[0b00, 0b00]),
-                (true, false, none),
-                (false, false, all),
-                (false, false, given),
-                (false, false, all),
-            ],
-        ),
-        (
-            Some(b""),
-            &[],
-            [
-                (false, true, all),
-                (false, false, all),
-                (false, false, all),
-                (false, false, given),
-                (false, false, all),
-            ],
-        ),
-        (
-            None,
-            &[(b'P', &[(b'c', b'd'), (b'c', b'b'), (b'c', b'd')])],
-            [
-                open,
-                open,
-                open,
-                (false, true, &[0b00, 0b11]),
-                (false, true, all),
-            ],
-        ),
+    let cases = [
+        (None, "SABC", "SABQR"),
+        (Some("SA"), "SA", "SABQ"),
+        (Some("BS"), "SB", "SABR"),
+        (Some("S"), "S", "SAB"),
+        (Some("AB"), "AB", "S"),
+        (Some(""), "", "S"),
     ];
-    for (expand, pairs, expected) in cases {
-        let view = View::build(rt.alloc(), &g, &parts(rt.alloc(), expand, pairs)?)?;
-        for (letter, facts) in b"SABPQ".iter().zip(expected) {
-            assert_eq!(rt; told(&g, &view, *letter), Some(facts));
-        }
+    for (expand, expanded, seen) in cases {
+        let given = described(rt.alloc(), expand, "")?;
+        let v = View::build(rt.alloc(), &g, &given)?;
+        let letters = expanded_and_seen(rt.alloc(), &g, &v)?;
+        assert_eq!(rt; letters.0.as_slice(), expanded.as_bytes());
+        assert_eq!(rt; letters.1.as_slice(), seen.as_bytes());
     }
-    let view = View::build(rt.alloc(), &g, &parts(rt.alloc(), Some(b"BA"), &[])?)?;
-    assert_eq!(rt; view.marks(), [false, true, true, false, false].as_slice());
+    Ok(())
+}
+
+#[test]
+fn pairs_are_those_of_deps_parts(rt: HostRuntime) -> Result<(), Fail> {
+    let g = grammar(rt.alloc())?;
+    let cases = [
+        (None, "", [].as_slice(), [0b10, 0b10].as_slice()),
+        (Some(""), "", &[0b11, 0b11], &[0b10, 0b10]),
+        (Some(""), "C N", &[0, 0], &[0, 0]),
+        (Some("SB"), "Nbcad Cad", &[0b10, 0], &[0b10, 0b01]),
+        (None, "Nac", &[], &[0b01, 0]),
+    ];
+    for (expand, deps, of_c, of_n) in cases {
+        let given = described(rt.alloc(), expand, deps)?;
+        let v = View::build(rt.alloc(), &g, &given)?;
+        assert_eq!(rt; rows_of(&g, &v, b'C'), of_c);
+        assert_eq!(rt; rows_of(&g, &v, b'N'), of_n);
+    }
     Ok(())
 }
 
 #[test]
 fn the_first_fault_is_told(rt: HostRuntime) -> Result<(), Fail> {
     let g = grammar(rt.alloc())?;
-    let cases: [(Option<&[u8]>, &[(u8, &[(u8, u8)])], ViewFault); 16] = [
-        (
-            Some(b"SZ"),
-            &[],
-            ViewFault::UnknownModule {
-                at: ViewSpot::ExpandAt(1),
-            },
-        ),
-        (
-            Some(b"Z"),
-            &[(b'Z', &[])],
-            ViewFault::UnknownModule {
-                at: ViewSpot::ExpandAt(0),
-            },
-        ),
-        (
-            Some(b"S"),
-            &[(b'P', &[]), (b'Z', &[])],
-            ViewFault::UnknownModule {
-                at: ViewSpot::DepsAt(1),
-            },
-        ),
-        (
-            Some(b"P"),
-            &[(b'Z', &[])],
-            ViewFault::UnknownModule {
-                at: ViewSpot::DepsAt(0),
-            },
-        ),
-        (Some(b"SPQ"), &[], ViewFault::NotComposite { expand: 1 }),
-        (
-            Some(b"AP"),
-            &[(b'A', &[])],
-            ViewFault::NotComposite { expand: 1 },
-        ),
-        (
-            Some(b"A"),
-            &[(b'P', &[]), (b'A', &[])],
-            ViewFault::DepsOnExpanded { deps: 1 },
-        ),
-        (None, &[(b'B', &[])], ViewFault::DepsOnExpanded { deps: 0 }),
-        (
-            Some(b"A"),
-            &[(b'P', &[(b'b', b'a')]), (b'A', &[])],
-            ViewFault::DepsOnExpanded { deps: 1 },
-        ),
-        (
-            Some(b"S"),
-            &[
-                (b'P', &[(b'a', b'b')]),
-                (b'Q', &[(b'a', b'b'), (b'b', b'a')]),
-            ],
-            ViewFault::UnknownPort { deps: 1 },
-        ),
-        (
-            Some(b"S"),
-            &[(b'P', &[(b'a', b'c')])],
-            ViewFault::UnknownPort { deps: 0 },
-        ),
-        (
-            Some(b"SS"),
-            &[(b'P', &[(b'z', b'b')])],
-            ViewFault::UnknownPort { deps: 0 },
-        ),
-        (
-            Some(b"SAS"),
-            &[],
-            ViewFault::ModuleTwice {
-                at: ViewSpot::ExpandAt(2),
-            },
-        ),
-        (
-            Some(b"SAS"),
-            &[(b'P', &[]), (b'P', &[])],
-            ViewFault::ModuleTwice {
-                at: ViewSpot::ExpandAt(2),
-            },
-        ),
-        (
-            Some(b"S"),
-            &[(b'P', &[]), (b'Q', &[]), (b'P', &[(b'a', b'b')])],
-            ViewFault::ModuleTwice {
-                at: ViewSpot::DepsAt(2),
-            },
-        ),
-        (
-            Some(b"S"),
-            &[(b'P', &[]), (b'P', &[(b'a', b'a')])],
-            ViewFault::UnknownPort { deps: 1 },
-        ),
+    let name = ViewSpot::ExpandAt(1);
+    let part = ViewSpot::DepsAt(1);
+    let third_name = ViewSpot::ExpandAt(2);
+    let third_part = ViewSpot::DepsAt(2);
+    let cases = [
+        ("SZY", "", ViewFault::UnknownModule { at: name }),
+        ("SZ", "N Y", ViewFault::UnknownModule { at: name }),
+        ("S", "N Y Z", ViewFault::UnknownModule { at: part }),
+        ("NS", "N Y", ViewFault::UnknownModule { at: part }),
+        ("SQN", "", ViewFault::NotComposite { expand: 1 }),
+        ("SQ", "S", ViewFault::NotComposite { expand: 1 }),
+        ("A", "Nad A", ViewFault::DepsOnExpanded { deps: 1 }),
+        ("S", "Nadda S", ViewFault::DepsOnExpanded { deps: 1 }),
+        ("S", "Cad Nadda", ViewFault::UnknownPort { deps: 1 }),
+        ("SS", "Cad Nadda", ViewFault::UnknownPort { deps: 1 }),
+        ("SAS", "", ViewFault::ModuleTwice { at: third_name }),
+        ("SAA", "N N", ViewFault::ModuleTwice { at: third_name }),
+        ("SA", "Nad B Nad", ViewFault::ModuleTwice { at: third_part }),
     ];
-    for (expand, pairs, expected) in cases {
-        let Err(fault) = View::build(rt.alloc(), &g, &parts(rt.alloc(), expand, pairs)?) else {
-            return Err(Fail::new("a fault"));
-        };
-        assert_eq!(rt; fault, expected);
+    for (expand, deps, fault) in cases {
+        let given = described(rt.alloc(), Some(expand), deps)?;
+        assert_eq!(rt; View::build(rt.alloc(), &g, &given).err(), Some(fault));
     }
     Ok(())
 }

@@ -3,7 +3,7 @@ use Rattle.wf_spec.specs.Forming.{names_of}
 use Rattle.wf_view.proofs.Looked.{none_there, one_there}
 use Rattle.wf_view.proofs.Marking.{set_is}
 use Rattle.wf_view.proofs.Naming.{named_is, named_not}
-use Rattle.wf_view.proofs.Tests.{or_false}
+use Rattle.wf_view.proofs.Passing.{or_false}
 use Rattle.wf_view.proofs.marks.mark.Goals as goal
 
 pub returns-in-Some : goal.returns-in-Some
