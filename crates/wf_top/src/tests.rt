@@ -9,7 +9,7 @@ use wf_io::{MemFile, MemShelf, MemSink, PlainFile, PlainShelf, PlainSink};
 use wf_model::{Name, Seq};
 
 /// A module S that is done by a P and a Q behind it.
-const LINE: &str =
+pub(crate) const LINE: &str =
     r#"{"start":"S","modules":[{"name":"S","in":["a"],"out":["b"]},{"name":"P","in":["x"],"out":["y"]},{"name":"Q","in":["x"],"out":["y"]}],"productions":[{"head":"S","body":[["u","P"],["v","Q"]],"edges":[["u.y","v.x"]],"in":[["a","u.x"]],"out":[["v.y","b"]]}]}"#;
 
 /// The same with blanks, with members that are ignored or empty, and with pairs.
@@ -133,7 +133,7 @@ pub(crate) fn words<'a>(alloc: Global, line: &'a str) -> Result<Vec<&'a str>, Al
 }
 
 /// Each line: the words, the status, the text on out and the line on err.
-const ROWS: [(&str, Status, &str, &str); 37] = [
+const ROWS: [(&str, Status, &str, &str); 38] = [
     ("trace spec view events queries", Done, ANSWERS, ""),
     ("trace spec view events empty", Done, "", ""),
     ("trace spec view events two-ends", Done, "yes\nno\n", ""),
@@ -182,9 +182,15 @@ const ROWS: [(&str, Status, &str, &str); 37] = [
     ),
     (
         "trace spec view-of-none events queries",
-        Refused,
+        Done,
+        "hidden\nhidden\nno\nhidden\nunknown\n",
         "",
-        "refused: view: NotBuilt\n",
+    ),
+    (
+        "trace spec view-of-none start-alone whole",
+        Done,
+        "yes\n",
+        "",
     ),
     (
         "trace spec view queries queries",

@@ -44,11 +44,7 @@ fn events_stage<H: Shelf>(
 }
 
 /// A run with its links, as queries need it. Fails only for want of memory.
-fn prepare<'p>(
-    alloc: Global,
-    v: &'p Viewed,
-    run: &'p PlainRun,
-) -> Result<Prepared<'p>, Ending>
+fn prepare<'p>(alloc: Global, v: &'p Viewed, run: &'p PlainRun) -> Result<Prepared<'p>, Ending>
     requires viewed { IsViewedBy v.now.grammar.core v.now.view v.now.full }
     requires run { IsRunOf v.now.grammar.core run.now }
     requires finished { IsFinished v.now.grammar.core v.now.view.core v.now.grammar.core.start (events_of run.now) }
