@@ -28,7 +28,7 @@ use Rattle.wf_top.specs.Answers.{item_named, is_made_open, are_visible, IsVerdic
 use Rattle.wf_top.specs.Prepared.{IsPrepared, IsVerdictLine, IsAnswerLine}
 
 -- the first item of a name, where there is one item of this name
-pub named_found : (ts : List Item) (n : List ℕ) (t : Item) → ((s : Item) → IsIn s ts → s.name ≡ n → s ≡ t) → IsIn t ts → t.name ≡ n → item_named ts n ≡ Some t
+named_found : (ts : List Item) (n : List ℕ) (t : Item) → ((s : Item) → IsIn s ts → s.name ≡ n → s ≡ t) → IsIn t ts → t.name ≡ n → item_named ts n ≡ Some t
 named_found [] n t one h e = absurd h
 named_found (x ∷ ts) n t one h e = go (named_found ts n t (λ s i. one s (inr i))) (bytes_eq x.name n) refl h
   where
@@ -38,7 +38,7 @@ named_found (x ∷ ts) n t one h e = go (named_found ts n t (λ s i. one s (inr 
     go ih false q (inr i) = ih i e
 
 -- and none, where no item has it
-pub named_none : (ts : List Item) (n : List ℕ) → ((t : Item) → IsIn t ts → t.name ≡ n → ⊥) → item_named ts n ≡ None
+named_none : (ts : List Item) (n : List ℕ) → ((t : Item) → IsIn t ts → t.name ≡ n → ⊥) → item_named ts n ≡ None
 named_none [] n lacks = refl
 named_none (x ∷ ts) n lacks = go (named_none ts n (λ t i. lacks t (inr i))) (bytes_eq x.name n) refl
   where
@@ -80,11 +80,11 @@ module _ (g : Grammar) (u : View) (wf : IsWellFormed g) (e : List Event) (run : 
         (subst (λ o. IsAnswerFor g u e (e ++ more) (Some s) o line) (sym (found_named second t i w)) (v more f))
 
     -- one of the two items is not visible
-    pub both_hidden : are_visible g u e s t ≡ false → IsAnswer g u e first second (codes "hidden")
+    both_hidden : are_visible g u e s t ≡ false → IsAnswer g u e first second (codes "hidden")
     both_hidden shut = both_known (codes "hidden") (λ more f. subst (λ b. IsShown b g u (e ++ more) s t (codes "hidden")) (sym shut) refl)
 
     -- both are visible, and the run is finished: each finishing of it has its links
-    pub both_visible : IsFinished g u g.start e → are_visible g u e s t ≡ true → (line : List ℕ) → IsVerdict g u e s t line → IsAnswer g u e first second line
+    both_visible : IsFinished g u g.start e → are_visible g u e s t ≡ true → (line : List ℕ) → IsVerdict g u e s t line → IsAnswer g u e first second line
     both_visible finished shown line v = both_known line (λ more f. subst (λ b. IsShown b g u (e ++ more) s t line) (sym shown) (stands more f v))
       where
         stands : (more : List Event) → IsFinishing g u g.start e more → IsVerdict g u e s t line → IsVerdict g u (e ++ more) s t line

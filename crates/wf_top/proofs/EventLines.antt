@@ -34,10 +34,6 @@ pub event_refused : (g : Grammar) (t : Table) (number : ℕ) (text : List ℕ) (
 event_refused g t number text e f most told other fault =
     ⊎_elim (λ m. absurd (other m)) (λ q. inr (refl, (e, told, (f, subst (λ m. fault_of g m (events_of t) e ≡ Some f) most q, refl)))) fault
 
--- an event that was taken
-pub event_taken : (g : Grammar) (t u : Table) (text : List ℕ) (e : Event) → t.most ≡ instance_most → IsEventText text e → fault_of g t.most (events_of t) e ≡ None → events_of u ≡ events_of t ++ e ∷ [] → (d : Event) × IsEventText text d × (fault_of g instance_most (events_of t) d ≡ None) × (events_of u ≡ events_of t ++ d ∷ [])
-event_taken g t u text e most told none is = (e, told, subst (λ m. fault_of g m (events_of t) e ≡ None) most none, is)
-
 -- the run of the lines before those that are left
 pub record IsTaken (g : Grammar) (all left : List Line) (t : Table) : Type 0 where
   pub run : IsRunOf g t
