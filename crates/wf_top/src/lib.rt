@@ -33,3 +33,5 @@ mod event_tests;
 mod spec_tests;
 #[cfg(test)]
 mod tests;
+#[cfg(test)]
+mod view_tests;

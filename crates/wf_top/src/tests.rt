@@ -9,7 +9,7 @@ use wf_io::{MemFile, MemShelf, MemSink, PlainFile, PlainShelf, PlainSink};
 use wf_model::{Name, Seq};
 
 /// A module S that is done by a P and a Q behind it.
-const LINE: &str =
+pub(crate) const LINE: &str =
     r#"{"start":"S","modules":[{"name":"S","in":["a"],"out":["b"]},{"name":"P","in":["x"],"out":["y"]},{"name":"Q","in":["x"],"out":["y"]}],"productions":[{"head":"S","body":[["u","P"],["v","Q"]],"edges":[["u.y","v.x"]],"in":[["a","u.x"]],"out":[["v.y","b"]]}]}"#;
 
 /// The same with blanks, with members that are ignored or empty, and with pairs.
