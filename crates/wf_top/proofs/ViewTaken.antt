@@ -1,14 +1,13 @@
 -- How VIEW ends the program, or is taken on.
-use Rattle.std.proofs.Common.{◌≡◌, List, ℕ, Option, subst}
+use Rattle.std.proofs.Common.{◌≡◌, List, ℕ, Option}
 use Rattle.wf_model.specs.Grammar.{Grammar}
 use Rattle.wf_model.specs.View.{View as ViewOf}
-use Rattle.wf_spec.specs.Held.{HeldGrammar}
 use Rattle.wf_io.specs.Told.{File}
 use Rattle.wf_top.specs.declared.ending.Place.TheVariants.{View}
 use Rattle.wf_top.specs.Endings.{End}
 use Rattle.wf_top.specs.ViewTold.{TellsView, RefusesView}
 use Rattle.wf_top.specs.Telling.{OfWhole}
-use Rattle.wf_top.specs.Outcome.{ViewStage, IsViewWritten, short_most}
+use Rattle.wf_top.specs.Outcome.{ViewStage, short_most}
 use Rattle.wf_top.specs.Meets.{EndsBy}
 use Rattle.wf_top.specs.Stages.{IsTold, StopsAt}
 use Rattle.wf_top.proofs.Stages.{stop_ends, on_ends}
@@ -24,7 +23,3 @@ module _ (g : Grammar) (view : File) (Next : ViewOf → End → List ℕ → Typ
   pub view_goes : (u : ViewOf) → IsTold short_most view (TellsView g) u → EndsBy (Next u) d old new → EndsBy (ViewStage g view Next) d old new
   view_goes u told ends =
       on_ends short_most View view (TellsView g) (OfWhole (RefusesView g)) Next old new u told (λ v t. one_view g view.bytes u v told.tells t) (λ line fault r. no_refusal_of_view g view.bytes fault u told.tells r.1) d ends
-
--- the same text by the same grammar
-pub for_grammar : (g h : HeldGrammar) (u : ViewOf) (d : End) (old new : Option (List ℕ)) → g ≡ h → EndsBy (IsViewWritten g.core u) d old new → EndsBy (IsViewWritten h.core u) d old new
-for_grammar g h u d old new e = subst (λ (k : HeldGrammar). EndsBy (IsViewWritten k.core u) d old new) e

@@ -1,8 +1,9 @@
 use Rattle.std.proofs.Common.{◌∙◌, refl}
 use Rattle.std.proofs.lemmas.Result.{err_from_is_err_and}
+use Rattle.wf_top.specs.Outcome.{IsViewWritten}
 use Rattle.wf_top.proofs.Stages.{passed_on}
-use Rattle.wf_top.proofs.Tracing.{spec_ends, spec_goes}
-use Rattle.wf_top.proofs.ViewTaken.{view_ends, view_goes, for_grammar}
+use Rattle.wf_top.proofs.Tracing.{spec_ends, spec_goes, with_grammar}
+use Rattle.wf_top.proofs.ViewTaken.{view_ends, view_goes}
 use Rattle.wf_top.proofs.show.show.Goals as goal
 
 pub returns-in_err-spec-clause-ends : goal.returns-in_err-spec-clause-ends
@@ -22,4 +23,4 @@ pub returns-clause-ends : goal.returns-clause-ends
 returns-clause-ends g c = λ f told.
     spec_goes _ _ _ _ _ c.in_ok-spec.spec.grammar.core (c.in_ok-spec.ensures.ok f told)
     (view_goes _ _ _ _ _ _ c.in_ok-viewed.viewed.view.core (c.in_ok-viewed.ensures.ok f (c.in_ok-spec.ensures.same ∙ told))
-    (for_grammar _ _ _ _ _ _ c.in_ok-viewed.ensures.grammar c.put_lines.ensures.ends))
+    (with_grammar (λ x. IsViewWritten x c.in_ok-viewed.viewed.view.core) _ _ _ _ _ c.in_ok-viewed.ensures.grammar c.put_lines.ensures.ends))
