@@ -13,7 +13,7 @@ use Rattle.wf_safe.specs.declared.witness.Witness.{Witness}
 use Rattle.wf_safe.specs.Choosing.{HasNumbers}
 use Rattle.wf_safe.specs.Settling.{is_set, AreSet, AreAllRowsByChoice, AreApart}
 use Rattle.wf_safe.specs.Witness.{chosen_in, IsChoiceOf, IsOtherRun, IsWitness}
-use Rattle.wf_safe.proofs.ChoiceTold.{seen_below}
+use Rattle.wf_safe.proofs.SeenBelow.{seen_below}
 use Rattle.wf_safe.proofs.Disagreeing.{disagree_same, head_seen, head_expanded, one_joins, other_joins}
 
 module _ (g : Grammar) (u : View) (choice : List (ℕ × ℕ)) (wf : IsWellFormed g) (rows : List (Option (List ℕ))) (all : AreAllRowsByChoice g u choice rows) where

@@ -1,21 +1,17 @@
 -- What is tested of a choice tells that it is one.
-use Rattle.std.proofs.Common.{◌≡◌, ◌↔◌, ℕ, ◌<◌, Bool, false, IsTrue, List, length, get_or, sym, ◌∙◌, subst, arith, true≢false}
+use Rattle.std.proofs.Common.{◌≡◌, ◌↔◌, ℕ, Bool, false, IsTrue, List, length, get_or, sym, ◌∙◌, subst, arith, true≢false}
 use Rattle.std.proofs.lemmas.Bool.{and_parts, and_from}
 use Rattle.wf_model.specs.Lists.{IsIn, numbers_from}
 use Rattle.wf_model.specs.Grammar.{Grammar}
 use Rattle.wf_model.specs.WellFormed.{IsWellFormed}
-use Rattle.wf_model.specs.View.{View, expands, IsSeenModule, at_start, in_body}
+use Rattle.wf_model.specs.View.{expands, IsSeenModule}
 use Rattle.wf_model.proofs.Lists.{in_map, in_map_from, in_filter, in_filter_from}
 use Rattle.wf_model.proofs.Level.{in_numbers, numbers_in}
 use Rattle.wf_view.specs.Held.{HeldView, IsHeldFor}
 use Rattle.wf_safe.specs.Choosing.{is_seen_expanded, needing_below, AreProductions}
 use Rattle.wf_safe.specs.Witness.{modules_in, IsChoiceOf}
 use Rattle.wf_safe.proofs.Rising.{IsRising, same_rising, numbers_rise}
-
--- a seen module is there
-pub seen_below : (g : Grammar) (u : View) (m : ℕ) → IsWellFormed g → IsSeenModule g u m → m < length g.modules
-seen_below g u m wf (at_start e) = subst (λ z. z < length g.modules) (sym e) wf.start
-seen_below g u m wf (in_body p h s ex i) = (wf.bodies p h).modules m i
+use Rattle.wf_safe.proofs.SeenBelow.{seen_below}
 
 module _ (g : Grammar) (v : HeldView) (wf : IsWellFormed g) (held : IsHeldFor g v) where
   needing_gives : (m : ℕ) → IsIn m (needing_below v (length g.modules)) → IsSeenModule g v.core m × IsTrue (expands v.core m)

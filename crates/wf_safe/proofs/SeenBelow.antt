@@ -4,7 +4,8 @@ use Rattle.wf_model.specs.Grammar.{Grammar, head_of}
 use Rattle.wf_model.specs.WellFormed.{IsWellFormed}
 use Rattle.wf_model.specs.View.{View, expands, IsSeenModule, at_start, in_body}
 use Rattle.wf_view.specs.Held.{HeldView, IsHeldFor}
-use Rattle.wf_safe.specs.Inducing.{IsSeenExpanded, is_seen_expanded}
+use Rattle.wf_safe.specs.Choosing.{is_seen_expanded}
+use Rattle.wf_safe.specs.Inducing.{IsSeenExpanded}
 
 pub seen_below : (g : Grammar) (u : View) (m : ℕ) → IsWellFormed g → IsSeenModule g u m → m < length g.modules
 seen_below g u m wf (at_start e) = subst (λ k. k < length g.modules) (sym e) wf.start

@@ -1,12 +1,11 @@
 -- Rows of the seen modules, found one module after another in order of rank.
-use Rattle.std.specs.Prelude.{◌≡◌, ◌↔◌, ◌<◌, ℕ, Bool, false, ◌&&◌, IsTrue, List, length, get_or, set, Option, Some}
+use Rattle.std.specs.Prelude.{◌≡◌, ◌↔◌, ◌<◌, ℕ, false, IsTrue, List, length, get_or, set, Option, Some}
 use Rattle.wf_model.specs.Grammar.{Grammar, inputs_of, outputs_of, head_of}
 use Rattle.wf_model.specs.View.{View, expands, shows, IsSeenModule}
 use Rattle.wf_model.specs.Meaning.{pairs_of}
 use Rattle.wf_model.specs.Safe.{BodyJoins}
 use Rattle.wf_body.specs.Matrices.{HasRows, IsMatrixOf}
 use Rattle.wf_check.specs.Proper.{Ranking}
-use Rattle.wf_view.specs.Held.{HeldView}
 use Rattle.wf_safe.specs.Full.{AreFit}
 use Rattle.wf_safe.specs.Witness.{ComesBefore}
 
@@ -21,10 +20,6 @@ choice_of r m = get_or r.choices m 0
 -- a module is seen, and the view expands it
 abbrev pub IsSeenExpanded : Grammar → View → ℕ → Type 0
 IsSeenExpanded g u m = IsSeenModule g u m × IsTrue (expands u m)
-
--- so it is by the flags of a view
-abbrev pub is_seen_expanded : HeldView → ℕ → Bool
-is_seen_expanded v m = get_or v.seen m false && expands v.core m
 
 -- a module has rows of exactly these pairs
 pub record HasPairs (g : Grammar) (rows : List (Option (List ℕ))) (m : ℕ) (R : ℕ → ℕ → Type 0) : Type 0 where

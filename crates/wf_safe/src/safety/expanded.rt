@@ -1,6 +1,6 @@
 // Modules that are seen and expanded.
 ghost use Rattle.std.specs.Prelude.{◌≡◌, ◌<◌, length};
-ghost use Rattle.wf_safe.specs.Inducing.{is_seen_expanded};
+ghost use Rattle.wf_safe.specs.Choosing.{is_seen_expanded};
 
 use wf_spec::ModNo;
 use wf_view::View;
