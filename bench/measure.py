@@ -20,19 +20,32 @@ def built(path):
 
 
 def run(words, folder, wanted=0):
-    """Runs a command, which must end with a status. Gives the seconds, the peak of memory in bytes, and both texts."""
-    with tempfile.TemporaryFile() as out, tempfile.TemporaryFile() as err:
-        begun = time.perf_counter()
-        child = subprocess.Popen(words, cwd=folder, stdout=out, stderr=err)
-        _, status, usage = os.wait4(child.pid, 0)
-        seconds = time.perf_counter() - begun
-        child.returncode = os.waitstatus_to_exitcode(status)
+    """Runs a command, which must end with a status. Gives the seconds, the peak of memory in bytes, and both texts.
+
+    The command is started by a small process of its own: the system counts to the peak of a process what the one that
+    started it held, and a script that made large files holds much.
+    """
+    with tempfile.TemporaryFile() as out, tempfile.TemporaryFile() as err, tempfile.TemporaryFile() as told:
+        starter = [sys.executable, str(Path(__file__).resolve()), str(told.fileno()), *words]
+        subprocess.run(starter, cwd=folder, stdout=out, stderr=err, pass_fds=[told.fileno()], check=True)
         out.seek(0)
         err.seek(0)
+        told.seek(0)
+        seconds, peak, status = json.load(told)
         message = err.read().decode()
-        if child.returncode != wanted:
-            sys.exit(f"{' '.join(words)} ended with {child.returncode}, and not with {wanted}: {message}")
-        return seconds, usage.ru_maxrss * 1024, out.read().decode(), message
+        if status != wanted:
+            sys.exit(f"{' '.join(words)} ended with {status}, and not with {wanted}: {message}")
+        return seconds, peak, out.read().decode(), message
+
+
+def start(told, words):
+    """Runs a command, and writes its seconds, its peak of memory in bytes and its status to an open file."""
+    begun = time.perf_counter()
+    child = subprocess.Popen(words)
+    _, status, usage = os.wait4(child.pid, 0)
+    seconds = time.perf_counter() - begun
+    child.returncode = os.waitstatus_to_exitcode(status)
+    os.write(told, json.dumps([seconds, usage.ru_maxrss * 1024, child.returncode]).encode())
 
 
 def clock(work):
@@ -60,3 +73,7 @@ def others(path, reader):
         "sha256sum": clock(lambda: subprocess.run(["sha256sum", path], stdout=subprocess.DEVNULL, check=True)),
         "Python's JSON reader": clock(lambda: reader(path)),
     }
+
+
+if __name__ == "__main__":
+    start(int(sys.argv[1]), sys.argv[2:])
