@@ -16,4 +16,6 @@ pub use safety::full_deps;
 pub use witness::{Choice, Witness};
 
 #[cfg(test)]
+mod check_tests;
+#[cfg(test)]
 mod tests;

@@ -14,10 +14,10 @@ use wf_spec::{
 use wf_view::View;
 
 /// A position and its module, each by its letter.
-type Place = (u8, u8);
+pub(crate) type Place = (u8, u8);
 
 /// Pairs of the ports x and y, by their digits.
-type Pairs<'a> = &'a [(u8, u8)];
+pub(crate) type Pairs<'a> = &'a [(u8, u8)];
 
 fn name(alloc: Global, text: &[u8]) -> Result<Name, AllocError> {
     Ok(Name::from_vec(Vec::from_slice(alloc, text)?))
@@ -121,7 +121,7 @@ fn deps(alloc: Global, given: &[(u8, Pairs)]) -> Result<Seq<DepsPart>, AllocErro
 }
 
 /// The grammar of productions, each a head and a chain, in which S is the start module.
-fn grammar(
+pub(crate) fn grammar(
     alloc: Global,
     productions: &[(u8, &[Place])],
     given: &[(u8, Pairs)],
@@ -144,7 +144,12 @@ fn grammar(
 }
 
 /// The view that expands the modules of these letters, and gives pairs to others.
-fn view(alloc: Global, g: &Grammar, expand: &[u8], given: &[(u8, Pairs)]) -> Result<View, Fail>
+pub(crate) fn view(
+    alloc: Global,
+    g: &Grammar,
+    expand: &[u8],
+    given: &[(u8, Pairs)],
+) -> Result<View, Fail>
     ensures { IfOk result (λ v. IsHeldFor g.now.core v) }
 {
     let mut list = Vec::new(alloc);
@@ -196,7 +201,7 @@ fn has_rows(alloc: Global, g: &Grammar, view: &View, wanted: &[&[u64]]) -> bool
 }
 
 /// The witness that a view is not safe.
-fn witness(alloc: Global, g: &Grammar, view: &View) -> Result<Witness, Fail>
+pub(crate) fn witness(alloc: Global, g: &Grammar, view: &View) -> Result<Witness, Fail>
     requires { IsHeldFor g.now.core view.now }
 {
     match full(alloc, g, view) {
@@ -233,7 +238,7 @@ const CROSSED: &[u64] = &[0b10, 0b01];
 const ALL: &[u64] = &[0b11, 0b11];
 
 /// L to a W, an L and a W, or to a T; or, where it is short, to a W and an L, or to a T.
-fn twisting(alloc: Global, is_short: bool) -> Result<Grammar, Fail> {
+pub(crate) fn twisting(alloc: Global, is_short: bool) -> Result<Grammar, Fail> {
     let long: &[Place] = &[(b'w', b'W'), (b'l', b'L'), (b'v', b'W')];
     let short: &[Place] = &[(b'w', b'W'), (b'l', b'L')];
     grammar(
