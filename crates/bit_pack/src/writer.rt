@@ -1,7 +1,8 @@
 // A writer of bits and gamma codes.
-ghost use Rattle.std.specs.Prelude.{◌≡◌, ◌+◌, ◌^◌, ◌<◌, ◌≤◌, false, [], ◌∷◌, ◌++◌, length, replicate, OnOk, OnErr};
+ghost use Rattle.std.specs.Prelude.{◌≡◌, ◌+◌, ◌^◌, ◌<◌, ◌≤◌, false, [], ◌∷◌, ◌++◌, length, replicate, IfOk, OnOk, OnErr};
 ghost use Rattle.bit_pack.specs.Bits.{low_bits};
 ghost use Rattle.bit_pack.specs.Gamma.{gamma};
+ghost use Rattle.bit_pack.specs.Written.{first_bits, IsFilled};
 
 use crate::bits::Bits;
 use crate::put::append;
@@ -37,6 +38,19 @@ impl BitWriter {
             bytes: Vec::new(alloc),
             end: 0,
         }
+    }
+
+    /// A writer that goes on behind the bits that bytes hold, so many of them. The bytes are copied.
+    ///
+    /// The only error is that memory is refused.
+    pub fn resume(alloc: Global, bytes: &[u8], length: u32) -> Result<BitWriter, AllocError>
+        requires { IsFilled bytes.now length }
+        ensures { IfOk result (λ w. w ≡ first_bits bytes.now length) }
+    {
+        Ok(BitWriter {
+            bytes: Vec::from_slice(alloc, bytes)?,
+            end: length,
+        })
     }
 
     /// Writes one bit. The only error is that memory is refused.

@@ -1,0 +1,86 @@
+// Names of instances: their form, and whether they are taken.
+ghost use Rattle.std.specs.Prelude.{◌≡◌, ℕ, List};
+ghost use Rattle.std.specs.List.{list_all};
+ghost use Rattle.wf_model.specs.Faults.{is_name_byte, is_short_name, is_one_of, some_twice};
+
+use wf_model::Name;
+use wf_names::Names;
+
+/// A table in which names are found by hashing.
+pub trait Taken {
+    /// The names, in order.
+    ghost names: { Self → List (List ℕ) };
+
+    /// Whether the table has a name.
+    fn holds(&self, name: &[u8]) -> bool
+        ensures { result ≡ is_one_of (names self.now) name.now };
+}
+
+impl Taken for Names {
+    ghost names = { λ t. t };
+
+    fn holds(&self, name: &[u8]) -> bool {
+        Names::holds(self, name)
+    }
+}
+
+/// Whether a name is one of 1 to 64 letters, digits, `_` or `-`.
+pub fn is_short(name: &[u8]) -> bool
+    ensures { result ≡ is_short_name name.now }
+{
+    if name.is_empty() {
+        return false;
+    }
+    if name.len() > 64 {
+        return false;
+    }
+    are_of_names(name)
+}
+
+fn are_of_names(bytes: &[u8]) -> bool
+    ensures { result ≡ list_all is_name_byte bytes.now }
+{
+    bytes.iter().all(|b| is_of_name(*b))
+}
+
+fn is_of_name(b: u8) -> bool
+    ensures { result ≡ is_name_byte b }
+{
+    (97 <= b && b <= 122) || (65 <= b && b <= 90) || (48 <= b && b <= 57) || b == 95 || b == 45
+}
+
+/// Whether all names have this form.
+pub(crate) fn are_short(names: &[Name]) -> bool
+    ensures { result ≡ list_all is_short_name names.now }
+{
+    for name in names {
+        if !is_short(name.bytes()) {
+            return false;
+        }
+    }
+    true
+}
+
+fn is_among(names: &[Name], name: &[u8]) -> bool
+    ensures { result ≡ is_one_of names.now name.now }
+{
+    for one in names {
+        if name == one.bytes() {
+            return true;
+        }
+    }
+    false
+}
+
+/// Whether a name of the list is taken, or stands twice in it.
+pub(crate) fn repeats<T: Taken>(taken: &T, names: &[Name]) -> bool
+    ensures { result ≡ some_twice (T.names taken.now) names.now }
+{
+    for k in 0..names.len() {
+        let name = names[k].bytes();
+        if taken.holds(name) || is_among(&names[..k], name) {
+            return true;
+        }
+    }
+    false
+}

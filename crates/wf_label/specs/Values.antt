@@ -1,0 +1,32 @@
+-- Labels as the definitions see them.
+use Rattle.std.specs.Prelude.{◌≡◌, ℕ, ◌≤◌, Bool, List, map, length}
+use Rattle.wf_model.specs.Grammar.{Grammar}
+use Rattle.label_model.specs.Labels.{PlaceStep, Place, Label, Input, Output, OfEdge, label_bits, IsLabel}
+use Rattle.wf_label.specs.declared.label.PlaceStep.{PlaceStep as PlaceStepHeld}
+use Rattle.wf_label.specs.declared.label.Place.{Place as PlaceHeld}
+use Rattle.wf_label.specs.declared.label.Label.{Label as LabelHeld}
+use Rattle.wf_label.specs.declared.label.Label.TheVariants.{Input as InputHeld, Output as OutputHeld, OfEdge as OfEdgeHeld}
+
+-- a step
+abbrev pub step_of : PlaceStepHeld → PlaceStep
+step_of s = record { chain = s.chain; alternative = s.alternative; position = s.position.0 }
+
+-- a place
+abbrev pub place_of : PlaceHeld → Place
+place_of p = record { steps = map step_of p.steps; chain = p.chain; alternative = p.alternative; edge = p.edge.0 }
+
+-- a label
+abbrev pub label_of : LabelHeld → Label
+label_of (InputHeld p) = Input p.0
+label_of (OutputHeld p) = Output p.0
+label_of (OfEdgeHeld p) = OfEdge (place_of p)
+
+-- a label of at most so many steps
+abbrev pub HasSteps : ℕ → LabelHeld → Type 0
+HasSteps most (InputHeld p) = Unit {0}
+HasSteps most (OutputHeld p) = Unit {0}
+HasSteps most (OfEdgeHeld p) = length p.steps ≤ most
+
+-- the bits of a label of the grammar
+abbrev pub AreLabelBits : Grammar → List Bool → Type 0
+AreLabelBits g bits = (l : Label) × IsLabel g l × (bits ≡ label_bits l)

@@ -1,0 +1,14 @@
+//! Labels of data items: written as bits, and read from bytes.
+//!
+//! A label tells where in the derivation of a run an item was made: at an input or an output of the root, or at an edge of a production of an instance, which is told by the steps that lead to it.
+//! Steps along a cycle of the grammar are told as one number, however many there are.
+//! The idea is that of Bao, Davidson and Milo, "Labeling Workflow Views with Fine-Grained Dependencies", VLDB 2012; the bits are this project's.
+#![tactic(auto)]
+
+mod label;
+mod reference;
+mod write;
+
+pub use label::{Label, Place, PlaceStep};
+pub use reference::LabelRef;
+pub use write::{write_ending, write_label, write_step};

@@ -1,0 +1,49 @@
+// Labels that lie in bytes.
+ghost use Rattle.std.specs.Prelude.{◌≡◌, length};
+ghost use Rattle.bit_pack.specs.Bits.{packed, Holds};
+ghost use Rattle.bit_pack.specs.Written.{first_bits, IsWhole};
+
+use std::marker::Model;
+
+/// A label in bytes that were checked. A caller sees it as its bits.
+#[derive(Drop)]
+pub struct LabelRef<'a> {
+    bytes: &'a [u8],
+    end: u32,
+}
+
+impl<'a> Model for LabelRef<'a> {
+    ghost use Rattle.std.specs.Prelude.{Bool, List};
+    ghost use Rattle.bit_pack.specs.Written.{first_bits, IsWhole};
+
+    ghost Value = { List Bool };
+
+    ghost view = { λ r. first_bits r.bytes.now r.end };
+
+    ghost invariant = { λ r. IsWhole r.bytes.now r.end };
+}
+
+impl<'a> LabelRef<'a> {
+    /// The first bits of bytes, which only fewer than eight zero bits follow.
+    pub(crate) fn new(bytes: &'a [u8], end: u32) -> LabelRef<'a>
+        requires { IsWhole bytes.now end }
+        ensures { result ≡ first_bits bytes.now end }
+    {
+        LabelRef { bytes, end }
+    }
+
+    /// The bytes, with fewer than eight zero bits at the end. Takes no memory.
+    pub fn bytes(&self) -> &'a [u8]
+        ensures holds { Holds result.now self.now }
+        ensures packed { result.now ≡ packed self.now }
+    {
+        self.bytes
+    }
+
+    /// How many bits there are, without those that fill the last byte.
+    pub fn length(&self) -> u32
+        ensures { result ≡ length self.now }
+    {
+        self.end
+    }
+}

@@ -1,0 +1,38 @@
+-- The fields of a run, and what they keep.
+use Rattle.std.specs.Prelude.{ℕ, ◌<◌, ◌≤◌, ◌^◌, List, map, option_map}
+use Rattle.wf_model.specs.Lists.{IsIn}
+use Rattle.wf_model.specs.declared.event.Event.{Event}
+use Rattle.wf_model.specs.Linear.{IsLinear}
+use Rattle.bit_pack.specs.Written.{first_bits, IsWhole}
+use Rattle.wf_spec.specs.Held.{HeldGrammar}
+use Rattle.wf_recur.specs.Cycles.{CyclesSeen, AreCyclesOf}
+use Rattle.wf_run.specs.declared.node.Node.{Node as NodeHeld}
+use Rattle.wf_run.specs.declared.node.NodeNo.{NodeNo}
+use Rattle.wf_run.specs.Runs.{Node, RunSeen, IsRunOf}
+
+-- an instance, as contracts see it
+abbrev pub node_of : NodeHeld → Node
+node_of n = record {
+  module_no = n.«module».0;
+  children = option_map (λ ks. map (λ (k : NodeNo). k.0) ks.now) n.children;
+  bits = first_bits n.bytes.now n.length;
+  chain = n.chain;
+}
+
+-- a run, as contracts see it
+abbrev pub run_of : HeldGrammar → ℕ → List (List ℕ) → List NodeHeld → ℕ → RunSeen
+run_of g most names nodes expands = record { grammar = g; most = most; names = names; nodes = map node_of nodes; expands = expands }
+
+-- a prefix has fewer than 2^17 bits, which fill its bytes
+pub record IsFilledPrefix (n : NodeHeld) : Type 0 where
+  pub whole : IsWhole n.bytes.now n.length
+  pub few : n.length < 2 ^ 17
+
+-- what the fields of a run keep: the grammar is strictly linear, the bytes of each prefix are filled, and the run is that of some events
+pub record IsKept (r : RunSeen) (c : CyclesSeen) (nodes : List NodeHeld) : Type 0 where
+  pub linear : IsLinear r.grammar.core
+  pub cycles : AreCyclesOf r.grammar.core c
+  pub most : r.most ≤ 2 ^ 24
+  pub filled : (n : NodeHeld) → IsIn n nodes → IsFilledPrefix n
+  pub events : List Event
+  pub run : IsRunOf r events
