@@ -20,7 +20,13 @@ def built(path):
 
 
 def run(words, folder, wanted=0):
-    """Runs a command, which must end with a status. Gives the seconds, the peak of memory in bytes, and both texts.
+    """Runs a command, which must end with a status. Gives the seconds, the peak of memory in bytes, and both texts."""
+    seconds, peak, out, message = run_for_bytes(words, folder, wanted)
+    return seconds, peak, out.decode(), message
+
+
+def run_for_bytes(words, folder, wanted=0):
+    """The same, where what the command writes is no text.
 
     The command is started by a small process of its own: the system counts to the peak of a process what the one that
     started it held, and a script that made large files holds much.
@@ -35,7 +41,7 @@ def run(words, folder, wanted=0):
         message = err.read().decode()
         if status != wanted:
             sys.exit(f"{' '.join(words)} ended with {status}, and not with {wanted}: {message}")
-        return seconds, peak, out.read().decode(), message
+        return seconds, peak, out.read(), message
 
 
 def start(told, words):
