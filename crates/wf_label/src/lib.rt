@@ -6,6 +6,7 @@
 #![tactic(auto)]
 
 mod label;
+mod passing;
 mod reference;
 mod write;
 

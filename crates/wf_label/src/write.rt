@@ -1,12 +1,25 @@
 // Labels written as bits.
-ghost use Rattle.std.specs.Prelude.{◌≡◌, ◌≤◌, ◌<◌, ◌+◌, ◌^◌, ◌++◌, length, IfOk, OnOk};
-ghost use Rattle.label_model.specs.Labels.{label_bits, step_bits, ending_bits};
-ghost use Rattle.wf_label.specs.Values.{step_of, label_of, HasSteps};
+ghost use Rattle.std.specs.Prelude.{◌≡◌, ◌≤◌, ◌<◌, ◌+◌, ◌^◌, false, ◌∷◌, ◌++◌, length, IfOk, OnOk};
+ghost use Rattle.bit_pack.specs.Gamma.{gamma};
+ghost use Rattle.label_model.specs.Labels.{OfEdge, chain_bits, label_bits, step_bits, ending_bits};
+ghost use Rattle.wf_label.specs.Values.{step_of, place_of, label_of, HasSteps};
 
-use crate::label::{Label, PlaceStep};
+use crate::label::{Label, Place, PlaceStep};
 use bit_pack::{BitWriter, Bits};
 use std::alloc::{AllocError, Global};
-use wf_spec::EdgeNo;
+use wf_spec::{EdgeNo, PortNo};
+
+/// Writes a number of continuing steps, if there is one.
+fn write_chain(w: &mut BitWriter, chain: Option<u32>) -> Result<(), AllocError>
+    requires { length w.old < 2 ^ 30 }
+    ensures ok { OnOk result (w.new ≡ w.old ++ chain_bits chain) }
+    ensures few { OnOk result (length w.new ≤ length w.old + 127) }
+{
+    match chain {
+        Some(c) => w.gamma(c as u64 + 1),
+        None => Ok(()),
+    }
+}
 
 /// Writes a step of a place behind the bits that are there. After an error a part of it may be written; the only error is that memory is refused.
 pub fn write_step(w: &mut BitWriter, step: PlaceStep) -> Result<(), AllocError>
@@ -14,7 +27,10 @@ pub fn write_step(w: &mut BitWriter, step: PlaceStep) -> Result<(), AllocError>
     ensures ok { OnOk result (w.new ≡ w.old ++ step_bits (step_of step)) }
     ensures few { OnOk result (length w.new ≤ length w.old + 382) }
 {
-    Err(AllocError)
+    write_chain(w, step.chain)?;
+    w.bit(true)?;
+    w.gamma(step.alternative as u64 + 1)?;
+    w.gamma(step.position.0 as u64 + 1)
 }
 
 /// Writes the last chain number of a place and its ending: the alternative number of the production and the edge. After an error a part of it may be written; the only error is that memory is refused.
@@ -28,7 +44,47 @@ pub fn write_ending(
     ensures ok { OnOk result (w.new ≡ w.old ++ ending_bits chain alternative edge.0) }
     ensures few { OnOk result (length w.new ≤ length w.old + 382) }
 {
-    Err(AllocError)
+    write_chain(w, chain)?;
+    w.bit(false)?;
+    w.gamma(alternative as u64 + 1)?;
+    w.gamma(edge.0 as u64 + 1)
+}
+
+/// Writes the label of a port of the root: a zero, whether it is an output, and the number of the port.
+fn write_port(w: &mut BitWriter, is_output: bool, port: PortNo) -> Result<(), AllocError>
+    requires { length w.old < 2 ^ 30 }
+    ensures { OnOk result (w.new ≡ w.old ++ false ∷ is_output ∷ gamma (port.0 + 1)) }
+{
+    w.bit(false)?;
+    w.bit(is_output)?;
+    w.gamma(port.0 as u64 + 1)
+}
+
+/// Writes the label of an edge: a one, the steps of its place, and the ending.
+fn write_place(w: &mut BitWriter, place: &Place) -> Result<(), AllocError>
+    requires room { length w.old < 2 ^ 20 }
+    requires few { length place.now.steps ≤ 1024 }
+    ensures { OnOk result (w.new ≡ w.old ++ label_bits (OfEdge (place_of place.now))) }
+{
+    w.bit(true)?;
+    for step in place.steps.items() {
+        write_step(w, *step)?;
+    }
+    write_ending(w, place.chain, place.alternative, place.edge)
+}
+
+/// Writes a label behind the bits that are there.
+#[tactic(auto, unfolding(label_model::specs::Labels::label_bits))]
+fn write_bits(w: &mut BitWriter, label: &Label) -> Result<(), AllocError>
+    requires room { length w.old < 2 ^ 20 }
+    requires few { HasSteps 1024 label.now }
+    ensures { OnOk result (w.new ≡ w.old ++ label_bits (label_of label.now)) }
+{
+    match label {
+        Label::Input(port) => write_port(w, false, *port),
+        Label::Output(port) => write_port(w, true, *port),
+        Label::OfEdge(place) => write_place(w, place),
+    }
 }
 
 /// The bits of a label of at most 1,024 steps, as every label of a grammar has them.
@@ -38,5 +94,7 @@ pub fn write_label(alloc: Global, label: &Label) -> Result<Bits, AllocError>
     requires { HasSteps 1024 label.now }
     ensures { IfOk result (λ b. b ≡ label_bits (label_of label.now)) }
 {
-    Err(AllocError)
+    let mut w = BitWriter::new(alloc);
+    write_bits(&mut w, label)?;
+    Ok(w.finish())
 }
