@@ -1,3 +1,4 @@
 pub mod Runs
+pub mod Names
 pub mod Nodes
 pub mod Opening
