@@ -4,3 +4,6 @@
 mod append;
 
 pub use append::{append_entry, append_head};
+
+#[cfg(test)]
+mod tests;
