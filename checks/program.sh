@@ -200,6 +200,45 @@ is_empty_of() {
 }
 check "no query has no answer" is_empty_of
 
+# Whether the label file of an example is the one that stands beside it, to the byte.
+labels() {
+    run ingest "examples/$1/spec" "examples/$1/events" && ended 0 "examples/$1/labels" "$nothing"
+}
+check "the line example is labelled" labels line
+check "the phylogeny of one step is labelled" labels phylogeny-once
+check "the recursive phylogeny is labelled" labels phylogeny
+
+# Whether a label file of so many bytes from the front of the line example's is written, with this end and message.
+labels_until() {
+    run ingest $line/spec "$2" && head -c "$1" $line/labels >"$work/begun" && ended "$3" "$work/begun" "$(text expected "$4")"
+}
+begun='{"start":"r"}\n'
+check "a run that was only begun is labelled" labels_until 50 "$(text begun_run "$begun")" 0 ''
+check "no event has the head of a label file alone" labels_until 36 "$nothing" 0 ''
+check "an absent run leaves the head of its label file" labels_until 36 "$work/absent" 3 'fault: reading events\n'
+check "a refused event leaves the entries of the events before it" \
+    labels_until 50 "$(text begun_twice "$begun$begun")" 2 'refused: events line 2: StartedTwice\n'
+check "a line that is no JSON leaves the entries of the events before it" \
+    labels_until 50 "$(text begun_cut "$begun\n{\"expand\"\n")" 2 'refused: events line 3: NotJson\n'
+check "a line that is no event leaves the entries of the events before it" \
+    labels_until 50 "$(text begun_other "$begun{\"expand\":\"r\"}\n")" 2 'refused: events line 2: WrongShape\n'
+
+long_line() {
+    { printf '%b' "$begun"; head -c 65537 /dev/zero | tr '\0' ' '; } >"$work/long_line"
+    labels_until 50 "$work/long_line" 2 'refused: events line 2: LineTooLong\n'
+}
+check "a line that is too long leaves the entries of the events before it" long_line
+check "a refused specification leaves no label file" says 2 'refused: spec: NotJson\n' ingest "$nothing" $line/events
+check "the command ingest with a word too many is a usage" says 1 'usage: wfprov COMMAND WORDS\n' ingest $line/spec $line/events more
+
+full_labels() {
+    [ -w /dev/full ] || return 0
+    local status=0
+    "$program" ingest $line/spec $line/events >/dev/full 2>"$work/err" || status=$?
+    [ "$status" = 4 ] && cmp -s "$work/err" "$(text expected 'fault: writing\n')"
+}
+check "a full device is a fault of writing labels" full_labels
+
 # A device that takes no byte stands in for a full disk.
 full() {
     [ -w /dev/full ] || return 0
