@@ -4,3 +4,4 @@ pub mod NamedInstances
 pub mod Numbering
 pub mod Children
 pub mod OpenedNodes
+pub mod OpenedRun
