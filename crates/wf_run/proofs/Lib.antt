@@ -5,3 +5,5 @@ pub mod Numbering
 pub mod Children
 pub mod OpenedNodes
 pub mod OpenedRun
+pub mod NextEvents
+pub mod Limits
