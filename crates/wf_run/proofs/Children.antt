@@ -1,5 +1,5 @@
 -- The children of an instance are instances.
-use Rattle.std.proofs.Common.{◌≡◌, ℕ, ◌<◌, ◌≤◌, Bool, true, false, cond, List, [], ◌∷◌, ◌++◌, map, length, get_or, Option, Some, None, refl, ap, sym, subst, ◌∙◌, ⊎_elim, arith}
+use Rattle.std.proofs.Common.{◌≡◌, ℕ, ◌<◌, ◌≤◌, Bool, true, false, cond, List, [], ◌∷◌, ◌++◌, length, Some, ap, sym, subst, ⊎_elim, arith}
 use Rattle.std.specs.Prelude.{bytes_eq}
 use Rattle.std.proofs.lemmas.Bool.{cases_lt}
 use Rattle.std.proofs.lemmas.List.{get_or_past}
@@ -7,7 +7,7 @@ use Rattle.wf_model.specs.Lists.{IsIn}
 use Rattle.wf_model.specs.Grammar.{Grammar}
 use Rattle.wf_model.specs.declared.event.Event.{Event}
 use Rattle.wf_model.specs.declared.event.Event.TheVariants.{Start, Expand}
-use Rattle.wf_model.specs.Run.{Expanded, IsName, expanded_by, AllExtend, IsRun}
+use Rattle.wf_model.specs.Run.{Expanded, IsName, expanded_by, AllExtend}
 use Rattle.wf_model.proofs.Lists.{in_map}
 use Rattle.wf_run.specs.Runs.{RunSeen, node_at, name_at, names_at, IsExpandedAs, IsRunOf}
 use Rattle.wf_run.proofs.NamedInstances.{names_count}

@@ -4,3 +4,6 @@ pub mod NamedInstances
 pub mod Numbering
 pub mod Children
 pub mod OpenedNodes
+pub mod OpenedRun
+pub mod NextEvents
+pub mod Limits

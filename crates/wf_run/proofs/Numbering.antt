@@ -1,5 +1,5 @@
 -- Lists that are read by number.
-use Rattle.std.proofs.Common.{◌≡◌, ℕ, ◌+◌, ◌<◌, List, [], ◌++◌, map, length, get_or, refl, ap, sym, ◌∙◌, arith}
+use Rattle.std.proofs.Common.{◌≡◌, ℕ, ◌+◌, ◌<◌, List, ◌++◌, map, length, get_or, ap, sym, ◌∙◌, arith}
 use Rattle.std.proofs.lemmas.List.{length-map, ext_get_or, get_or-map, get_or-append-add}
 use Rattle.wf_model.specs.Lists.{numbers_from}
 use Rattle.wf_spec.proofs.Tables.{length-numbers, number_at}

@@ -1,14 +1,14 @@
 -- The instances of a run after one of them was expanded: it goes on.
-use Rattle.std.proofs.Common.{◌≡◌, ℕ, ◌+◌, ◌<◌, ◌≤◌, List, [], ◌∷◌, ◌++◌, map, set, length, get_or, Option, Some, None, refl, ap, sym, subst, ◌∙◌, ⊎_elim, arith, length-append}
+use Rattle.std.proofs.Common.{◌≡◌, ℕ, ◌+◌, ◌<◌, List, [], map, set, length, get_or, None, refl, ap, sym, subst, ◌∙◌, ⊎_elim, arith, length-append}
 use Rattle.std.proofs.lemmas.Bool.{cases_eq}
 use Rattle.std.proofs.lemmas.List.{length-map, length-set, get_or_append_left, get_or-append-add, get_or-set_same, get_or-set_other}
 use Rattle.wf_model.specs.Lists.{numbers_from}
 use Rattle.wf_spec.proofs.Tables.{length-numbers}
-use Rattle.wf_run.specs.Runs.{Node, Prefix, RunSeen, node_at, name_at, prefix_at, GoesOn}
+use Rattle.wf_run.specs.Runs.{Node, RunSeen, node_at, prefix_at, GoesOn}
 use Rattle.wf_run.specs.Opening.{child_node, with_children, opened_run}
 use Rattle.wf_run.proofs.Numbering.{get_or-numbered}
 
-abbrev no_node : Node
+abbrev pub no_node : Node
 no_node = record { module_no = 0; children = None; bits = []; chain = None }
 
 module _ (r : RunSeen) (k p : ℕ) (names : List (List ℕ)) where
