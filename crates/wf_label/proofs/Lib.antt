@@ -1,0 +1,4 @@
+pub mod AlternativeNumbers
+pub mod ByTable
+pub mod Passes
+pub mod PartsLeft

@@ -1,0 +1,45 @@
+use Rattle.std.proofs.Common.{◌≡◌, ◌+◌, ◌%◌, ◌<◌, length, get_or, sym, ap, ◌∙◌, subst, arith}
+use Rattle.label_model.specs.Continuing.{after}
+use Rattle.wf_recur.specs.Cycles.{on_of, round_at, StandsAt}
+use Rattle.wf_label.proofs.ByTable.{stands_told, passed_at, after_below}
+use Rattle.wf_label.proofs.passing.passed.Goals as goal
+use Rattle.wf_label.proofs.passing.passed.Goals.{In-Some, After-at}
+
+-- where the module stands
+stands : (c : In-Some) → StandsAt c.args.g.now.core c.args.cycles.now c.args.m.0 (on_of c.in-Some.on)
+stands c = c.requires.cycles.on_one c.args.m.0 (on_of c.in-Some.on) (sym c.in-Some.ensures)
+
+-- where the steps lead
+leads : (c : After-at) → c.at.result.0 ≡ after c.args.g.now.core c.args.c c.args.m.0
+leads c =
+    let on = c.in-Some.on in
+    let round = round_at c.args.cycles.now on.cycle.0 in
+    c.at.ensures ∙ (ap (λ l. get_or round ((on.place + c.args.c) % l) 0) c.length-length.ensures ∙
+    sym (passed_at c.args.g.now.core c.args.cycles.now c.args.m.0 c.args.c (on_of on) c.modules-modules.ensures.formed c.requires.linear c.requires.cycles (sym c.in-Some.ensures)))
+
+pub returns-in_default-clause-to : goal.returns-in_default-clause-to
+returns-in_default-clause-to c = absurd (stands_told c.args.g.now.core c.args.cycles.now c.args.m.0 c.requires.cycles c.requires.module_no c.requires.on_cycle (sym c.in_default.ensures))
+
+pub length-length-requires-clause-in_range : goal.length-length-requires-clause-in_range
+length-length-requires-clause-in_range c = (stands (goal.at.length-length-requires-clause-in_range c).In-Some).cycle
+
+pub nonzero_rem-place : goal.nonzero_rem-place
+nonzero_rem-place c = let s = (stands (goal.at.nonzero_rem-place c).In-Some).place in omega (arith, c.length-length.ensures)
+
+pub prove-unreachable-requires : goal.prove-unreachable-requires
+prove-unreachable-requires c =
+    let s = (stands (goal.at.prove-unreachable-requires c).In-Some).place in
+    let few = c.requires.cycles.short c.in-Some.on.cycle.0 in
+    omega (arith, c.length-length.ensures)
+
+pub at-requires-clause-cycle : goal.at-requires-clause-cycle
+at-requires-clause-cycle c = (stands (goal.at.at-requires-clause-cycle c).In-Some).cycle
+
+pub at-requires-clause-place : goal.at-requires-clause-place
+at-requires-clause-place c = let s = (stands (goal.at.at-requires-clause-place c).In-Some).place in omega (arith, c.length-length.ensures)
+
+pub returns-clause-to : goal.returns-clause-to
+returns-clause-to c = leads c
+
+pub returns-clause-in_range : goal.returns-clause-in_range
+returns-clause-in_range c = subst (λ k. k < length c.args.g.now.core.modules) (sym (leads c)) (after_below c.args.g.now.core c.modules-modules.ensures.formed c.args.c c.args.m.0 c.requires.module_no)
