@@ -9,7 +9,7 @@ use Rattle.wf_model.specs.Grammar.{Grammar, Production, head_of, alternative_of,
 use Rattle.wf_spec.specs.Tables.{productions_of, head_at, headed}
 use Rattle.wf_spec.proofs.Tables.{get_in, headed-next, headed_count}
 use Rattle.wf_recur.proofs.Heads.{headed_gives}
-use Rattle.label_model.proofs.Alternatives.{count_grows}
+use Rattle.wf_label.proofs.ByAlternative.{at_alternative}
 use Rattle.wf_label.specs.Parts.{HasNoNumber, HasNoAlternative}
 
 -- before a production stand as many of its head as its place among them says
@@ -39,21 +39,6 @@ alternative_at g m a h =
     let low = of_it.0 in
     sym (headed_count g.productions p (head_of g p) (omega arith)) ∙ (ap (λ k. length (headed g.productions p k)) of_it.1 ∙ headed_place g.productions (length g.productions) m a h)
 
--- the alternative number of a production is a place of the list
-alternative_low : (g : Grammar) (m p : ℕ) → IsProductionOf g p m → alternative_of g p < length (productions_of g m)
-alternative_low g m p of_it =
-    let n = length g.productions in
-    let low = of_it.0 in
-    let test : Production → Bool = λ (r : Production). r.head == head_of g p in
-    let none : Production = record { head = 0; positions = []; edges = []; entries = []; exits = [] } in
-    let here = count_by_more_yes test g.productions p none low (eq-eqb (head_of g p) (head_of g p) refl) in
-    let k : (p + 1) + (n - (p + 1)) ≡ n = omega arith in
-    let more : count_by test (take (p + 1) g.productions) ≤ count_by test (take n g.productions) =
-    subst (λ z. count_by test (take (p + 1) g.productions) ≤ count_by test (take z g.productions)) k (count_grows test g.productions none (p + 1) (n - (p + 1)) (omega arith)) in
-    let all : length (productions_of g m) ≡ count_by test (take n g.productions) =
-    ap (λ h. length (productions_of g h)) (sym of_it.1) ∙ headed_count g.productions n (head_of g p) (omega arith) in
-    omega (arith, here, more, all)
-
 -- a production of the list, as it is held
 pub listed_alternative : (g : Grammar) (m a : ℕ) (list : List ProdNo) (d : ProdNo) → map (λ (p : ProdNo). p.0) list ≡ productions_of g m → a < length list → alternative_of g (get_or list a d).0 ≡ a
 listed_alternative g m a list d is h =
@@ -63,4 +48,4 @@ listed_alternative g m a list d is h =
 -- where no place of the list is left, no alternative number is
 pub none_listed : (g : Grammar) (m : ℕ) (list : List ProdNo) (bits : List Bool) → map (λ (p : ProdNo). p.0) list ≡ productions_of g m → HasNoNumber (length list) bits → HasNoAlternative g m bits
 none_listed g m list bits is none p rest of_it e =
-    none (alternative_of g p) rest (omega (arith, alternative_low g m p of_it, ap length is, length-map list (λ (p : ProdNo). p.0))) e
+    none (alternative_of g p) rest (omega (arith, (at_alternative g p m of_it).0, ap length is, length-map list (λ (p : ProdNo). p.0))) e

@@ -1,4 +1,5 @@
-pub mod AlternativeNumbers
 pub mod ByTable
+pub mod ByAlternative
+pub mod AlternativeNumbers
 pub mod Passes
 pub mod PartsLeft
