@@ -3,3 +3,4 @@ pub mod ByAlternative
 pub mod AlternativeNumbers
 pub mod Passes
 pub mod PartsLeft
+pub mod WholeLabels

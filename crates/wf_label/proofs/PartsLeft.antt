@@ -1,5 +1,5 @@
 -- What the numbers of a label tell of what is left of it.
-use Rattle.std.proofs.Common.{◌≡◌, ◌≢◌, ◌↔◌, ℕ, ◌+◌, ◌^◌, ◌<◌, ◌≤◌, Bool, true, false, List, [], ◌∷◌, ◌++◌, length, replicate, Some, None, refl, sym, ap, ◌∙◌, subst, ⊎_elim, arith, true≢false}
+use Rattle.std.proofs.Common.{◌≡◌, ◌≢◌, ◌↔◌, ℕ, ◌+◌, ◌^◌, ◌<◌, Bool, true, false, List, [], ◌∷◌, ◌++◌, length, replicate, Some, None, refl, sym, ap, ◌∙◌, subst, ⊎_elim, arith}
 use Rattle.wf_model.specs.Grammar.{Grammar, production_at, head_of, body_of, alternative_of, IsProductionOf}
 use Rattle.wf_model.specs.Reach.{Step, target_of}
 use Rattle.wf_model.specs.Linear.{IsStepOf}
@@ -21,6 +21,7 @@ port_left ports n low left = (
   (λ h. record { port = n; in_range = low; padding = h.0; few = h.1; is = ap (λ z. gamma (n + 1) ++ z) h.2 }),
 )
 
+-- where no number of a port comes first, no port is left
 pub no_port : (ports : ℕ) (bits : List Bool) → HasNoNumber ports bits → ¬ IsPortLeft ports bits
 no_port ports bits none h = none h.port (replicate h.padding false) h.in_range h.is
 
@@ -39,6 +40,7 @@ module _ (g : Grammar) where
       let chain = parts_law.a_chain g m c left on in
       ((λ h. (chain.0 (place.0 h)).1), (λ h. place.1 (chain.1 (omega arith, h))))
 
+  -- where none comes first, no place is left
   pub no_chain_number : (m : ℕ) (bits : List Bool) → continuing g m ≢ None → HasNoNumber (2 ^ 24) bits → ¬ IsPlaceLeft g m bits
   no_chain_number m bits on none h =
       let chain = (reading_law.place g m bits).0 h in
@@ -46,10 +48,7 @@ module _ (g : Grammar) where
       let few = (parts_law.a_chain g m cut.0 cut.1 on).0 (subst (IsChainLeft g m) cut.2 chain) in
       none cut.0 cut.1 (omega (arith, few.0)) cut.2
 
-  -- after a bit the alternative number of a production is left
-  pub no_part : (k : ℕ) → ¬ IsPartLeft g k []
-  no_part k h = let cut = parts_law.cut g k [] h in let e = cut.4 in absurd (cc)
-
+  -- where no alternative number comes after the first bit, no step and no ending is left
   pub no_alternative : (k : ℕ) (b : Bool) (bits : List Bool) → HasNoAlternative g k bits → ¬ IsPartLeft g k (b ∷ bits)
   no_alternative k b bits none h = ⊎_elim by_step by_ending h
     where
@@ -63,9 +62,9 @@ module _ (g : Grammar) where
           let e = s.is in
           none s.production (gamma (s.edge + 1) ++ replicate s.padding false) s.of_it (cc)
 
-  -- two productions of one head by one alternative number
-  same_production : (p q k : ℕ) → p < length g.productions → k ≡ head_of g p → IsProductionOf g q k → alternative_of g q ≡ alternative_of g p → q ≡ p
-  same_production p q k low is of_it a = same_alternative g q p of_it.0 low (of_it.1 ∙ is) a
+  -- the production of a head by an alternative number
+  same_production : (p q : ℕ) → p < length g.productions → IsProductionOf g q (head_of g p) → alternative_of g q ≡ alternative_of g p → q ≡ p
+  same_production p q low of_it a = same_alternative g q p of_it.0 low of_it.1 a
 
   -- a step that does not continue leaves a place at its target
   pub step_left : (t : Step) → IsStepOf g (head_of g t.production) t → continuing g (head_of g t.production) ≢ Some t → (left : List Bool) →
@@ -78,17 +77,19 @@ module _ (g : Grammar) where
     where
       same_step : (u : Step) → IsStepOf g (head_of g t.production) u → alternative_of g u.production ≡ alternative_of g t.production → u.position ≡ t.position → u ≡ t
       same_step u is a e =
-          let p = same_production t.production u.production (head_of g t.production) of_it.in_range refl (is.in_range, is.head) a in
+          let p = same_production t.production u.production of_it.in_range (is.in_range, is.head) a in
           λ i. record { production = p i; position = e i }
 
+  -- the continuing step is not told
   pub continuing_left : (t : Step) (left : List Bool) → continuing g (head_of g t.production) ≡ Some t → t.production < length g.productions → ¬ IsStepByLeft g t.production (gamma (t.position + 1) ++ left)
   continuing_left t left is low h =
       let r = (parts_law.a_step g (head_of g t.production) (alternative_of g t.production) t.position left).0 h in
-      let p = same_production t.production r.0.production (head_of g t.production) low refl (r.1.in_range, r.1.head) r.2 in
+      let p = same_production t.production r.0.production low (r.1.in_range, r.1.head) r.2 in
       let e = r.3 in
       let same : ◌≡◌ {A = Step} t r.0 = λ i. record { production = sym p i; position = sym e i } in
       r.4 (is ∙ ap Some same)
 
+  -- where no number of a position comes first, no step is left
   pub no_position : (p : ℕ) (bits : List Bool) → p < length g.productions → HasNoNumber (length (body_of g p)) bits → ¬ IsStepByLeft g p bits
   no_position p bits low none h = ⊎_elim by_step (λ s. let e = s.is in absurd (cc)) h
     where
@@ -97,7 +98,7 @@ module _ (g : Grammar) where
           let e = s.is in
           let t : gamma (alternative_of g p + 1) ++ bits ≡ gamma (alternative_of g s.step.production + 1) ++ (gamma (s.step.position + 1) ++ s.rest) = cc in
           let r = gamma_law (alternative_of g p + 1) (alternative_of g s.step.production + 1) bits _ (omega arith) (omega arith) t in
-          let q = same_production p s.step.production (head_of g p) low refl (s.of_it.in_range, s.of_it.head) (omega (arith, r.0)) in
+          let q = same_production p s.step.production low (s.of_it.in_range, s.of_it.head) (omega (arith, r.0)) in
           none s.step.position s.rest (subst (λ z. s.step.position < length (body_of g z)) q s.of_it.position) r.1
 
   -- an ending leaves padding
@@ -106,6 +107,7 @@ module _ (g : Grammar) where
       let law = parts_law.an_ending g (head_of g p) (alternative_of g p) e left in
       ((λ h. (law.0 h).4), (λ h. law.1 (p, (low, refl), refl, here, h)))
 
+  -- where no number of an edge comes first, no ending is left
   pub no_edge : (p : ℕ) (bits : List Bool) → p < length g.productions → HasNoNumber (length (production_at g p).edges) bits → ¬ IsEndingByLeft g p bits
   no_edge p bits low none h = ⊎_elim (λ s. let e = s.is in absurd (cc)) by_ending h
     where
@@ -114,7 +116,7 @@ module _ (g : Grammar) where
           let e = s.is in
           let t : gamma (alternative_of g p + 1) ++ bits ≡ gamma (alternative_of g s.production + 1) ++ (gamma (s.edge + 1) ++ replicate s.padding false) = cc in
           let r = gamma_law (alternative_of g p + 1) (alternative_of g s.production + 1) bits _ (omega arith) (omega arith) t in
-          let q = same_production p s.production (head_of g p) low refl s.of_it (omega (arith, r.0)) in
+          let q = same_production p s.production low s.of_it (omega (arith, r.0)) in
           none s.edge (replicate s.padding false) (subst (λ z. s.edge < length (production_at g z).edges) q s.in_range) r.1
 
   -- a bit and an alternative number are read, and a step or an ending by the production is left

@@ -1,5 +1,5 @@
 -- Parts of a label that are read one after another.
-use Rattle.std.proofs.Common.{◌≡◌, ◌↔◌, ℕ, ◌+◌, ◌≤◌, Bool, List, [], ◌∷◌, ◌++◌, length, refl, sym, ap, ◌∙◌, subst, arith, append_assoc, length-append}
+use Rattle.std.proofs.Common.{◌≡◌, ◌↔◌, ℕ, ◌+◌, Bool, List, [], ◌++◌, length, refl, sym, ap, ◌∙◌, subst, arith, append_assoc, length-append}
 use Rattle.bit_pack.specs.Gamma.{gamma}
 use Rattle.bit_pack.specs.Reading.{Reading}
 use Rattle.wf_label.specs.Parts.{IsPassed, IsNumberRead}
@@ -31,7 +31,3 @@ passed_then R S T a b c h k = record {
 -- what is not left now was not left before
 pub passed_back : (R S : List Bool → Type 0) (a b : Reading) → IsPassed R S a b → ¬ S b.left → ¬ R a.left
 passed_back R S a b h none r = none ((h.same b.left).0 (subst R h.is r))
-
--- no more is left than before
-pub passed_fewer : (R S : List Bool → Type 0) (a b : Reading) → IsPassed R S a b → length b.left ≤ length a.left
-passed_fewer R S a b h = omega (arith, ap length h.is, length-append h.bits b.left)

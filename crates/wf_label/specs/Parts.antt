@@ -13,12 +13,12 @@ pub record IsPassed (before after : List Bool → Type 0) (old new : Reading) : 
   pub at : new.at ≡ old.at + length bits
   pub same : (left : List Bool) → before (bits ++ left) ↔ after left
 
--- the code of this number with one added was read
+-- the code of n + 1 was read
 pub record IsNumberRead (n : ℕ) (old new : Reading) : Type 0 where
   pub is : old.left ≡ gamma (n + 1) ++ new.left
   pub at : new.at ≡ old.at + length (gamma (n + 1))
 
--- the bits begin with the code of no number below this one, with one added
+-- the bits begin with the code of n + 1 for no n below this number
 abbrev pub HasNoNumber : ℕ → List Bool → Type 0
 HasNoNumber count bits = (n : ℕ) (rest : List Bool) → n < count → bits ≢ gamma (n + 1) ++ rest
 

@@ -1,6 +1,6 @@
 // The parts of a label, read from the front.
-ghost use Rattle.std.specs.Prelude.{◌≡◌, ◌≢◌, ◌+◌, ◌*◌, ◌^◌, ◌<◌, ◌≤◌, None, length, option_map, get_or, IfOk, IfSome, IsErr, OnOk};
-ghost use Rattle.wf_model.specs.Grammar.{IsProductionOf, alternative_of, inputs_of, outputs_of};
+ghost use Rattle.std.specs.Prelude.{◌≡◌, ◌^◌, ◌<◌, length, option_map, IfOk, IfSome, IsErr, OnOk};
+ghost use Rattle.wf_model.specs.Grammar.{IsProductionOf, alternative_of};
 ghost use Rattle.wf_model.specs.Linear.{IsLinear};
 ghost use Rattle.label_model.specs.Continuing.{continuing, continues};
 ghost use Rattle.label_model.specs.Reading.{IsPadding, IsLabelLeft, IsPlaceLeft, IsPartLeft, IsPortLeft};
@@ -66,7 +66,7 @@ fn pass_port(reader: &mut BitReader<'_>, ports: usize) -> Result<(), Malformed>
     Ok(())
 }
 
-/// Passes the chain number of a module, which is there exactly if the module stands on a cycle, and gives the module to which it leads.
+/// Passes the chain number of a module, and gives the module to which it leads. The number is there exactly if the module stands on a cycle, and is below 2^24.
 fn pass_chain(
     g: &Grammar,
     cycles: &Cycles,
@@ -88,11 +88,7 @@ fn pass_chain(
 }
 
 /// Reads an alternative number of a module, and gives the production.
-fn read_alternative(
-    g: &Grammar,
-    reader: &mut BitReader<'_>,
-    m: ModNo,
-) -> Result<ProdNo, Malformed>
+fn read_alternative(g: &Grammar, reader: &mut BitReader<'_>, m: ModNo) -> Result<ProdNo, Malformed>
     requires { m.0 < length g.now.core.modules }
     ensures production { IfOk result (λ p. IsProductionOf g.now.core p.0 m.0) }
     ensures read { IfOk result (λ p. IsNumberRead (alternative_of g.now.core p.0) reader.old reader.new) }
@@ -187,11 +183,7 @@ fn pass_first(
 }
 
 /// Passes a place at the start module.
-fn pass_place(
-    g: &Grammar,
-    cycles: &Cycles,
-    reader: &mut BitReader<'_>,
-) -> Result<(), Malformed>
+fn pass_place(g: &Grammar, cycles: &Cycles, reader: &mut BitReader<'_>) -> Result<(), Malformed>
     requires linear { IsLinear g.now.core }
     requires cycles { AreCyclesOf g.now.core cycles.now }
     ensures passed { OnOk result (IsPassed (IsPlaceLeft g.now.core g.now.core.start) IsPadding reader.old reader.new) }
@@ -205,7 +197,7 @@ fn pass_place(
 }
 
 /// Passes a label up to its padding.
-pub fn pass_label(
+pub(crate) fn pass_label(
     g: &Grammar,
     cycles: &Cycles,
     reader: &mut BitReader<'_>,

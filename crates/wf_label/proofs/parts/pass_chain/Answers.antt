@@ -1,4 +1,4 @@
-use Rattle.std.proofs.Common.{◌≡◌, ◌≢◌, ◌↔◌, ℕ, ◌+◌, ◌<◌, ◌++◌, Bool, true, false, not, List, Option, Some, None, option_map, refl, sym, ap, ◌∙◌, subst, true≢false}
+use Rattle.std.proofs.Common.{◌≡◌, ◌≢◌, ◌↔◌, ◌+◌, ◌++◌, Bool, true, false, not, Option, Some, None, option_map, refl, sym, ap, ◌∙◌, subst, true≢false}
 use Rattle.std.specs.Option.{is_some}
 use Rattle.wf_model.specs.declared.body.Step.{Step as StepHeld}
 use Rattle.wf_model.specs.Reach.{Step}

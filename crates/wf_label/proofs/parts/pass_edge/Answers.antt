@@ -1,7 +1,7 @@
 use Rattle.std.proofs.Common.{◌≡◌, ◌<◌, ◌∙◌, List, length, map, refl, sym, ap, subst}
 use Rattle.std.proofs.lemmas.List.{length-map}
 use Rattle.wf_model.specs.declared.body.Edge.{Edge as EdgeHeld}
-use Rattle.wf_model.specs.Grammar.{Edge, Production, production_at}
+use Rattle.wf_model.specs.Grammar.{Production, production_at}
 use Rattle.wf_model.specs.Meaning.{edge_of}
 use Rattle.label_model.specs.Reading.{IsPadding}
 use Rattle.wf_label.specs.Parts.{HasNoNumber, IsEndingByLeft}

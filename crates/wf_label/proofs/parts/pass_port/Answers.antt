@@ -1,6 +1,6 @@
 use Rattle.label_model.specs.Reading.{IsPadding, IsPortLeft}
 use Rattle.wf_label.proofs.Passes.{passed_number}
-use Rattle.wf_label.proofs.PartsLeft.{port_left, no_port}
+use Rattle.wf_label.proofs.PartsLeft.{port_left}
 use Rattle.wf_label.proofs.parts.pass_port.Goals as goal
 
 pub returns-clause-passed : goal.returns-clause-passed

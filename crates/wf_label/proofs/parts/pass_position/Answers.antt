@@ -3,14 +3,14 @@ use Rattle.std.proofs.lemmas.List.{length-map}
 use Rattle.wf_model.specs.declared.body.Position.{Position as PositionHeld}
 use Rattle.wf_model.specs.Grammar.{Position, Production, production_at, head_of}
 use Rattle.wf_model.specs.Meaning.{position_of}
-use Rattle.wf_model.specs.Reach.{Step, target_of}
+use Rattle.wf_model.specs.Reach.{Step}
 use Rattle.wf_model.specs.Linear.{IsStepOf}
 use Rattle.wf_recur.proofs.Stepping.{module_read, target_below}
 use Rattle.bit_pack.specs.Gamma.{gamma}
 use Rattle.label_model.specs.Continuing.{continues}
 use Rattle.label_model.specs.Reading.{IsPlaceLeft}
 use Rattle.label_model.proofs.ContinuingSteps.{continues_gives, continues_not}
-use Rattle.wf_label.specs.Parts.{IsPassed, HasNoNumber, IsStepByLeft}
+use Rattle.wf_label.specs.Parts.{HasNoNumber, IsStepByLeft}
 use Rattle.wf_label.proofs.Passes.{passed_number}
 use Rattle.wf_label.proofs.PartsLeft.{step_left, continuing_left, no_position}
 use Rattle.wf_label.proofs.parts.pass_position.Goals as goal

@@ -1,4 +1,4 @@
-use Rattle.std.proofs.Common.{◌≡◌, ◌↔◌, ℕ, ◌+◌, ◌<◌, Bool, List, ◌++◌, Result, Err, sym, ◌∙◌, arith}
+use Rattle.std.proofs.Common.{◌≡◌, ◌↔◌, ℕ, ◌+◌, Bool, List, Result, Err, sym, ◌∙◌, arith}
 use Rattle.bit_pack.specs.declared.fault.BitFault.{BitFault}
 use Rattle.bit_pack.specs.declared.fault.BitFault.TheVariants.{Ended, TooLarge}
 use Rattle.bit_pack.specs.Gamma.{BeginsAbove, HasNoCode}
