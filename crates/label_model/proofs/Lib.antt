@@ -33,4 +33,5 @@ pub mod CutFiles
 pub mod NamesDiffer
 pub mod GoodFiles
 pub mod RunPrefixes
+pub mod Composites
 pub mod WorkedLabels
