@@ -3,3 +3,4 @@ pub mod Packed
 pub mod Cycles
 pub mod Alternatives
 pub mod Children
+pub mod Growing

@@ -11,7 +11,7 @@ ghost use Rattle.wf_recur.specs.Cycles.{AreCyclesOf, step_of};
 ghost use Rattle.wf_label.specs.Values.{step_of as place_step_of};
 ghost use Rattle.wf_run.specs.Nodes.{node_of};
 ghost use Rattle.wf_run.specs.Opening.{child_prefix, child_node};
-ghost use Rattle.wf_run.specs.Growing.{prefix_of};
+ghost use Rattle.wf_run.specs.Growing.{prefix_of, CanGoOn};
 
 use crate::node::Node;
 use crate::prefix::PrefixRef;
@@ -108,9 +108,7 @@ fn child_prefix<'a>(
     requires position { step.position.0 < length (body_of g.now.core step.production.0) }
     requires linear { IsLinear g.now.core }
     requires cycles { AreCyclesOf g.now.core cycles.now }
-    requires whole { IsWhole parent.bytes.now parent.length }
-    requires few { parent.length < 2 ^ 17 }
-    requires chain { IfSome parent.chain (λ c. c < 2 ^ 24) }
+    requires parent { CanGoOn parent }
     ensures prefix { IfOk result (λ r. prefix_of r ≡ child_prefix g.now.core (step_of step) (prefix_of parent.entry)) }
     ensures whole { IfOk result (λ r. IsWhole r.bytes.now r.length) }
 {
@@ -140,5 +138,34 @@ fn child_prefix<'a>(
         bytes,
         length,
         chain: begun(cycles, m),
+    })
+}
+
+/// The node of the child to which a step leads, which is not expanded.
+///
+/// The only error is that memory is refused.
+pub(crate) fn child<'a>(
+    alloc: Global,
+    arena: &'a Bump,
+    g: &Grammar,
+    cycles: &Cycles,
+    parent: PrefixRef<'a>,
+    step: Step,
+) -> Result<Node<'a>, AllocError>
+    requires production { step.production.0 < length g.now.core.productions }
+    requires position { step.position.0 < length (body_of g.now.core step.production.0) }
+    requires linear { IsLinear g.now.core }
+    requires cycles { AreCyclesOf g.now.core cycles.now }
+    requires parent { CanGoOn parent }
+    ensures node { IfOk result (λ n. node_of n ≡ child_node g.now.core step.production.0 (prefix_of parent.entry) step.position.0) }
+    ensures whole { IfOk result (λ n. IsWhole n.bytes.now n.length) }
+{
+    let prefix = child_prefix(alloc, arena, g, cycles, parent, step)?;
+    Ok(Node {
+        bytes: prefix.bytes,
+        children: None,
+        chain: prefix.chain,
+        length: prefix.length,
+        module: target(g, step),
     })
 }

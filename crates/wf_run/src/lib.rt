@@ -5,6 +5,7 @@
 #![tactic(auto)]
 
 mod child;
+mod grow;
 mod names;
 mod node;
 mod prefix;

