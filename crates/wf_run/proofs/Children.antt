@@ -30,7 +30,7 @@ pub child_atomic : (g : Grammar) (s : Step) (parent : Prefix) (m : ℕ) (t : Boo
 child_atomic g s parent m t same test e = sym (ap (λ t. cond {A = Prefix} t (prefix_by g s parent) bare) (ap (is_composite g) (sym same) ∙ (sym test ∙ e)))
 
 module _ (g : Grammar) (c : CyclesSeen) (s : Step) (parent : Prefix) (formed : IsWellFormed g) (linear : IsLinear g) (cycles : AreCyclesOf g c) (inside : s.production < length g.productions)
-  (m : ℕ) (t : Bool) (same : m ≡ target_of g s) (test : t ≡ is_composite g m) (composite : t ≡ true) (head : ℕ) (u : Bool) (of_head : head ≡ head_of g s.production) (on : u ≡ is_step (told c head) s) where
+    (m : ℕ) (t : Bool) (same : m ≡ target_of g s) (test : t ≡ is_composite g m) (composite : t ≡ true) (head : ℕ) (u : Bool) (of_head : head ≡ head_of g s.production) (on : u ≡ is_step (told c head) s) where
   by_step : child_prefix g s parent ≡ prefix_by g s parent
   by_step = ap (λ t. cond {A = Prefix} t (prefix_by g s parent) bare) (ap (is_composite g) (sym same) ∙ (sym test ∙ composite))
 

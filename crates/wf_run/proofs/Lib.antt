@@ -4,3 +4,4 @@ pub mod Cycles
 pub mod Alternatives
 pub mod Children
 pub mod Growing
+pub mod Expanded
