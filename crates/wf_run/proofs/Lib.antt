@@ -2,6 +2,6 @@ pub mod Whole
 pub mod Packed
 pub mod Cycles
 pub mod Alternatives
-pub mod Children
+pub mod ChildPrefixes
 pub mod Growing
 pub mod Expanded

@@ -2,7 +2,7 @@ use Rattle.std.proofs.Common.{◌∙◌, ap}
 use Rattle.wf_model.specs.Grammar.{Production}
 use Rattle.wf_recur.specs.Cycles.{step_of}
 use Rattle.wf_run.specs.Growing.{prefix_of}
-use Rattle.wf_run.proofs.Children.{child_atomic, child_goes_on, child_leaves}
+use Rattle.wf_run.proofs.ChildPrefixes.{child_atomic, child_goes_on, child_leaves}
 use Rattle.wf_run.proofs.child.child_prefix.Goals as goal
 
 pub returns-then-not-is_composite-clause-prefix : goal.returns-then-not-is_composite-clause-prefix
