@@ -22,7 +22,7 @@ use Rattle.label_model.proofs.Lists.{firsts}
 use Rattle.label_model.proofs.ItemLabels.{IsKind, an_input, an_output, of_edge, kind, ending, as_long}
 
 -- each expand event makes an instance
-made_long : (g : Grammar) → IsWellFormed g → (m : ℕ) (a b : List Event) → AllExtend g m b a → expand_events a ≤ length (made g m a)
+pub made_long : (g : Grammar) → IsWellFormed g → (m : ℕ) (a b : List Event) → AllExtend g m b a → expand_events a ≤ length (made g m a)
 made_long g wf m [] b x = omega arith
 made_long g wf m (Start r ∷ a) b x = let h = made_long g wf m a (b ++ Start r ∷ []) x.1 in omega (arith, h, length-append (made_by g m (Start r)) (made g m a))
 made_long g wf m (Expand i p names ∷ a) b x =
@@ -33,7 +33,7 @@ made_long g wf m (Expand i p names ∷ a) b x =
     omega (arith, h, can.one_each, some_position, n, length-append (named names (body_of g p)) (made g m a))
 
 -- and the start event makes one more
-run_long : (g : Grammar) → IsWellFormed g → (m : ℕ) (events : List Event) (i : Instance) → IsRun g m events → IsIn i (made g m events) → expand_events events < length (made g m events)
+pub run_long : (g : Grammar) → IsWellFormed g → (m : ℕ) (events : List Event) (i : Instance) → IsRun g m events → IsIn i (made g m events) → expand_events events < length (made g m events)
 run_long g wf m [] i x h = absurd h
 run_long g wf m (Expand j p names ∷ a) i x h = absurd x.0.stands
 run_long g wf m (Start r ∷ a) i x h = let k = made_long g wf m a (Start r ∷ []) x.1 in omega (arith, k, length-append (made_by g m (Start r)) (made g m a))

@@ -4,13 +4,15 @@ use Rattle.std.proofs.lemmas.Nat.{mul-le}
 use Rattle.wf_model.specs.Lists.{IsIn}
 use Rattle.wf_model.specs.Grammar.{Grammar}
 use Rattle.wf_model.specs.WellFormed.{IsWellFormed}
+use Rattle.wf_model.specs.Linear.{IsLinear}
 use Rattle.wf_model.specs.Reach.{Step, target_of}
 use Rattle.bit_pack.specs.Gamma.{digits, gamma}
 use Rattle.bit_pack.proofs.Codes.{below_digits, digits_few, length_law as gamma_length_law}
-use Rattle.label_model.specs.Labels.{PlaceStep, chain_bits, step_bits, ending_bits, label_bits, Leaves, Leads}
+use Rattle.label_model.specs.Continuing.{is_composite}
+use Rattle.label_model.specs.Labels.{PlaceStep, chain_bits, step_bits, ending_bits, prefix_bits, label_bits, IsChain, Leaves, Leads}
 use Rattle.label_model.specs.Bound.{gamma_length, components, cycles, most_alternatives, most_positions, most_edges, bound, chains}
 use Rattle.label_model.specs.BoundLaws.{LengthLaw}
-use Rattle.label_model.proofs.Visits.{one_visit_law, count_cons}
+use Rattle.label_model.proofs.Visits.{one_visit_law, visits_once, count_cons}
 use Rattle.label_model.proofs.GrammarSizes.{alternative_within, position_within, edge_within}
 
 -- a larger number has no fewer digits
@@ -54,6 +56,21 @@ steps_within g wf (s ∷ ss) m k n h small =
   where
     sum : (x y xy c d cd w l z : ℕ) → x ≤ c * w + z → y ≤ d * w + l * z → xy ≡ x + y → cd ≡ c + d → xy ≤ cd * w + suc l * z
     sum x y xy c d cd w l z a b e f = grind (arith)
+
+-- the bits of the steps to a composite module, where the chain numbers are below n
+pub prefix_length : (g : Grammar) → IsWellFormed g → IsLinear g → (m : ℕ) (ss : List PlaceStep) (c : Option ℕ) (k j n : ℕ) → m < length g.modules → Leads g m ss k → IsChain g k c j → is_composite g j ≡ true →
+    ((s : PlaceStep) → IsIn s ss → (d : ℕ) → s.chain ≡ Some d → d < n) → length (prefix_bits ss) ≤ bound g n
+unfolding bound count_chains
+prefix_length g wf lin m ss c k j n in_range h hc comp small =
+    let v = visits_once g wf lin m ss c k j in_range h hc comp in
+    let f = steps_within g wf ss m k n h small in
+    let x = 1 + gamma_length (most_alternatives g) + gamma_length (most_positions g) in
+    let steps : length ss * x ≤ (components g - 1) * x = mul-le (length ss) x (components g - 1) x (omega (arith, v.0)) (omega arith) in
+    let loops : count_chains ss * (2 * digits n) ≤ cycles g * (2 * digits n) = mul-le (count_chains ss) (2 * digits n) (cycles g) (2 * digits n) (omega (arith, v.1)) (omega arith) in
+    joined (length (flat_map step_bits ss)) (count_chains ss * (2 * digits n)) (length ss * x) ((components g - 1) * x) (digits n) (cycles g) (gamma_length (most_alternatives g)) (gamma_length (most_edges g)) f steps loops
+  where
+    joined : (f k s t d q ga ge : ℕ) → f ≤ k + s → s ≤ t → k ≤ q * (2 * d) → suc f ≤ max 15 (2 + ga + ge + t) + 2 * q * d
+    joined f k s t d q ga ge h1 h2 h3 = omega arith
 
 pub length_law : LengthLaw
 unfolding label_bits bound count_chains

@@ -1,16 +1,18 @@
--- A label has fewer than 2^17 bits.
-use Rattle.std.proofs.Common.{◌≡◌, ℕ, suc, ◌+◌, ◌-◌, ◌*◌, ◌^◌, ◌<◌, ◌≤◌, max, List, [], ◌∷◌, length, Option, Some, None, sym, ap, ◌∙◌, inl, inr, arith}
+-- A label has fewer than 2^17 bits, and so has what comes before its ending.
+use Rattle.std.proofs.Common.{◌≡◌, ℕ, suc, ◌+◌, ◌-◌, ◌*◌, ◌^◌, ◌<◌, ◌≤◌, max, true, List, [], ◌∷◌, length, Option, Some, None, sym, ap, ◌∙◌, inl, inr, arith}
 use Rattle.std.proofs.lemmas.Nat.{mul-le}
 use Rattle.wf_model.specs.Lists.{IsIn}
 use Rattle.wf_model.specs.Grammar.{Grammar, module_at}
 use Rattle.wf_model.specs.WellFormed.{IsWellFormed}
+use Rattle.wf_model.specs.Linear.{IsLinear}
 use Rattle.wf_model.specs.Reach.{target_of}
 use Rattle.bit_pack.specs.Gamma.{digits, gamma}
 use Rattle.bit_pack.proofs.Codes.{digits_few}
-use Rattle.label_model.specs.Labels.{PlaceStep, Place, Input, Output, OfEdge, label_bits, IsChain, Leads, IsPlace}
+use Rattle.label_model.specs.Continuing.{is_composite}
+use Rattle.label_model.specs.Labels.{PlaceStep, Place, Input, Output, OfEdge, prefix_bits, label_bits, IsChain, Leads, IsPlace}
 use Rattle.label_model.specs.Bound.{gamma_length, components, cycles, most_alternatives, most_positions, most_edges, bound, ChainsBelow}
 use Rattle.label_model.specs.BoundLaws.{RoomLaw}
-use Rattle.label_model.proofs.LabelLengths.{length_law}
+use Rattle.label_model.proofs.LabelLengths.{length_law, prefix_length}
 use Rattle.label_model.proofs.RunBounds.{start_module, port_bits}
 use Rattle.label_model.proofs.GrammarLimits.{few_alternatives, few_positions, few_edges, few_components, few_cycles}
 
@@ -45,6 +47,13 @@ bound_low g wf n small =
     sum : (ga ge t q d : ℕ) → ga ≤ 21 → ge ≤ 25 → t ≤ 1023 * 35 → q * d ≤ 1024 * 25 → max 15 (2 + ga + ge + t) + 2 * q * d < 2 ^ 17
     sum ga ge t q d h1 h2 h3 h4 = omega arith
 
+within : {a b : ℕ} → a ≤ b → b < 2 ^ 17 → a < 2 ^ 17
+within x y = omega arith
+
+-- the bits of the steps to a composite module
+pub prefix_room : (g : Grammar) → IsWellFormed g → IsLinear g → (m : ℕ) (ss : List PlaceStep) (c : Option ℕ) (k j : ℕ) → m < length g.modules → Leads g m ss k → IsChain g k c j → is_composite g j ≡ true → length (prefix_bits ss) < 2 ^ 17
+prefix_room g wf lin m ss c k j in_range h hc comp = within (prefix_length g wf lin m ss c k j (2 ^ 24) in_range h hc comp (steps_low g ss m k h)) (bound_low g wf (2 ^ 24) (omega arith))
+
 pub room_law : RoomLaw
 unfolding label_bits
 room_law g wf lin (Input p) h =
@@ -54,6 +63,3 @@ room_law g wf lin (Output p) h =
     let few = (wf.modules (module_at g g.start) (start_module g wf)).few_outputs in
     let b = port_bits p (omega (arith, h, few)) in let w : suc (suc (length (gamma (p + 1)))) < 2 ^ 17 = omega (arith, b) in w
 room_law g wf lin (OfEdge p) h = within (length_law g wf lin p (2 ^ 24) h (place_low g g.start p h)) (bound_low g wf (2 ^ 24) (omega arith))
-  where
-    within : {a b : ℕ} → a ≤ b → b < 2 ^ 17 → a < 2 ^ 17
-    within x y = omega arith

@@ -33,5 +33,6 @@ pub mod CutFiles
 pub mod NamesDiffer
 pub mod GoodFiles
 pub mod RunPrefixes
+pub mod PrefixRoom
 pub mod Composites
 pub mod WorkedLabels

@@ -31,7 +31,7 @@ chain_small g m c d n e h = go (continuing g m) e
     go (Some s) e = let f : c ≡ d = cc in omega arith
 
 -- the last chain number
-last_small : (g : Grammar) (a : List Step) (m c n d : ℕ) → c + length a < n → chain_from g m c a ≡ Some d → d < n
+pub last_small : (g : Grammar) (a : List Step) (m c n d : ℕ) → c + length a < n → chain_from g m c a ≡ Some d → d < n
 last_small g [] m c n d h e = chain_small g m c d n e (omega arith)
 last_small g (s ∷ a) m c n d h e = go (continues g m s) e (λ k q. last_small g a (target_of g s) k n d q)
   where

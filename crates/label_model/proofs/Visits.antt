@@ -1,21 +1,22 @@
 -- A place enters each strong component once.
-use Rattle.std.proofs.Common.{◌≡◌, ℕ, zero, suc, ◌+◌, ◌<◌, ◌≤◌, ◌&&◌, Bool, true, false, cond, eqb, List, [], ◌∷◌, ◌++◌, length, map, count_by, Option, Some, None, is_some, refl, sym, ap, ◌∙◌, subst, inl, inr, ⊎_elim, arith, true≢false, length-append}
+use Rattle.std.proofs.Common.{◌≡◌, ℕ, zero, suc, ◌+◌, ◌<◌, ◌≤◌, ◌&&◌, Bool, true, false, cond, List, [], ◌∷◌, ◌++◌, length, map, count_by, Option, Some, None, is_some, refl, sym, ap, ◌∙◌, subst, inl, inr, ⊎_elim, arith, true≢false, length-append}
 use Rattle.std.specs.Prelude.{filter}
 use Rattle.std.proofs.lemmas.List.{length-map}
 use Rattle.std.proofs.lemmas.List.Sums.{length-filter}
-use Rattle.std.proofs.lemmas.Bool.{eq-eqb, and_from}
+use Rattle.std.proofs.lemmas.Bool.{and_from}
 use Rattle.wf_model.specs.Lists.{IsIn, AllDiffer, numbers_from, here}
-use Rattle.wf_model.specs.Grammar.{Grammar, Production, production_at, head_of}
+use Rattle.wf_model.specs.Grammar.{Grammar}
 use Rattle.wf_model.specs.WellFormed.{IsWellFormed}
 use Rattle.wf_model.specs.Proper.{Derives}
 use Rattle.wf_model.specs.Reach.{Step, target_of}
 use Rattle.wf_model.specs.Linear.{IsStepOf, IsLinear}
-use Rattle.wf_model.proofs.Lists.{in_map_from, in_append_cases, some_from, at_in, is_at}
+use Rattle.wf_model.proofs.Lists.{in_map_from, in_append_cases}
 use Rattle.wf_model.proofs.Walks.{walk-append, walk_one}
 use Rattle.label_model.specs.Continuing.{continuing, is_composite, is_least, next_by, after}
 use Rattle.label_model.specs.Labels.{PlaceStep, Place, IsChain, Leaves, Leads, IsPlace}
 use Rattle.label_model.specs.Bound.{components, cycles, chains}
 use Rattle.label_model.specs.PlaceLaws.{OneVisitLaw}
+use Rattle.label_model.proofs.Composites.{composite_is}
 use Rattle.label_model.proofs.Differing.{no_more_below}
 use Rattle.label_model.proofs.Finding.{cases_option}
 use Rattle.label_model.proofs.ContinuingSteps.{continuing_is, continuing_law, target_made}
@@ -149,18 +150,17 @@ module _ (g : Grammar) (wf : IsWellFormed g) where
     entered_chains m (s ∷ ss) c k h =
         omega (arith, length-append (keep (is_some s.chain) m) (entered is_some (target_of g h.0) ss c k h.2), length-keep (is_some s.chain) m, entered_chains (target_of g h.0) ss c k h.2, count_cons s ss)
 
-    one_visit : (m : ℕ) (p : Place) → m < length g.modules → IsPlace g m p → (length p.steps < components g) × (chains p ≤ cycles g)
-    one_visit m p small h =
-        let comp : is_composite g h.from ≡ true = some_from (λ (r : Production). eqb r.head h.from) (production_at g h.production) g.productions
-        (at_in (production_at g h.production) h.production g.productions (is_at h.production g.productions (record { head = 0; positions = []; edges = []; entries = []; exits = [] }) h.of_it.0))
-        (eq-eqb (head_of g h.production) h.from h.of_it.1) in
-        let a = entered_few (λ _. true) (λ m. is_composite g m && is_least g m) m p.steps p.chain h.entered h.leads h.from small h.chain comp
+    pub visits_once : (m : ℕ) (ss : List PlaceStep) (c : Option ℕ) (k j : ℕ) → m < length g.modules → Leads g m ss k → IsChain g k c j → is_composite g j ≡ true →
+        (length ss < components g) × (count_by (λ (s : PlaceStep). is_some s.chain) ss + cond (is_some c) 1 0 ≤ cycles g)
+    visits_once m ss c k j small h hc comp =
+        let a = entered_few (λ _. true) (λ m. is_composite g m && is_least g m) m ss c k h j small hc comp
         (λ x e. and_from (is_composite g (least g x)) (is_least g (least g x)) (composite_up g wf (least_is g wf x).up e.composite) (least_is g wf x).first) in
-        let b = entered_few is_some (λ m. is_some (continuing g m) && is_least g m) m p.steps p.chain h.entered h.leads h.from small h.chain comp
-        (λ x e. and_from (is_some (continuing g (least g x))) (is_least g (least g x)) (cycle_up g wf (least_is g wf x).up (least_is g wf x).down (e.on (λ c q. q))) (least_is g wf x).first) in (
-          omega (arith, a, entered_all m p.steps p.chain h.entered h.leads),
-          omega (arith, b, entered_chains m p.steps p.chain h.entered h.leads),
-        )
+        let b = entered_few is_some (λ m. is_some (continuing g m) && is_least g m) m ss c k h j small hc comp
+        (λ x e. and_from (is_some (continuing g (least g x))) (is_least g (least g x)) (cycle_up g wf (least_is g wf x).up (least_is g wf x).down (e.on (λ c q. q))) (least_is g wf x).first) in
+        (omega (arith, a, entered_all m ss c k h), omega (arith, b, entered_chains m ss c k h))
+
+    one_visit : (m : ℕ) (p : Place) → m < length g.modules → IsPlace g m p → (length p.steps < components g) × (chains p ≤ cycles g)
+    one_visit m p small h = visits_once m p.steps p.chain h.entered h.from small h.leads h.chain (composite_is g h.from (h.production, h.of_it))
 
 pub one_visit_law : OneVisitLaw
 one_visit_law g wf lin m p small h = one_visit g wf lin m p small h

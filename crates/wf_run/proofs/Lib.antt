@@ -5,3 +5,11 @@ pub mod Alternatives
 pub mod ChildPrefixes
 pub mod Growing
 pub mod Expanded
+pub mod Started
+pub mod NamedInstances
+pub mod Numbering
+pub mod Children
+pub mod OpenedNodes
+pub mod OpenedRun
+pub mod NextEvents
+pub mod Limits

@@ -1,5 +1,5 @@
 -- A run after a start event and after an expand event.
-use Rattle.std.specs.Prelude.{ℕ, suc, true, ◌+◌, cond, List, [], ◌∷◌, ◌++◌, map, set, length, Option, Some, None, option_map}
+use Rattle.std.specs.Prelude.{ℕ, suc, true, ◌+◌, cond, List, [], ◌∷◌, ◌++◌, map, set, length, Some, None, option_map}
 use Rattle.wf_model.specs.Lists.{numbers_from}
 use Rattle.wf_model.specs.Grammar.{Grammar, head_of, alternative_of}
 use Rattle.wf_model.specs.Reach.{Step, target_of}
