@@ -13,3 +13,5 @@ pub mod OpenedNodes
 pub mod OpenedRun
 pub mod NextEvents
 pub mod Limits
+pub mod Extending
+pub mod Kept
