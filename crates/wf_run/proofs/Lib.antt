@@ -6,3 +6,5 @@ pub mod Cycles
 pub mod Alternatives
 pub mod Children
 pub mod Growing
+pub mod Roots
+pub mod Begun
