@@ -15,3 +15,5 @@ pub mod NextEvents
 pub mod Limits
 pub mod Extending
 pub mod Kept
+pub mod Roots
+pub mod Begun

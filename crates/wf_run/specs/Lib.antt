@@ -1,4 +1,5 @@
 pub mod Runs
+pub mod Names
 pub mod Nodes
 pub mod Opening
 pub mod Growing

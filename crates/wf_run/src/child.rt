@@ -33,7 +33,7 @@ fn target(g: &Grammar, step: Step) -> ModNo
 }
 
 /// Whether a production expands a module.
-fn is_composite(g: &Grammar, m: ModNo) -> bool
+pub(crate) fn is_composite(g: &Grammar, m: ModNo) -> bool
     requires { m.0 < length g.now.core.modules }
     ensures { result ≡ is_composite g.now.core m.0 }
 {
@@ -52,7 +52,7 @@ fn is_continuing(cycles: &Cycles, m: ModNo, step: Step) -> bool
 }
 
 /// The chain number with which a chain begins at a module; None where it is on no cycle.
-fn begun(cycles: &Cycles, m: ModNo) -> Option<u32>
+pub(crate) fn begun(cycles: &Cycles, m: ModNo) -> Option<u32>
     requires { m.0 < length cycles.now.on }
     ensures { result ≡ chain_by (option_map (λ o. o.step) (get_or cycles.now.on m.0 None)) 0 }
 {

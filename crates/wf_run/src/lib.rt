@@ -9,6 +9,7 @@ mod grow;
 mod names;
 mod node;
 mod prefix;
+mod root;
 mod run;
 
 pub use node::NodeNo;

@@ -1,6 +1,7 @@
 // Names in an arena, and their numbers.
 ghost use Rattle.std.specs.Prelude.{◌≡◌, ◌<◌, ◌++◌, ◌∷◌, [], List, ℕ, Option, Some, None, false, length, take, map, get_or, position, IfOk, OnOk, OnErr, IfSome, bytes_eq};
 ghost use Rattle.wf_model.specs.Faults.{is_one_of, some_twice};
+ghost use Rattle.wf_run.specs.Names.{placed};
 
 use bumpalo::Bump;
 use indexmap::IndexSet;
@@ -8,6 +9,22 @@ use run_faults::Taken;
 use std::alloc::{AllocError, Global};
 use std::marker::Model;
 use wf_spec::Name;
+
+fn holds(names: &IndexSet<&[u8]>, name: &[u8]) -> bool
+    ensures { result ≡ is_one_of (placed names.now.keys) name.now }
+{
+    names.contains(name)
+}
+
+fn put<'a>(arena: &'a Bump, names: &mut IndexSet<&'a [u8]>, name: &[u8]) -> Result<(), AllocError>
+    requires { is_one_of (placed names.old.keys) name.now ≡ false }
+    ensures added { OnOk result (placed names.new.keys ≡ placed names.old.keys ++ name.now ∷ []) }
+    ensures err { OnErr result (names.new.keys ≡ names.old.keys) }
+{
+    let key: &'a [u8] = arena.try_alloc_slice_copy(name)?;
+    names.insert(key)?;
+    Ok(())
+}
 
 /// Names, numbered from 0 in the order in which they were added. Their bytes lie in an arena, and a name is found by hashing.
 #[derive(Drop)]
@@ -50,12 +67,43 @@ impl<'a> PlacedNames<'a> {
         self.numbers[i]
     }
 
+    /// Adds a new name. After an error its bytes may lie in the arena, where nothing finds them.
+    pub(crate) fn add(&mut self, name: &[u8]) -> Result<(), AllocError>
+        requires { is_one_of self.old name.now ≡ false }
+        ensures added { OnOk result (self.new ≡ self.old ++ name.now ∷ []) }
+        ensures err { OnErr result (self.new ≡ self.old) }
+    {
+        put(self.arena, &mut self.numbers, name)
+    }
+
     /// Adds new names, all or none.
     pub(crate) fn add_all(&mut self, list: &[Name]) -> Result<(), AllocError>
         requires { some_twice self.old list.now ≡ false }
         ensures added { OnOk result (self.new ≡ self.old ++ list.now) }
         ensures err { OnErr result (self.new ≡ self.old) }
     {
-        Err(AllocError)
+        let before = self.numbers.len();
+        for name in list {
+            if let Err(fault) = self.add(name.bytes()) {
+                self.cut(before);
+                return Err(fault);
+            }
+        }
+        Ok(())
+    }
+
+    /// Takes away the last names.
+    pub(crate) fn cut(&mut self, len: usize)
+        ensures { self.new ≡ take len self.old }
+    {
+        self.numbers.truncate(len);
+    }
+}
+
+impl<'a> Taken for PlacedNames<'a> {
+    ghost names = { λ t. t };
+
+    fn holds(&self, name: &[u8]) -> bool {
+        holds(&self.numbers, name)
     }
 }

@@ -6,13 +6,16 @@ ghost use Rattle.wf_model.specs.declared.event.RunFault.TheVariants.{NoMemory};
 ghost use Rattle.wf_model.specs.Faults.{fault_of};
 ghost use Rattle.wf_model.specs.Linear.{IsLinear};
 ghost use Rattle.bit_pack.specs.Bits.{packed};
+ghost use Rattle.run_faults.specs.Standing.{IsFound};
 ghost use Rattle.wf_recur.specs.Cycles.{AreCyclesOf};
 ghost use Rattle.wf_run.specs.Runs.{RunSeen, node_at, name_at, IsRunOf, GoesOn};
 
 use crate::names::PlacedNames;
 use crate::node::{Node, NodeNo};
 use crate::prefix::PrefixRef;
+use crate::root::{plant, root};
 use bumpalo::Bump;
+use run_faults::{Found, expand_fault, start_fault};
 use std::alloc::Global;
 use std::marker::Model;
 use wf_recur::Cycles;
@@ -154,7 +157,49 @@ impl<'a> Run<'a> {
         ensures refused { IfErr result (λ f. (f ≡ NoMemory) ⊎ ((events : List Event) → IsRunOf self.old events → fault_of self.old.grammar.core self.old.most events (Start name.now) ≡ Some f)) }
         ensures unchanged { OnErr result (self.new ≡ self.old) }
     {
-        Err(RunFault::NoMemory)
+        if let Some(fault) = self.fault_of_start(name) {
+            return Err(fault);
+        }
+        let root = root(self.grammar, self.cycles);
+        plant(&mut self.names, &mut self.nodes, root, name)?;
+        Ok(NodeNo(0))
+    }
+
+    /// Why the run refuses to start by an instance of a name.
+    fn fault_of_start(&self, name: &[u8]) -> Option<RunFault>
+        ensures { (events : List Event) → IsRunOf self.now events → result ≡ fault_of self.now.grammar.core self.now.most events (Start name.now) }
+    {
+        start_fault(!self.nodes.is_empty(), self.most, name)
+    }
+
+    /// The instance of a name, as the events tell it.
+    fn found(&self, name: &[u8]) -> Option<Found>
+        ensures { (events : List Event) → IsRunOf self.now events → IsFound self.now.grammar.core events name.now result }
+    {
+        let Some(n) = self.find(name) else {
+            return None;
+        };
+        Some(Found {
+            module: self.module(n),
+            expanded: self.children(n).is_some(),
+        })
+    }
+
+    /// Why the run refuses to expand the instance of a name.
+    fn fault_of_expand(&self, instance: &[u8], production: u64, names: &[Name]) -> Option<RunFault>
+        ensures { (events : List Event) → IsRunOf self.now events → result ≡ fault_of self.now.grammar.core self.now.most events (Expand instance.now production names.now) }
+    {
+        let found = self.found(instance);
+        let count = self.nodes.len();
+        expand_fault(
+            self.grammar,
+            self.most,
+            &self.names,
+            count,
+            found,
+            production,
+            names,
+        )
     }
 
     /// Expands an instance by the production of a number, with a name for each position, and gives the number of the first child. After an error the run is as it was.

@@ -1,0 +1,66 @@
+// Why an expand event is refused.
+ghost use Rattle.std.specs.Prelude.{◌≡◌, ℕ, List, length};
+ghost use Rattle.wf_model.specs.declared.event.Event.{Event};
+ghost use Rattle.wf_model.specs.declared.event.Event.TheVariants.{Expand};
+ghost use Rattle.wf_model.specs.Run.{IsRun, made, names_of};
+ghost use Rattle.wf_model.specs.Faults.{fault_of};
+ghost use Rattle.run_faults.specs.Standing.{IsFound};
+
+use crate::names::{Taken, are_short, repeats};
+use wf_spec::{Grammar, ModNo, Name, ProdNo, RunFault};
+
+/// An instance that is there: its module, and whether it is expanded.
+#[derive(Clone, Copy, Drop)]
+pub struct Found {
+    pub module: ModNo,
+    pub expanded: bool,
+}
+
+/// Why a run of at most `most` instances refuses to expand the instance of a name; None where it takes the event. The table has the names of the instances, `count` of them, and `found` is the instance.
+///
+/// In order of trial: `NotStarted`, `UnknownInstance`, `UnknownProduction`, `WrongHead`, `AlreadyExpanded`, `PositionsWrong`, `NameBad`, `NameTwice`, `TooManyInstances`.
+///
+/// Cost: one look-up for each name of the event, which is also compared with the names before it in the event, at most 63.
+pub fn expand_fault<T: Taken>(
+    g: &Grammar,
+    most: u32,
+    taken: &T,
+    count: usize,
+    found: Option<Found>,
+    production: u64,
+    names: &[Name],
+) -> Option<RunFault>
+    requires { count ≡ length (T.names taken.now) }
+    ensures { (events : List Event) (name : List ℕ) → IsRun g.now.core g.now.core.start events → T.names taken.now ≡ names_of (made g.now.core g.now.core.start events) → IsFound g.now.core events name found → result ≡ fault_of g.now.core most events (Expand name production names.now) }
+{
+    if count == 0 {
+        return Some(RunFault::NotStarted);
+    }
+    let Some(instance) = found else {
+        return Some(RunFault::UnknownInstance);
+    };
+    let productions = g.productions();
+    if productions.len() as u64 <= production {
+        return Some(RunFault::UnknownProduction);
+    }
+    let rule = g.production(ProdNo(production as u16));
+    if instance.module != rule.head() {
+        return Some(RunFault::WrongHead);
+    }
+    if instance.expanded {
+        return Some(RunFault::AlreadyExpanded);
+    }
+    if names.len() != rule.positions().len() {
+        return Some(RunFault::PositionsWrong);
+    }
+    if !are_short(names) {
+        return Some(RunFault::NameBad);
+    }
+    if repeats(taken, names) {
+        return Some(RunFault::NameTwice);
+    }
+    if (most as usize) < count.saturating_add(names.len()) {
+        return Some(RunFault::TooManyInstances);
+    }
+    None
+}
