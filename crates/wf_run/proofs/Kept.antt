@@ -14,7 +14,7 @@ use Rattle.wf_run.specs.declared.node.Node.{Node as NodeHeld}
 use Rattle.wf_run.specs.Runs.{Node, RunSeen, node_at, name_at, IsRunOf}
 use Rattle.wf_run.specs.Nodes.{node_of, run_of, IsKept}
 use Rattle.wf_run.specs.Opening.{opened_nodes, opened_run}
-use Rattle.wf_run.specs.Growing.{held_at}
+use Rattle.wf_run.specs.Growing.{held_at, CanOpen}
 use Rattle.wf_run.proofs.Whole.{whole_length}
 use Rattle.wf_run.proofs.Limits.{prefix_small}
 use Rattle.wf_run.proofs.Extending.{opened}
@@ -33,13 +33,11 @@ module _ (g : HeldGrammar) (most : ℕ) (names : List (List ℕ)) (nodes after :
       ap (λ l. record { grammar = g; most = most; names = names ++ new; nodes = l; expands = expands + 1 }) map_is ∙
       ap (λ n. record { grammar = g; most = most; names = names ++ new; nodes = opened_nodes g.core (map node_of nodes) k p (held_at nodes k) (length new); expands = n }) e
 
-  pub kept_after : (c : CyclesSeen) → IsWellFormed g.core → IsKept (run_of g most names nodes expands) c nodes → k < length nodes →
-      ((events : List Event) → IsRunOf (run_of g most names nodes expands) events → fault_of g.core most events (Expand (name_at (run_of g most names nodes expands) k) p new) ≡ None) →
+  pub kept_after : (c : CyclesSeen) → IsWellFormed g.core → IsKept (run_of g most names nodes expands) c nodes → CanOpen (run_of g most names nodes expands) k p new →
       ((n : NodeHeld) → IsIn n after → IsWhole n.bytes.now n.length) → IsKept (run_of g most (names ++ new) after (expands + 1)) c after
-  kept_after c wf kept there extends whole =
+  kept_after c wf kept opens whole =
       let r = run_of g most names nodes expands in
-      let inside : k < length (map node_of nodes) = omega (arith, length-map nodes node_of) in
-      let next = opened r kept.events k p new wf kept.run inside (extends kept.events kept.run) in
+      let next = opened r kept.events k p new wf kept.run opens in
       let few = prefix_small (opened_run r k p new) _ wf next kept.most kept.linear in
       record {
         linear = kept.linear;

@@ -1,11 +1,14 @@
 -- What an expansion adds to the nodes of a run.
-use Rattle.std.specs.Prelude.{◌≡◌, ℕ, ◌<◌, ◌^◌, List, [], ◌++◌, map, get_or, None, IfSome}
+use Rattle.std.specs.Prelude.{◌≡◌, ℕ, ◌<◌, ◌^◌, List, [], ◌++◌, map, length, get_or, None, IfSome}
 use Rattle.wf_model.specs.Lists.{IsIn, numbers_from}
 use Rattle.wf_model.specs.Grammar.{Grammar}
+use Rattle.wf_model.specs.declared.event.Event.{Event}
+use Rattle.wf_model.specs.declared.event.Event.TheVariants.{Expand}
+use Rattle.wf_model.specs.Faults.{fault_of}
 use Rattle.bit_pack.specs.Written.{first_bits, IsWhole}
 use Rattle.wf_run.specs.declared.node.Node.{Node as NodeHeld}
 use Rattle.wf_run.specs.declared.prefix.PrefixRef.{PrefixRef}
-use Rattle.wf_run.specs.Runs.{Node, Prefix}
+use Rattle.wf_run.specs.Runs.{Node, Prefix, RunSeen, name_at, IsRunOf}
 use Rattle.wf_run.specs.Nodes.{node_of}
 use Rattle.wf_run.specs.Opening.{child_node}
 
@@ -33,3 +36,8 @@ pub record AddsChildren (g : Grammar) (p : ℕ) (parent : Prefix) (count : ℕ) 
   pub is : new ≡ old ++ more
   pub nodes : map node_of more ≡ map (child_node g p parent) (numbers_from 0 count)
   pub whole : (n : NodeHeld) → IsIn n more → IsWhole n.bytes.now n.length
+
+-- instance k of a run is there, and an event that expands it by production p with these names extends the run
+pub record CanOpen (r : RunSeen) (k p : ℕ) (names : List (List ℕ)) : Type 0 where
+  pub there : k < length r.nodes
+  pub extends : (events : List Event) → IsRunOf r events → fault_of r.grammar.core r.most events (Expand (name_at r k) p names) ≡ None
