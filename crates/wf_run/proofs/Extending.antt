@@ -14,7 +14,7 @@ use Rattle.wf_run.specs.Runs.{RunSeen, node_at, name_at, IsRunOf}
 use Rattle.wf_run.specs.Opening.{opened_run}
 use Rattle.wf_run.specs.Growing.{CanOpen}
 use Rattle.wf_run.proofs.NamedInstances.{unknown}
-use Rattle.wf_run.proofs.NextEvents.{accepted_next}
+use Rattle.wf_run.proofs.NextEvents.{accepted_next, expanded_next}
 use Rattle.wf_run.proofs.OpenedNodes.{length-opened}
 use Rattle.wf_run.proofs.OpenedRun.{opened_is_run}
 use Rattle.wf_run.proofs.Limits.{nodes_within, chain_small}
@@ -57,3 +57,10 @@ pub few_productions : (r : RunSeen) (events : List Event) (name : List ℕ) (p :
 few_productions r events name p names wf run extends =
     let can = (AllExtend-append r.grammar.core r.grammar.core.start [] events (Expand name p names ∷ []) (accepted_next r events run (Expand name p names) extends).0).1.0 in
     omega (arith, can.in_range, wf.few_productions)
+
+-- a run that took the event by its numbers is the run after it
+pub next_run : (r new : RunSeen) (events : List Event) (name : List ℕ) (k p q : ℕ) (names given : List (List ℕ)) → IsWellFormed r.grammar.core → IsRunOf r events → position (bytes_eq name) r.names ≡ Some k → fault_of r.grammar.core r.most events (Expand name p names) ≡ None →
+    q ≡ p → given ≡ names → new ≡ opened_run r k q given → IsRunOf new (events ++ Expand name p names ∷ [])
+next_run r new events name k p q names given wf run place extends same_number same_names is =
+    subst (λ a. IsRunOf a (events ++ Expand name p names ∷ [])) (sym (is ∙ (ap (λ i. opened_run r k i given) same_number ∙ ap (opened_run r k p) same_names)))
+    (expanded_next r events run wf name k p names place extends)
