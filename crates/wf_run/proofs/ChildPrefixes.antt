@@ -6,7 +6,7 @@ use Rattle.wf_model.specs.WellFormed.{IsWellFormed}
 use Rattle.wf_model.specs.Reach.{Step, target_of}
 use Rattle.wf_model.specs.Linear.{IsLinear}
 use Rattle.label_model.specs.Continuing.{continues, is_composite, is_step}
-use Rattle.label_model.specs.Labels.{PlaceStep, step_bits}
+use Rattle.label_model.specs.Labels.{step_bits}
 use Rattle.label_model.specs.Places.{chain_at, chain_by}
 use Rattle.wf_recur.specs.Cycles.{CyclesSeen, OnSeen, AreCyclesOf}
 use Rattle.wf_run.specs.Runs.{Prefix}

@@ -1,9 +1,8 @@
 -- Continuing steps, as a table of cycles tells them.
-use Rattle.std.proofs.Common.{◌≡◌, ℕ, ◌<◌, ◌∙◌, length, get_or, Option, Some, None, refl, sym, ap, inl, inr, ⊎_elim, arith}
+use Rattle.std.proofs.Common.{◌≡◌, ℕ, ◌<◌, length, get_or, Option, Some, None, refl, sym, ⊎_elim}
 use Rattle.std.specs.Prelude.{option_map}
 use Rattle.wf_model.specs.Grammar.{Grammar}
 use Rattle.wf_model.specs.WellFormed.{IsWellFormed}
-use Rattle.wf_model.specs.Reach.{Step}
 use Rattle.wf_model.specs.Linear.{IsLinear}
 use Rattle.label_model.specs.Continuing.{continuing}
 use Rattle.label_model.proofs.Finding.{cases_option}

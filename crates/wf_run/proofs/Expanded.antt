@@ -1,8 +1,8 @@
 -- The nodes of a run where an instance got its children.
-use Rattle.std.proofs.Common.{◌≡◌, ℕ, zero, suc, ◌<◌, ◌^◌, ◌∙◌, ◌⊎◌, List, [], ◌∷◌, ◌++◌, map, length, get_or, set, Option, None, Some, refl, sym, ap, subst, inl, inr, ⊎_elim, arith}
+use Rattle.std.proofs.Common.{◌≡◌, ℕ, zero, suc, ◌<◌, ◌^◌, ◌∙◌, ◌⊎◌, List, [], ◌∷◌, ◌++◌, map, length, get_or, set, Some, sym, ap, subst, inl, inr, ⊎_elim, arith}
 use Rattle.std.specs.Prelude.{IfSome}
 use Rattle.std.specs.Borrow.{Bor}
-use Rattle.std.proofs.lemmas.List.{get_or-map, get_or_read, get_or_append_left, set-append_left, map-set, map-append, length-map}
+use Rattle.std.proofs.lemmas.List.{get_or-map, get_or_append_left, set-append_left, map-set, map-append, length-map}
 use Rattle.wf_model.specs.Lists.{IsIn, numbers_from}
 use Rattle.wf_model.specs.Grammar.{Grammar}
 use Rattle.wf_model.proofs.Lists.{in_append_cases}
@@ -10,7 +10,7 @@ use Rattle.bit_pack.specs.Written.{IsWhole}
 use Rattle.wf_run.specs.declared.node.Node.{Node as NodeHeld}
 use Rattle.wf_run.specs.declared.node.NodeNo.{NodeNo}
 use Rattle.wf_run.specs.declared.prefix.PrefixRef.{PrefixRef}
-use Rattle.wf_run.specs.Runs.{Node, Prefix}
+use Rattle.wf_run.specs.Runs.{Node}
 use Rattle.wf_run.specs.Nodes.{node_of, IsFilledPrefix}
 use Rattle.wf_run.specs.Opening.{child_node, with_children, opened_nodes}
 use Rattle.wf_run.specs.Growing.{prefix_of, held_at, CanGoOn, AddsChildren}

@@ -1,13 +1,13 @@
 -- Nodes that are appended, one after another.
-use Rattle.std.proofs.Common.{◌≡◌, ℕ, zero, suc, ◌+◌, ◌-◌, ◌≤◌, ◌∙◌, List, [], ◌∷◌, ◌++◌, map, length, take, refl, sym, ap, subst, ⊎_elim, arith, append_assoc, append-nil}
+use Rattle.std.proofs.Common.{◌≡◌, ℕ, suc, ◌+◌, ◌-◌, ◌≤◌, ◌∙◌, List, [], ◌∷◌, ◌++◌, map, length, take, refl, sym, ap, subst, ⊎_elim, arith, append_assoc, append-nil}
 use Rattle.std.proofs.lemmas.List.{map-append, take_at}
-use Rattle.wf_model.specs.Lists.{IsIn, numbers_from}
+use Rattle.wf_model.specs.Lists.{numbers_from}
 use Rattle.wf_model.specs.Grammar.{Grammar}
 use Rattle.wf_model.proofs.Lists.{in_append_cases}
 use Rattle.bit_pack.specs.Written.{IsWhole}
 use Rattle.wf_spec.proofs.Tables.{numbers_from-last}
 use Rattle.wf_run.specs.declared.node.Node.{Node as NodeHeld}
-use Rattle.wf_run.specs.Runs.{Node, Prefix}
+use Rattle.wf_run.specs.Runs.{Prefix}
 use Rattle.wf_run.specs.Nodes.{node_of}
 use Rattle.wf_run.specs.Opening.{child_node}
 use Rattle.wf_run.specs.Growing.{AddsChildren}

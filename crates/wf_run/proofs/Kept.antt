@@ -1,11 +1,8 @@
 -- What the fields of a run keep, an expansion later.
-use Rattle.std.proofs.Common.{◌≡◌, ℕ, suc, ◌+◌, ◌^◌, ◌<◌, ◌∙◌, List, [], ◌∷◌, ◌++◌, map, length, None, sym, ap, subst, arith}
-use Rattle.std.proofs.lemmas.List.{length-map}
+use Rattle.std.proofs.Common.{◌≡◌, ℕ, suc, ◌+◌, ◌^◌, ◌<◌, ◌∙◌, List, [], ◌∷◌, ◌++◌, map, length, sym, ap, subst, arith}
 use Rattle.wf_model.specs.Lists.{IsIn}
 use Rattle.wf_model.specs.WellFormed.{IsWellFormed}
-use Rattle.wf_model.specs.declared.event.Event.{Event}
 use Rattle.wf_model.specs.declared.event.Event.TheVariants.{Expand}
-use Rattle.wf_model.specs.Faults.{fault_of}
 use Rattle.wf_model.proofs.Lists.{in_at, at_below, at_is, in_map}
 use Rattle.bit_pack.specs.Written.{IsWhole}
 use Rattle.wf_spec.specs.Held.{HeldGrammar}

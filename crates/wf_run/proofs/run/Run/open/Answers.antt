@@ -1,9 +1,9 @@
-use Rattle.std.proofs.Common.{◌+◌, ◌<◌, ◌≤◌, ◌^◌, length, sym, subst, arith}
+use Rattle.std.proofs.Common.{sym, subst, arith}
 use Rattle.std.proofs.lemmas.List.{length-map}
 use Rattle.wf_run.specs.Runs.{RunSeen}
 use Rattle.wf_run.specs.Nodes.{node_of, run_of}
 use Rattle.wf_run.specs.Growing.{CanOpen}
-use Rattle.wf_run.proofs.Extending.{in_range, one_each, fresh, room, can_rise}
+use Rattle.wf_run.proofs.Extending.{one_each, fresh, room, can_rise}
 use Rattle.wf_run.proofs.Kept.{kept_after}
 use Rattle.wf_run.proofs.Limits.{expands_small}
 use Rattle.wf_run.proofs.run.Run.open.Goals as goal
