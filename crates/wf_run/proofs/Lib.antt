@@ -1,4 +1,10 @@
 pub mod Whole
+pub mod Packed
+pub mod Cycles
+pub mod Alternatives
+pub mod ChildPrefixes
+pub mod Growing
+pub mod Expanded
 pub mod Started
 pub mod NamedInstances
 pub mod Numbering
@@ -7,3 +13,7 @@ pub mod OpenedNodes
 pub mod OpenedRun
 pub mod NextEvents
 pub mod Limits
+pub mod Extending
+pub mod Kept
+pub mod Roots
+pub mod Begun

@@ -2,3 +2,4 @@ pub mod Runs
 pub mod Names
 pub mod Nodes
 pub mod Opening
+pub mod Growing

@@ -4,9 +4,12 @@
 //! The idea is that of Bao, Davidson and Milo, "Labeling Workflow Views with Fine-Grained Dependencies", VLDB 2012, section 4 (compressed parse trees).
 #![tactic(auto)]
 
+mod child;
+mod grow;
 mod names;
 mod node;
 mod prefix;
+mod root;
 mod run;
 
 pub use node::NodeNo;

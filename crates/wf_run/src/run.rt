@@ -5,18 +5,25 @@ ghost use Rattle.wf_model.specs.declared.event.Event.TheVariants.{Start, Expand}
 ghost use Rattle.wf_model.specs.declared.event.RunFault.TheVariants.{NoMemory};
 ghost use Rattle.wf_model.specs.Faults.{fault_of};
 ghost use Rattle.wf_model.specs.Linear.{IsLinear};
+ghost use Rattle.wf_model.specs.WellFormed.{IsWellFormed};
 ghost use Rattle.bit_pack.specs.Bits.{packed};
+ghost use Rattle.run_faults.specs.Standing.{IsFound};
 ghost use Rattle.wf_recur.specs.Cycles.{AreCyclesOf};
 ghost use Rattle.wf_run.specs.Runs.{RunSeen, node_at, name_at, IsRunOf, GoesOn};
+ghost use Rattle.wf_run.specs.Opening.{opened_run};
+ghost use Rattle.wf_run.specs.Growing.{CanOpen};
 
+use crate::grow::{Expansion, grow};
 use crate::names::PlacedNames;
 use crate::node::{Node, NodeNo};
 use crate::prefix::PrefixRef;
+use crate::root::{plant, root};
 use bumpalo::Bump;
-use std::alloc::Global;
+use run_faults::{Found, expand_fault, start_fault};
+use std::alloc::{AllocError, Global};
 use std::marker::Model;
 use wf_recur::Cycles;
-use wf_spec::{Grammar, ModNo, Name, RunFault};
+use wf_spec::{Grammar, ModNo, Name, ProdNo, RunFault};
 
 /// A run of a strictly linear grammar. Its instances are numbered from 0 in order of making. Names, prefixes and lists of children lie in an arena, and are placed there once and never written again.
 #[derive(Drop)]
@@ -154,7 +161,107 @@ impl<'a> Run<'a> {
         ensures refused { IfErr result (λ f. (f ≡ NoMemory) ⊎ ((events : List Event) → IsRunOf self.old events → fault_of self.old.grammar.core self.old.most events (Start name.now) ≡ Some f)) }
         ensures unchanged { OnErr result (self.new ≡ self.old) }
     {
-        Err(RunFault::NoMemory)
+        if let Some(fault) = self.fault_of_start(name) {
+            return Err(fault);
+        }
+        let root = root(self.grammar, self.cycles);
+        plant(&mut self.names, &mut self.nodes, root, name)?;
+        Ok(NodeNo(0))
+    }
+
+    /// Why the run refuses to start by an instance of a name.
+    fn fault_of_start(&self, name: &[u8]) -> Option<RunFault>
+        ensures { (events : List Event) → IsRunOf self.now events → result ≡ fault_of self.now.grammar.core self.now.most events (Start name.now) }
+    {
+        start_fault(!self.nodes.is_empty(), self.most, name)
+    }
+
+    /// What the faults of an event depend on, of an instance that was looked up.
+    fn found(&self, n: Option<NodeNo>) -> Option<Found>
+        requires { IfSome n (λ n. n.0 < length self.now.nodes) }
+        ensures { (events : List Event) (name : List ℕ) → IsRunOf self.now events → option_map (λ n. n.0) n ≡ position (bytes_eq name) self.now.names → IsFound self.now.grammar.core events name result }
+    {
+        let Some(n) = n else {
+            return None;
+        };
+        Some(Found {
+            module: self.module(n),
+            expanded: self.children(n).is_some(),
+        })
+    }
+
+    /// Why the run refuses to expand an instance that was looked up.
+    fn fault_of_expand(
+        &self,
+        n: Option<NodeNo>,
+        production: u64,
+        names: &[Name],
+    ) -> Option<RunFault>
+        requires { IfSome n (λ n. n.0 < length self.now.nodes) }
+        ensures { (events : List Event) (name : List ℕ) → IsRunOf self.now events → option_map (λ n. n.0) n ≡ position (bytes_eq name) self.now.names → result ≡ fault_of self.now.grammar.core self.now.most events (Expand name production names.now) }
+    {
+        let found = self.found(n);
+        let count = self.nodes.len();
+        expand_fault(
+            self.grammar,
+            self.most,
+            &self.names,
+            count,
+            found,
+            production,
+            names,
+        )
+    }
+
+    /// The numbers of an event that extends the run, or why it does not.
+    fn expansion<'n>(
+        &self,
+        instance: &[u8],
+        production: u64,
+        names: &'n [Name],
+    ) -> Result<Expansion<'n>, RunFault>
+        ensures refused { IfErr result (λ f. (events : List Event) → IsRunOf self.now events → fault_of self.now.grammar.core self.now.most events (Expand instance.now production names.now) ≡ Some f) }
+        ensures extends { OnOk result ((events : List Event) → IsRunOf self.now events → fault_of self.now.grammar.core self.now.most events (Expand instance.now production names.now) ≡ None) }
+        ensures instance { IfOk result (λ e. position (bytes_eq instance.now) self.now.names ≡ Some e.instance.0) }
+        ensures production { IfOk result (λ e. e.production.0 ≡ production) }
+        ensures names { IfOk result (λ e. e.names.now ≡ names.now) }
+        ensures opens { IfOk result (λ e. CanOpen self.now e.instance.0 e.production.0 e.names.now) }
+    {
+        // A grammar is well-formed: the number of a production has 16 bits.
+        let _formed = self.grammar.start();
+        let n = self.find(instance);
+        if let Some(fault) = self.fault_of_expand(n, production, names) {
+            return Err(fault);
+        }
+        let Some(k) = n else {
+            unreachable!();
+        };
+        Ok(Expansion {
+            instance: k,
+            production: ProdNo(production as u16),
+            names,
+        })
+    }
+
+    /// Takes an expansion that extends the run. After an error the run is as it was.
+    fn open(&mut self, e: Expansion) -> Result<(), AllocError>
+        requires { CanOpen self.old e.instance.0 e.production.0 e.names.now }
+        ensures opened { OnOk result (self.new ≡ opened_run self.old e.entry.instance.0 e.entry.production.0 e.entry.names.now) }
+        ensures formed { IsWellFormed self.old.grammar.core }
+        ensures unchanged { OnErr result (self.new ≡ self.old) }
+    {
+        let _formed = self.grammar.start();
+        grow(
+            self.alloc,
+            self.arena,
+            self.grammar,
+            self.cycles,
+            &mut self.names,
+            &mut self.nodes,
+            e,
+        )?;
+        self.expands += 1;
+        Ok(())
     }
 
     /// Expands an instance by the production of a number, with a name for each position, and gives the number of the first child. After an error the run is as it was.
@@ -175,6 +282,9 @@ impl<'a> Run<'a> {
         ensures refused { IfErr result (λ f. (f ≡ NoMemory) ⊎ ((events : List Event) → IsRunOf self.old events → fault_of self.old.grammar.core self.old.most events (Expand instance.now production names.now) ≡ Some f)) }
         ensures unchanged { OnErr result (self.new ≡ self.old) }
     {
-        Err(RunFault::NoMemory)
+        let e = self.expansion(instance, production, names)?;
+        let first = self.instances();
+        self.open(e)?;
+        Ok(NodeNo(first))
     }
 }

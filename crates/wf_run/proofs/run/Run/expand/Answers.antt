@@ -1,0 +1,7 @@
+use Rattle.wf_run.proofs.Extending.{next_run}
+use Rattle.wf_run.proofs.run.Run.expand.Goals as goal
+
+pub returns-clause-taken : goal.returns-clause-taken
+returns-clause-taken c events run =
+    let e = c.in_ok-e.ensures in
+    next_run c.args.self.now _ events c.args.instance.now c.in_ok-e.e.instance.0 c.args.production c.in_ok-e.e.production.0 c.args.names.now c.in_ok-e.e.names.now c.in_ok-open.ensures.formed run e.instance (e.extends events run) e.production e.names c.in_ok-open.ensures.opened

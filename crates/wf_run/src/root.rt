@@ -1,0 +1,63 @@
+// The first instance of a run.
+ghost use Rattle.std.specs.Prelude.{◌≡◌, ◌∷◌, [], OnOk, OnErr};
+ghost use Rattle.wf_model.specs.Linear.{IsLinear};
+ghost use Rattle.wf_model.specs.WellFormed.{IsWellFormed};
+ghost use Rattle.wf_recur.specs.Cycles.{AreCyclesOf};
+ghost use Rattle.wf_run.specs.Nodes.{node_of, IsFilledPrefix};
+ghost use Rattle.wf_run.specs.Opening.{closed_node, root_prefix};
+
+use crate::child::{begun, is_composite};
+use crate::names::PlacedNames;
+use crate::node::Node;
+use std::alloc::AllocError;
+use wf_recur::Cycles;
+use wf_spec::Grammar;
+
+/// The root: its prefix has one bit, which is set, and no bits where the start module is atomic.
+pub(crate) fn root<'a>(g: &Grammar, cycles: &Cycles) -> Node<'a>
+    requires linear { IsLinear g.now.core }
+    requires cycles { AreCyclesOf g.now.core cycles.now }
+    ensures node { node_of result ≡ closed_node g.now.core.start (root_prefix g.now.core) }
+    ensures filled { IsFilledPrefix result }
+    ensures formed { IsWellFormed g.now.core }
+{
+    let start = g.start();
+    if !is_composite(g, start) {
+        return Node {
+            bytes: &[],
+            children: None,
+            chain: None,
+            length: 0,
+            module: start,
+        };
+    }
+    Node {
+        bytes: &[128],
+        children: None,
+        chain: begun(cycles, start),
+        length: 1,
+        module: start,
+    }
+}
+
+/// Adds the root, or leaves all as it was.
+pub(crate) fn plant<'a>(
+    names: &mut PlacedNames<'a>,
+    nodes: &mut Vec<Node<'a>>,
+    root: Node<'a>,
+    name: &[u8],
+) -> Result<(), AllocError>
+    requires no_names { names.old ≡ [] }
+    requires no_nodes { nodes.old.items ≡ [] }
+    ensures names { OnOk result (names.new ≡ name.now ∷ []) }
+    ensures nodes { OnOk result (nodes.new.items ≡ root.entry ∷ []) }
+    ensures same_names { OnErr result (names.new ≡ names.old) }
+    ensures same_nodes { OnErr result (nodes.new.items ≡ nodes.old.items) }
+{
+    nodes.push(root)?;
+    if let Err(fault) = names.add(name) {
+        nodes.truncate(0);
+        return Err(fault);
+    }
+    Ok(())
+}
