@@ -1,1 +1,2 @@
 pub mod ByTable
+pub mod ByAlternative
