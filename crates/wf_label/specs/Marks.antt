@@ -1,5 +1,5 @@
 -- The marks of a label: what it tells, in order, with the productions and steps that its numbers name in the grammar.
-use Rattle.std.specs.Prelude.{◌≡◌, ◌≢◌, ℕ, ◌+◌, ◌^◌, ◌<◌, Bool, true, false, List, [], ◌∷◌, ◌++◌, length, get_or, flat_map, Option, Some, None}
+use Rattle.std.specs.Prelude.{◌≡◌, ◌≢◌, ℕ, ◌+◌, ◌^◌, ◌<◌, Bool, true, false, List, [], ◌∷◌, ◌++◌, length, get_or, flat_map, Option, Some, None, MatchOption}
 use Rattle.wf_model.specs.Grammar.{Grammar, production_at, alternative_of, IsProductionOf}
 use Rattle.wf_model.specs.Reach.{Step, target_of}
 use Rattle.wf_model.specs.Linear.{IsStepOf, IsLinear}
@@ -96,6 +96,10 @@ AreAhead g (Entered m) bits marks = BeginMarks g m.0 false bits marks
 AreAhead g (Passed m) bits marks = BeginMarks g m.0 true bits marks
 AreAhead g Nothing bits marks = marks ≡ []
 
+-- some marks are ahead
+abbrev pub HasMarks : Grammar → Ahead → List Bool → Type 0
+HasMarks g ahead bits = (marks : List Mark) × AreAhead g ahead bits marks
+
 -- a cursor: its grammar, what is ahead, and the bits that are left
 pub record CursorSeen : Type 0 where
   pub grammar : Grammar
@@ -110,8 +114,14 @@ AreLeft c marks = AreAhead c.grammar c.ahead c.left marks
 pub record IsReading (g : Grammar) (cycles : CyclesSeen) (ahead : Ahead) (bits : List Bool) : Type 0 where
   pub linear : IsLinear g
   pub cycles_are : AreCyclesOf g cycles
-  pub some_marks : (marks : List Mark) × AreAhead g ahead bits marks
+  pub marks : HasMarks g ahead bits
 
--- a mark is read, and of whatever marks were ahead it is the first, and the others are ahead then
-abbrev pub IsNextMark : Grammar → Ahead → List Bool → Mark → Ahead → List Bool → Type 0
-IsNextMark g before bits mark then left = (marks : List Mark) → AreAhead g before bits marks → (rest : List Mark) × (marks ≡ mark ∷ rest) × AreAhead g then left rest
+-- a mark is read: of whatever marks were ahead it is the first, and the others are ahead then
+abbrev pub IsFirst : Grammar → Ahead → List Bool → MarkHeld → Ahead → List Bool → Type 0
+IsFirst g before bits mark then left = (marks : List Mark) → AreAhead g before bits marks → (rest : List Mark) × (marks ≡ mark_of mark ∷ rest) × AreAhead g then left rest
+
+-- a cursor tells a mark: of whatever marks were left it is the first, and the others are left then; it tells none where none is left
+abbrev pub IsNext : CursorSeen → Option MarkHeld → CursorSeen → Type 0
+IsNext old told new =
+    (marks : List Mark) → AreLeft old marks →
+    MatchOption told ((marks ≡ []) × AreLeft new []) (λ k. (rest : List Mark) × (marks ≡ mark_of k ∷ rest) × AreLeft new rest)

@@ -5,13 +5,16 @@
 //! The idea is that of Bao, Davidson and Milo, "Labeling Workflow Views with Fine-Grained Dependencies", VLDB 2012; the bits are this project's.
 #![tactic(auto)]
 
+mod check;
 mod cursor;
 mod label;
+mod parts;
 mod passing;
 mod reference;
 mod write;
 
-pub use cursor::Mark;
+pub use check::Malformed;
+pub use cursor::{Cursor, Mark};
 pub use label::{Label, Place, PlaceStep};
 pub use reference::LabelRef;
 pub use write::{write_ending, write_label, write_step};
