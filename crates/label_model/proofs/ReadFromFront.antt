@@ -92,7 +92,7 @@ label_left g bits (OfEdge p) z h few q =
     (record { place = p; of_it = h; padding = z; few = few; is = append_assoc (flat_map step_bits p.steps) (ending_bits p.chain p.alternative p.edge) (replicate z false) })
 
 -- and what is left so is a label
-left_label : (g : Grammar) (bits : List Bool) → IsLabelLeft g bits → (l : Label) × (z : ℕ) × IsLabel g l × (z < 8) × (bits ≡ label_bits l ++ replicate z false)
+pub left_label : (g : Grammar) (bits : List Bool) → IsLabelLeft g bits → (l : Label) × (z : ℕ) × IsLabel g l × (z < 8) × (bits ≡ label_bits l ++ replicate z false)
 unfolding label_bits
 left_label g [] h = absurd h
 left_label g (true ∷ bits) h = (OfEdge h.place, h.padding, h.of_it, h.few, ap (λ z. true ∷ z) (h.is ∙ sym (append_assoc (flat_map step_bits h.place.steps) (ending_bits h.place.chain h.place.alternative h.place.edge) (replicate h.padding false))))

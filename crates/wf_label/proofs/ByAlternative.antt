@@ -39,6 +39,6 @@ pub at_alternative : (g : Grammar) (p m : ℕ) → IsProductionOf g p m → (alt
 at_alternative g p m h =
     let inside = h.0 in
     let count : length (headed g.productions p m) ≡ alternative_of g p =
-        headed_count g.productions p m (omega arith) ∙ ap (λ k. count_by (λ (r : Production). r.head == k) (take p g.productions)) (sym h.1) in
+    headed_count g.productions p m (omega arith) ∙ ap (λ k. count_by (λ (r : Production). r.head == k) (take p g.productions)) (sym h.1) in
     let r = headed_at g.productions (length g.productions) p m h.0 h.1 in
     (subst (λ a. a < length (productions_of g m)) count r.0, ap (λ a. get_or (productions_of g m) a 0) (sym count) ∙ r.1)

@@ -1,6 +1,9 @@
-pub mod AlternativeNumbers
-pub mod ByAlternative
 pub mod ByTable
-pub mod LabelFirst
+pub mod ByAlternative
+pub mod AlternativeNumbers
+pub mod Passes
+pub mod PartsLeft
+pub mod WholeLabels
 pub mod MarksRead
 pub mod MarksSpelled
+pub mod LabelFirst

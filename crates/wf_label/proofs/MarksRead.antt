@@ -131,8 +131,7 @@ module _ (g : Grammar) where
       let s = same_part m p b bits (gamma (n + 1) ++ left) marks h of_it e in
       let r = same_code n h.number left h.left s.left_is in
       let k = s.kind in
-      let d = s.production in
-      (
+      let d = s.production in (
         h.rest,
         h.marks_are ∙ (ap (λ z. mark_by z h.production h.number ∷ h.rest) k ∙ (ap (λ z. mark_by b z h.number ∷ h.rest) d ∙ ap (λ z. mark_by b p z ∷ h.rest) (sym r.0))),
         subst (λ z. Goes g b p n z h.rest) (sym r.1) (subst (λ z. Goes g b p z h.left h.rest) (sym r.0) (subst (λ z. Goes g b z h.number h.left h.rest) d (subst (λ z. Goes g z h.production h.number h.left h.rest) k h.goes))),
@@ -196,8 +195,7 @@ module _ (g : Grammar) where
       (rest : List Mark) × (marks ≡ Chain c ∷ rest) × BeginMarks g (after g c m) true left rest
   chain_read m c bits left marks on h e =
       let f = chain_first m bits marks on h in
-      let r = same_code c f.chain left f.left (sym e ∙ f.is) in
-      (
+      let r = same_code c f.chain left f.left (sym e ∙ f.is) in (
         f.rest,
         f.marks_are ∙ ap (λ z. Chain z ∷ f.rest) (sym r.0),
         subst (λ z. BeginMarks g (after g c m) true z f.rest) (sym r.1) (subst (λ z. BeginMarks g (after g z m) true f.left f.rest) (sym r.0) f.goes),

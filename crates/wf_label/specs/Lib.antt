@@ -1,3 +1,3 @@
 pub mod Values
-pub mod Marks
 pub mod Parts
+pub mod Marks

@@ -58,7 +58,10 @@ fn part_mark(g: &Grammar, bits: &mut BitReader<'_>, m: ModNo) -> (Mark, Ahead)
         let i = read_number(bits, positions.len()).unwrap();
         prove!(i < 64);
         let position = PosNo(i as u8);
-        let step = Step { production, position };
+        let step = Step {
+            production,
+            position,
+        };
         return (Mark::Into(step), Ahead::Entered(positions[i].module));
     }
     let e = read_number(bits, rule.edges().len()).unwrap();
@@ -68,12 +71,7 @@ fn part_mark(g: &Grammar, bits: &mut BitReader<'_>, m: ModNo) -> (Mark, Ahead)
 }
 
 /// Reads the chain number of a module, or what comes next if the module is on no cycle.
-fn place_mark(
-    g: &Grammar,
-    cycles: &Cycles,
-    bits: &mut BitReader<'_>,
-    m: ModNo,
-) -> (Mark, Ahead)
+fn place_mark(g: &Grammar, cycles: &Cycles, bits: &mut BitReader<'_>, m: ModNo) -> (Mark, Ahead)
     requires linear { IsLinear g.now.core }
     requires cycles { AreCyclesOf g.now.core cycles.now }
     requires marks { HasMarks g.now.core (Ahead.Entered m) bits.old.left }
