@@ -4,3 +4,6 @@ pub mod AlternativeNumbers
 pub mod Passes
 pub mod PartsLeft
 pub mod WholeLabels
+pub mod MarksRead
+pub mod MarksSpelled
+pub mod LabelFirst

@@ -6,6 +6,7 @@
 #![tactic(auto)]
 
 mod check;
+mod cursor;
 mod label;
 mod parts;
 mod passing;
@@ -13,6 +14,7 @@ mod reference;
 mod write;
 
 pub use check::Malformed;
+pub use cursor::{Cursor, Mark};
 pub use label::{Label, Place, PlaceStep};
 pub use reference::LabelRef;
 pub use write::{write_ending, write_label, write_step};

@@ -14,7 +14,7 @@ use wf_recur::Cycles;
 use wf_spec::{Grammar, ModNo, PosNo, ProdNo, Step};
 
 /// The continuing step of a module, and `None` where it stands on no cycle.
-fn continuing_step(g: &Grammar, cycles: &Cycles, m: ModNo) -> Option<Step>
+pub(crate) fn continuing_step(g: &Grammar, cycles: &Cycles, m: ModNo) -> Option<Step>
     requires linear { IsLinear g.now.core }
     requires cycles { AreCyclesOf g.now.core cycles.now }
     requires in_range { m.0 < length g.now.core.modules }
@@ -44,7 +44,7 @@ fn is_continuing(g: &Grammar, cycles: &Cycles, m: ModNo, step: Step) -> bool
 }
 
 /// Reads the code of a number with one added. The number is below `count`.
-fn read_number(reader: &mut BitReader<'_>, count: usize) -> Result<usize, Malformed>
+pub(crate) fn read_number(reader: &mut BitReader<'_>, count: usize) -> Result<usize, Malformed>
     requires { count < 2 ^ 63 }
     ensures below { IfOk result (λ n. n < count) }
     ensures read { IfOk result (λ n. IsNumberRead n reader.old reader.new) }
@@ -88,7 +88,11 @@ fn pass_chain(
 }
 
 /// Reads an alternative number of a module, and gives the production.
-fn read_alternative(g: &Grammar, reader: &mut BitReader<'_>, m: ModNo) -> Result<ProdNo, Malformed>
+pub(crate) fn read_alternative(
+    g: &Grammar,
+    reader: &mut BitReader<'_>,
+    m: ModNo,
+) -> Result<ProdNo, Malformed>
     requires { m.0 < length g.now.core.modules }
     ensures production { IfOk result (λ p. IsProductionOf g.now.core p.0 m.0) }
     ensures read { IfOk result (λ p. IsNumberRead (alternative_of g.now.core p.0) reader.old reader.new) }

@@ -1,5 +1,5 @@
 // Labels that lie in bytes.
-ghost use Rattle.std.specs.Prelude.{◌≡◌, length};
+ghost use Rattle.std.specs.Prelude.{◌≡◌, ◌^◌, ◌≤◌, length};
 ghost use Rattle.bit_pack.specs.Bits.{packed, Holds};
 ghost use Rattle.bit_pack.specs.Written.{first_bits, IsWhole};
 
@@ -36,6 +36,7 @@ impl<'a> LabelRef<'a> {
     pub fn bytes(&self) -> &'a [u8]
         ensures holds { Holds result.now self.now }
         ensures packed { result.now ≡ packed self.now }
+        ensures few { length result.now ≤ 2 ^ 29 }
     {
         self.bytes
     }

@@ -1,0 +1,184 @@
+// What a label tells, part by part.
+ghost use Rattle.std.specs.Prelude.{◌≡◌, ◌<◌, length, IfSome, MatchOption};
+ghost use Rattle.wf_model.specs.Linear.{IsLinear};
+ghost use Rattle.label_model.specs.Labels.{Label, label_bits, IsLabel};
+ghost use Rattle.wf_recur.specs.Cycles.{AreCyclesOf};
+ghost use Rattle.wf_label.specs.Marks.{marks_of, HasMarks, IsFirst, IsNext, AreLeft};
+ghost use Rattle.wf_label.specs.Values.{AreLabelBits};
+
+use crate::parts::{continuing_step, read_alternative, read_number};
+use crate::passing::passed;
+use crate::reference::LabelRef;
+use bit_pack::BitReader;
+use std::marker::Model;
+use wf_recur::Cycles;
+use wf_spec::{EdgeNo, Grammar, ModNo, PortNo, PosNo, ProdNo, Step};
+
+/// What a label tells next.
+#[derive(Clone, Copy, Debug, PartialEq, Eq)]
+pub enum Mark {
+    /// An input of the root.
+    Input(PortNo),
+    /// An output of the root.
+    Output(PortNo),
+    /// So many continuing steps.
+    Chain(u32),
+    /// A step that is not the continuing one.
+    Into(Step),
+    /// The production and the edge at which a place ends.
+    End { production: ProdNo, edge: EdgeNo },
+}
+
+/// What is ahead in a label.
+#[derive(Clone, Copy)]
+enum Ahead {
+    /// All of it.
+    Whole,
+    /// A place at a module, with a chain number first if the module is on a cycle.
+    Entered(ModNo),
+    /// A step or an ending at a module.
+    Passed(ModNo),
+    /// Nothing.
+    Nothing,
+}
+
+/// Reads a step or an ending at a module.
+fn part_mark(g: &Grammar, bits: &mut BitReader<'_>, m: ModNo) -> (Mark, Ahead)
+    requires { HasMarks g.now.core (Ahead.Passed m) bits.old.left }
+    ensures first { IsFirst g.now.core (Ahead.Passed m) bits.old.left result.0 result.1 bits.new.left }
+    ensures fewer { length bits.new.left < length bits.old.left }
+{
+    // A grammar is well-formed.
+    let _formed = g.start();
+    let is_step = bits.bit().unwrap();
+    let production = read_alternative(g, bits, m).unwrap();
+    let rule = g.production(production);
+    if is_step {
+        let positions = rule.positions();
+        let i = read_number(bits, positions.len()).unwrap();
+        prove!(i < 64);
+        let position = PosNo(i as u8);
+        let step = Step {
+            production,
+            position,
+        };
+        return (Mark::Into(step), Ahead::Entered(positions[i].module));
+    }
+    let e = read_number(bits, rule.edges().len()).unwrap();
+    prove!(e < 4096);
+    let edge = EdgeNo(e as u16);
+    (Mark::End { production, edge }, Ahead::Nothing)
+}
+
+/// Reads the chain number of a module, or what comes next if the module is on no cycle.
+fn place_mark(g: &Grammar, cycles: &Cycles, bits: &mut BitReader<'_>, m: ModNo) -> (Mark, Ahead)
+    requires linear { IsLinear g.now.core }
+    requires cycles { AreCyclesOf g.now.core cycles.now }
+    requires marks { HasMarks g.now.core (Ahead.Entered m) bits.old.left }
+    ensures first { IsFirst g.now.core (Ahead.Entered m) bits.old.left result.0 result.1 bits.new.left }
+    ensures fewer { length bits.new.left < length bits.old.left }
+{
+    // A grammar is well-formed.
+    let _formed = g.start();
+    if continuing_step(g, cycles, m).is_none() {
+        return part_mark(g, bits, m);
+    }
+    let c = read_number(bits, 1 << 24).unwrap() as u32;
+    (Mark::Chain(c), Ahead::Passed(passed(g, cycles, m, c)))
+}
+
+/// Reads a port of the root, or the first mark of the place of an edge.
+fn label_mark(g: &Grammar, cycles: &Cycles, bits: &mut BitReader<'_>) -> (Mark, Ahead)
+    requires linear { IsLinear g.now.core }
+    requires cycles { AreCyclesOf g.now.core cycles.now }
+    requires marks { HasMarks g.now.core Ahead.Whole bits.old.left }
+    ensures first { IsFirst g.now.core Ahead.Whole bits.old.left result.0 result.1 bits.new.left }
+    ensures fewer { length bits.new.left < length bits.old.left }
+{
+    let start = g.start();
+    let of_edge = bits.bit().unwrap();
+    if of_edge {
+        return place_mark(g, cycles, bits, start);
+    }
+    let is_output = bits.bit().unwrap();
+    let port = PortNo(read_number(bits, 64).unwrap() as u8);
+    if is_output {
+        return (Mark::Output(port), Ahead::Nothing);
+    }
+    (Mark::Input(port), Ahead::Nothing)
+}
+
+/// Reads the first mark of what is ahead, and tells what is ahead then.
+fn read_mark(
+    g: &Grammar,
+    cycles: &Cycles,
+    bits: &mut BitReader<'_>,
+    ahead: Ahead,
+) -> Option<(Mark, Ahead)>
+    requires linear { IsLinear g.now.core }
+    requires cycles { AreCyclesOf g.now.core cycles.now }
+    requires marks { HasMarks g.now.core ahead bits.old.left }
+    ensures first { MatchOption result ((ahead ≡ Ahead.Nothing) × (bits.new ≡ bits.old)) (λ r. IsFirst g.now.core ahead bits.old.left r.0 r.1 bits.new.left) }
+    ensures fewer { IfSome result (λ _. length bits.new.left < length bits.old.left) }
+{
+    match ahead {
+        Ahead::Whole => Some(label_mark(g, cycles, bits)),
+        Ahead::Entered(m) => Some(place_mark(g, cycles, bits, m)),
+        Ahead::Passed(m) => Some(part_mark(g, bits, m)),
+        Ahead::Nothing => None,
+    }
+}
+
+/// A reader of the marks of a label, one after another.
+///
+/// It takes no memory. A chain number is told as one mark, however many steps it stands for, and is not walked step by step.
+#[derive(Drop)]
+pub struct Cursor<'a, 'g> {
+    g: &'g Grammar,
+    cycles: &'g Cycles,
+    bits: BitReader<'a>,
+    ahead: Ahead,
+}
+
+impl<'a, 'g> Model for Cursor<'a, 'g> {
+    ghost use Rattle.wf_label.specs.Marks.{CursorSeen, IsReading};
+
+    ghost Value = { CursorSeen };
+
+    ghost view = { λ c. record { grammar = c.g.now.core; ahead = c.ahead; left = c.bits.left } };
+
+    ghost invariant = { λ c. IsReading c.g.now.core c.cycles.now c.ahead c.bits.left };
+}
+
+impl<'a, 'g> Cursor<'a, 'g> {
+    /// The next mark, and None behind the last.
+    ///
+    /// Cost: linear in the bits of the mark.
+    pub fn next(&mut self) -> Option<Mark>
+        ensures next { IsNext self.old result self.new }
+        ensures fewer { IfSome result (λ _. length self.new.left < length self.old.left) }
+        ensures same { self.new.grammar ≡ self.old.grammar }
+    {
+        let (mark, ahead) = read_mark(self.g, self.cycles, &mut self.bits, self.ahead)?;
+        self.ahead = ahead;
+        Some(mark)
+    }
+}
+
+impl<'a> LabelRef<'a> {
+    /// A reader of the marks of a label of the grammar, from its first on.
+    pub fn cursor<'g>(&self, g: &'g Grammar, cycles: &'g Cycles) -> Cursor<'a, 'g>
+        requires linear { IsLinear g.now.core }
+        requires cycles { AreCyclesOf g.now.core cycles.now }
+        requires label { AreLabelBits g.now.core self.now }
+        ensures marks { (l : Label) → IsLabel g.now.core l → self.now ≡ label_bits l → AreLeft result (marks_of g.now.core l) }
+        ensures grammar { result.grammar ≡ g.now.core }
+    {
+        Cursor {
+            g,
+            cycles,
+            bits: BitReader::new(self.bytes()),
+            ahead: Ahead::Whole,
+        }
+    }
+}
