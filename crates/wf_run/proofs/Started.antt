@@ -37,15 +37,15 @@ module _ (r : RunSeen) (name : List ℕ) (wf : IsWellFormed r.grammar.core) (run
   pub started_is_run : IsRunOf (started_run r name) (Start name ∷ [])
   started_is_run = record { accepted = acc; names = refl; modules = refl; each = root_alone; expands = run.expands }
 
-  pub started_goes_on : GoesOn r (started_run r name)
-  started_goes_on =
-      let e = none_before_start r run in
-      let l = ap length e in
-      record {
-        grammar = refl;
-        most = refl;
-        names = (name ∷ [], ap (λ ns. ns ++ name ∷ []) (sym run.names));
-        count = omega (arith, l);
-        modules = λ k h. absurd (omega (arith, l));
-        prefixes = λ k h. absurd (omega (arith, l));
-      }
+pub started_goes_on : (r : RunSeen) (name : List ℕ) → IsRunOf r [] → GoesOn r (started_run r name)
+started_goes_on r name run =
+    let e = none_before_start r run in
+    let l = ap length e in
+    record {
+      grammar = refl;
+      most = refl;
+      names = (name ∷ [], ap (λ ns. ns ++ name ∷ []) (sym run.names));
+      count = omega (arith, l);
+      modules = λ k h. absurd (omega (arith, l));
+      prefixes = λ k h. absurd (omega (arith, l));
+    }
