@@ -40,7 +40,7 @@ module _ (r : RunSeen) (name : List ℕ) (formed : IsWellFormed r.grammar.core) 
   begun_run = subst (λ a. IsRunOf (started_run r name) (a ++ Start name ∷ [])) (sym first) (started_is_run r name formed not_begun accepted)
 
   pub begun_on : GoesOn r (started_run r name)
-  begun_on = started_goes_on r name formed not_begun accepted
+  begun_on = started_goes_on r name not_begun
 
 -- the fields after the root was added
 module _ (g : HeldGrammar) (most : ℕ) (names new : List (List ℕ)) (nodes : List NodeHeld) (xs : List NodeHeld) (expands : ℕ) (x : NodeHeld) (name : List ℕ) (named : new ≡ name ∷ []) (one : xs ≡ x ∷ []) (root : node_of x ≡ closed_node g.core.start (root_prefix g.core)) where

@@ -26,10 +26,6 @@ pub record CanGoOn (p : PrefixRef) : Type 0 where
 abbrev pub held_at : List NodeHeld → ℕ → Node
 held_at nodes k = get_or (map node_of nodes) k (record { module_no = 0; children = None; bits = []; chain = None })
 
--- its prefix
-abbrev pub held_prefix : List NodeHeld → ℕ → Prefix
-held_prefix nodes k = record { bits = (held_at nodes k).bits; chain = (held_at nodes k).chain }
-
 -- the nodes of the children at the first positions, so many, of an instance with this prefix were added; each has bytes that are filled
 pub record AddsChildren (g : Grammar) (p : ℕ) (parent : Prefix) (count : ℕ) (old new : List NodeHeld) : Type 0 where
   pub more : List NodeHeld

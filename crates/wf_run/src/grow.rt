@@ -75,7 +75,7 @@ pub(crate) struct Expansion<'n> {
 
 /// Adds an expansion: the nodes of the children, their names, and to the instance the list of them. After an error all is as it was.
 ///
-/// The only error is that memory is refused. The list is set last, so nothing is to be taken back where a child or a name was refused but what was appended.
+/// The only error is that memory is refused. The list is set last, and nothing after it can be refused.
 pub(crate) fn grow<'a>(
     alloc: Global,
     arena: &'a Bump,

@@ -9,7 +9,7 @@ use Rattle.wf_run.proofs.Limits.{expands_small}
 use Rattle.wf_run.proofs.run.Run.open.Goals as goal
 
 pub grow-requires-clause-one_each : goal.grow-requires-clause-one_each
-grow-requires-clause-one_each c = 
+grow-requires-clause-one_each c =
     let i = c.self.inside in
     let k = c.self.invariant in
     let opens = subst (λ (r : RunSeen). CanOpen r c.args.e.instance.0 c.args.e.production.0 c.args.e.names.now) (sym c.self.view_is) c.requires in
