@@ -319,9 +319,8 @@ impl PlainRun {
         if let Some(fault) = self.expand_fault(g, name, number, production, names) {
             return Err(fault);
         }
-        // An event that has no fault names an instance.
         let Some(k) = number else {
-            return Err(RunFault::UnknownInstance);
+            unreachable!();
         };
         Ok(k)
     }
