@@ -24,7 +24,7 @@ use Rattle.wf_flat.specs.declared.item.Item.{Item as ItemHeld}
 use Rattle.wf_flat.specs.Table.{Table, IsRunOf, IsParentAt, instance_of, names_in, events_of, events_by, no_instance}
 use Rattle.wf_flat.specs.Graph.{named_port}
 use Rattle.wf_flat.specs.Item.{named_item, IsItemWithin, IsItemOfEdge}
-use Rattle.wf_flat.proofs.Tests.{at_map, same_names}
+use Rattle.wf_flat.proofs.Instances.{at_map, same_names}
 use Rattle.wf_flat.proofs.OfInstance.{module_there, production_there}
 use Rattle.wf_flat.proofs.Dots.{none_passes, not_dotted, split_at}
 use Rattle.wf_flat.proofs.Givers.{given_made, made_name, expanding}

@@ -17,7 +17,7 @@ use Rattle.wf_model.proofs.Level.{opening}
 use Rattle.wf_flat.specs.declared.table.Inst.{Inst}
 use Rattle.wf_flat.specs.Table.{Table, IsRunOf, instance_of, names_in, events_of, no_instance}
 use Rattle.wf_flat.specs.Graph.{inst_at, AreBelow, wiring_of}
-use Rattle.wf_flat.proofs.Tests.{at_map}
+use Rattle.wf_flat.proofs.Instances.{at_map}
 
 -- the modules of a run's instances are there
 made_in_range : (g : Grammar) → IsWellFormed g → (m : ℕ) → m < length g.modules → (b a : List Event) → AllExtend g m b a → (i : Instance) → IsIn i (made g m a) → i.module_no < length g.modules

@@ -13,7 +13,7 @@ use Rattle.wf_flat.specs.declared.table.Inst.{Inst}
 use Rattle.wf_flat.specs.declared.table.Opened.{Opened}
 use Rattle.wf_flat.specs.Table.{Table, IsRunOf, IsOpenedIn, instance_of, names_in, given_names, expansion_of, events_by, events_of, no_instance}
 use Rattle.wf_flat.specs.Graph.{flag_of, Marks, Agree, inst_at}
-use Rattle.wf_flat.proofs.Tests.{same_names, at_map}
+use Rattle.wf_flat.proofs.Instances.{same_names, at_map}
 
 some-append : {A : Type 0} (p : A → Bool) (xs ys : List A) → some p (xs ++ ys) ≡ some p xs || some p ys
 some-append p [] ys = refl

@@ -18,7 +18,7 @@ use Rattle.wf_flat.specs.declared.table.Inst.{Inst}
 use Rattle.wf_flat.specs.declared.table.Opened.{Opened}
 use Rattle.wf_flat.specs.Table.{Table, IsRunOf, IsParentAt, IsKept, IsOpenedIn, instance_of, names_in, given_names, expansion_of, events_by, events_of, expansion_at, children, expanded_by_no, no_instance, opened_table, root_instance, started_table}
 use Rattle.wf_flat.proofs.Tables.{names-with_children, instances-with_children, length-with_children}
-use Rattle.wf_flat.proofs.Tests.{at_map, map-map, same_names}
+use Rattle.wf_flat.proofs.Instances.{at_map, map-map, same_names}
 
 map_same : {A B : Type 0} (f h : A → B) (xs : List A) → ((x : A) → IsIn x xs → f x ≡ h x) → map f xs ≡ map h xs
 map_same f h [] e = refl

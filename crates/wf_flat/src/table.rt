@@ -1,11 +1,13 @@
 // A run as a table of numbered instances.
 ghost use Rattle.std.specs.Prelude.{◌≡◌, ◌<◌, ◌≤◌, ◌+◌, ◌^◌, ◌++◌, ◌∷◌, [], List, Option, Some, None, false, length, take, position, IfOk, IfErr, OnOk, OnErr, IfSome, bytes_eq, ◌⊎◌};
-ghost use Rattle.std.specs.List.{list_all};
 ghost use Rattle.wf_model.specs.declared.event.Event.TheVariants.{Start, Expand};
 ghost use Rattle.wf_model.specs.declared.event.RunFault.TheVariants.{NoMemory};
-ghost use Rattle.wf_model.specs.Faults.{is_name_byte, is_short_name, some_twice, fault_of, is_one_of};
+ghost use Rattle.wf_model.specs.Grammar.{Grammar as GrammarSeen};
+ghost use Rattle.wf_model.specs.Faults.{some_twice, fault_of};
+ghost use Rattle.run_faults.specs.Standing.{IsFound};
 ghost use Rattle.wf_flat.specs.Table.{Table, IsRunOf, events_of, names_in, children, with_children, root_instance, started_table, opened_table};
 
+use run_faults::{Found, expand_fault, start_fault};
 use std::alloc::{AllocError, Global};
 use std::marker::Model;
 use wf_names::Names;
@@ -48,66 +50,6 @@ impl Model for PlainRun {
     ghost view = { λ r. record { most = r.most; instances = r.instances.items; order = r.order.items } };
 
     ghost invariant = { λ r. IsKept r.most r.names r.instances.items r.order.items };
-}
-
-/// Whether a name is one of at most 64 bytes.
-fn is_short(name: &[u8]) -> bool
-    ensures { result ≡ is_short_name name.now }
-{
-    if name.is_empty() {
-        return false;
-    }
-    if name.len() > 64 {
-        return false;
-    }
-    are_of_names(name)
-}
-
-fn are_of_names(bytes: &[u8]) -> bool
-    ensures { result ≡ list_all is_name_byte bytes.now }
-{
-    bytes.iter().all(|b| is_of_name(*b))
-}
-
-fn is_of_name(b: u8) -> bool
-    ensures { result ≡ is_name_byte b }
-{
-    (97 <= b && b <= 122) || (65 <= b && b <= 90) || (48 <= b && b <= 57) || b == 95 || b == 45
-}
-
-fn are_short(names: &[Name]) -> bool
-    ensures { result ≡ list_all is_short_name names.now }
-{
-    for name in names {
-        if !is_short(name.bytes()) {
-            return false;
-        }
-    }
-    true
-}
-
-fn is_among(names: &[Name], name: &[u8]) -> bool
-    ensures { result ≡ is_one_of names.now name.now }
-{
-    for one in names {
-        if name == one.bytes() {
-            return true;
-        }
-    }
-    false
-}
-
-/// Whether a name of the list is taken, or stands twice in it.
-fn repeats(taken: &Names, names: &[Name]) -> bool
-    ensures { result ≡ some_twice taken.now names.now }
-{
-    for k in 0..names.len() {
-        let name = names[k].bytes();
-        if taken.holds(name) || is_among(&names[..k], name) {
-            return true;
-        }
-    }
-    false
 }
 
 /// Appends the instances that an expansion makes. After an error some of them may be there.
@@ -299,16 +241,7 @@ impl PlainRun {
         requires { IsRunOf g.now.core self.now }
         ensures { result ≡ fault_of g.now.core self.now.most (events_of self.now) (Start name.now) }
     {
-        if !self.instances.is_empty() {
-            return Some(RunFault::StartedTwice);
-        }
-        if !is_short(name) {
-            return Some(RunFault::NameBad);
-        }
-        if self.most < 1 {
-            return Some(RunFault::TooManyInstances);
-        }
-        None
+        start_fault(!self.instances.is_empty(), self.most, name)
     }
 
     fn take_expand(
@@ -336,43 +269,59 @@ impl PlainRun {
         Ok(())
     }
 
+    /// What the table tells of the instance of a name, which has this number.
+    fn found(&self, name: &[u8], number: Option<u32>) -> Option<Found>
+        requires { number ≡ position (bytes_eq name.now) (names_in self.now.instances) }
+        ensures { (g : GrammarSeen) → IsRunOf g self.now → IsFound g (events_of self.now) name.now result }
+    {
+        let Some(k) = number else {
+            return None;
+        };
+        let x = &self.instances[k as usize];
+        Some(Found {
+            module: x.module,
+            expanded: x.production.is_some(),
+        })
+    }
+
+    /// Why the run refuses to expand the instance of a name, which has this number.
+    fn expand_fault(
+        &self,
+        g: &Grammar,
+        name: &[u8],
+        number: Option<u32>,
+        production: u64,
+        names: &[Name],
+    ) -> Option<RunFault>
+        requires run { IsRunOf g.now.core self.now }
+        requires number { number ≡ position (bytes_eq name.now) (names_in self.now.instances) }
+        ensures { result ≡ fault_of g.now.core self.now.most (events_of self.now) (Expand name.now production names.now) }
+    {
+        let found = self.found(name, number);
+        let count = self.instances.len();
+        expand_fault(g, self.most, &self.names, count, found, production, names)
+    }
+
     /// The number of the instance that an event may expand by the production of a number.
-    fn place(&self, g: &Grammar, name: &[u8], number: u64, names: &[Name]) -> Result<u32, RunFault>
+    fn place(
+        &self,
+        g: &Grammar,
+        name: &[u8],
+        production: u64,
+        names: &[Name],
+    ) -> Result<u32, RunFault>
         requires { IsRunOf g.now.core self.now }
-        ensures refused { IfErr result (λ f. fault_of g.now.core self.now.most (events_of self.now) (Expand name.now number names.now) ≡ Some f) }
-        ensures extends { OnOk result (fault_of g.now.core self.now.most (events_of self.now) (Expand name.now number names.now) ≡ None) }
+        ensures refused { IfErr result (λ f. fault_of g.now.core self.now.most (events_of self.now) (Expand name.now production names.now) ≡ Some f) }
+        ensures extends { OnOk result (fault_of g.now.core self.now.most (events_of self.now) (Expand name.now production names.now) ≡ None) }
         ensures place { IfOk result (λ k. position (bytes_eq name.now) (names_in self.now.instances) ≡ Some k) }
     {
-        if self.instances.is_empty() {
-            return Err(RunFault::NotStarted);
+        let number = self.find(name);
+        if let Some(fault) = self.expand_fault(g, name, number, production, names) {
+            return Err(fault);
         }
-        let Some(k) = self.find(name) else {
-            return Err(RunFault::UnknownInstance);
+        let Some(k) = number else {
+            unreachable!();
         };
-        let productions = g.productions();
-        if productions.len() as u64 <= number {
-            return Err(RunFault::UnknownProduction);
-        }
-        let rule = g.production(ProdNo(number as u16));
-        let x = &self.instances[k as usize];
-        if x.module != rule.head() {
-            return Err(RunFault::WrongHead);
-        }
-        if x.production.is_some() {
-            return Err(RunFault::AlreadyExpanded);
-        }
-        if names.len() != rule.positions().len() {
-            return Err(RunFault::PositionsWrong);
-        }
-        if !are_short(names) {
-            return Err(RunFault::NameBad);
-        }
-        if repeats(&self.names, names) {
-            return Err(RunFault::NameTwice);
-        }
-        if (self.most as usize) < self.instances.len() + names.len() {
-            return Err(RunFault::TooManyInstances);
-        }
         Ok(k)
     }
 

@@ -1,6 +1,5 @@
 -- A run that takes a start event.
-use Rattle.std.proofs.Common.{◌≡◌, ℕ, ◌==◌, Bool, true, false, not, List, [], ◌∷◌, ◌++◌, length, None, refl, ap, sym, subst, ◌∙◌, inl, inr, arith}
-use Rattle.std.proofs.lemmas.Bool.Decides.{nat_tests}
+use Rattle.std.proofs.Common.{◌≡◌, ℕ, ◌==◌, Bool, false, not, List, [], ◌∷◌, ◌++◌, length, None, refl, ap, sym, subst, ◌∙◌, inl, inr}
 use Rattle.wf_model.specs.Lists.{IsIn}
 use Rattle.wf_model.specs.WellFormed.{IsWellFormed}
 use Rattle.wf_model.specs.declared.event.Event.{Event}
@@ -8,6 +7,7 @@ use Rattle.wf_model.specs.declared.event.Event.TheVariants.{Start}
 use Rattle.wf_model.specs.Run.{IsAccepted}
 use Rattle.wf_model.specs.Faults.{is_nil, fault_of}
 use Rattle.wf_model.proofs.Taking.{skipped, taking_law}
+use Rattle.run_faults.proofs.Beginnings.{begun_with}
 use Rattle.wf_spec.specs.Held.{HeldGrammar}
 use Rattle.wf_recur.specs.Cycles.{CyclesSeen}
 use Rattle.wf_run.specs.declared.node.Node.{Node as NodeHeld}
@@ -15,12 +15,11 @@ use Rattle.wf_run.specs.Runs.{Node, RunSeen, IsRunOf, GoesOn}
 use Rattle.wf_run.specs.Nodes.{node_of, run_of, IsFilledPrefix, IsKept}
 use Rattle.wf_run.specs.Opening.{closed_node, root_prefix, started_run}
 use Rattle.wf_run.proofs.Started.{started_is_run, started_goes_on}
-use Rattle.wf_run.proofs.NamedInstances.{no_event, some_event}
+use Rattle.wf_run.proofs.NamedInstances.{same_count}
 
 -- a run has begun where it has an instance
 pub begun_told : (r : RunSeen) (events : List Event) → IsRunOf r events → (n : ℕ) (empty : Bool) → n ≡ length r.nodes → empty ≡ (n == 0) → is_nil events ≡ not (not empty)
-begun_told r events run n true e t = ap is_nil (no_event r events run (sym e ∙ grind (arith, nat_tests)))
-begun_told r events run n false e t = some_event r events run (let h : length r.nodes ≡ 0 → ⊥ = λ z. grind (arith, nat_tests) in omega arith)
+begun_told r events run n empty e t = begun_with r.grammar.core r.grammar.core.start events run.accepted.0 n empty (e ∙ sym (same_count r events run)) t
 
 module _ (r : RunSeen) (name : List ℕ) (formed : IsWellFormed r.grammar.core) (events : List Event) (run : IsRunOf r events) (taken : fault_of r.grammar.core r.most events (Start name) ≡ None) where
   first : events ≡ []

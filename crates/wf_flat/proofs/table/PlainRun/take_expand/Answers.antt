@@ -2,7 +2,7 @@ use Rattle.std.proofs.Common.{ap, sym, subst, ◌∙◌}
 use Rattle.wf_model.proofs.Taking.{taking_law}
 use Rattle.wf_model.specs.declared.event.Event.TheVariants.{Expand}
 use Rattle.wf_flat.specs.Table.{events_of, IsRunOf}
-use Rattle.wf_flat.proofs.Tests.{its_name}
+use Rattle.wf_flat.proofs.Instances.{its_name}
 use Rattle.wf_flat.proofs.Steps.{run_expanded, kept_of, fresh_names, same_modules}
 use Rattle.wf_flat.proofs.table.PlainRun.take_expand.Goals as goal
 

@@ -1,6 +1,0 @@
-use Rattle.std.proofs.Common.{◌≡◌, drop}
-use Rattle.wf_model.specs.Faults.{is_one_of}
-use Rattle.wf_flat.proofs.table.is_among.Given as goal
-
-abbrev pub invariant-loop-one : goal.invariant-loop-one
-invariant-loop-one l = is_one_of (drop l.one-index l.names) l.name ≡ is_one_of l.names l.name

@@ -1,6 +1,0 @@
-use Rattle.std.proofs.Common.{◌≡◌, ◌++◌, take, drop}
-use Rattle.wf_model.specs.Faults.{some_twice}
-use Rattle.wf_flat.proofs.table.repeats.Given as goal
-
-abbrev pub invariant-loop-k : goal.invariant-loop-k
-invariant-loop-k l = some_twice (l.taken ++ take l.k l.names) (drop l.k l.names) ≡ some_twice l.taken l.names
