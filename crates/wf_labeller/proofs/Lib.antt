@@ -1,0 +1,3 @@
+pub mod RootPorts
+pub mod Outputs
+pub mod EdgesRead
