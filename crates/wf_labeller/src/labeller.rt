@@ -137,7 +137,10 @@ fn inner_entries(
     let Some((n, number)) = place(run, instance, production, names) else {
         return Ok(Vec::new(alloc));
     };
-    edge_entries(alloc, run.grammar(), number, names, run.prefix(n))
+    let g = run.grammar();
+    // A grammar is well-formed: what the run keeps of an instance is the prefix of its labels.
+    let _formed = g.start();
+    edge_entries(alloc, g, number, names, run.prefix(n))
 }
 
 /// The numbers of an instance and of a production, where both are there and there is one name for each position.
