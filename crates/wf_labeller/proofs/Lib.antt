@@ -2,3 +2,4 @@ pub mod RootPorts
 pub mod Outputs
 pub mod EdgesRead
 pub mod Expansions
+pub mod Bounds

@@ -1,5 +1,5 @@
 -- The outputs of the positions of a body, as the program reads them.
-use Rattle.std.proofs.Common.{◌≡◌, ℕ, ◌<◌, List, [], map, length, get_or, ap, sym, ◌∙◌, subst, arith}
+use Rattle.std.proofs.Common.{◌≡◌, ℕ, ◌<◌, List, [], map, length, get_or, ap, sym, ◌∙◌, subst}
 use Rattle.std.proofs.lemmas.List.{length-map, get_or-map, get_or_read}
 use Rattle.std.proofs.lemmas.Simd.{map-map}
 use Rattle.wf_model.specs.declared.body.Position.{Position as PositionHeld}

@@ -1,5 +1,5 @@
 -- The items of the ports of the root, each with its label.
-use Rattle.std.proofs.Common.{◌≡◌, ℕ, ◌<◌, ◌≤◌, List, [], ◌++◌, map, length, get_or, ap, sym, ◌∙◌, subst}
+use Rattle.std.proofs.Common.{◌≡◌, ℕ, ◌≤◌, List, [], ◌++◌, map, length, get_or, ap, sym, ◌∙◌, subst}
 use Rattle.std.proofs.lemmas.List.{length-map, map-append, get_or_read}
 use Rattle.wf_model.specs.declared.event.Event.{Event}
 use Rattle.wf_model.specs.declared.event.Event.TheVariants.{Start}

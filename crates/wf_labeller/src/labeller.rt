@@ -85,7 +85,13 @@ impl<'a> Labeller<'a> {
                 instance,
                 production,
                 names,
-            } => expand(self.alloc, &mut self.run, instance.bytes(), *production, names.items()),
+            } => expand(
+                self.alloc,
+                &mut self.run,
+                instance.bytes(),
+                *production,
+                names.items(),
+            ),
         }
     }
 }

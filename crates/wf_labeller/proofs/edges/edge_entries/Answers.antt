@@ -1,4 +1,4 @@
-use Rattle.std.proofs.Common.{◌≡◌, ◌<◌, ◌≤◌, length, get_or, arith, sym, subst, ◌∙◌}
+use Rattle.std.proofs.Common.{◌<◌, get_or, arith, sym, subst, ◌∙◌}
 use Rattle.wf_model.specs.declared.body.Edge.{Edge as EdgeHeld}
 use Rattle.wf_model.specs.Meaning.{edge_of}
 use Rattle.bit_pack.specs.Written.{first_bits}

@@ -1,4 +1,4 @@
-use Rattle.std.proofs.Common.{◌<◌, length, get_or, List, sym, ap, subst, ◌∙◌}
+use Rattle.std.proofs.Common.{◌<◌, length, List, sym, subst, ◌∙◌}
 use Rattle.wf_model.specs.Meaning.{inner_of}
 use Rattle.wf_labeller.proofs.Outputs.{body_read, length_read, position_below, module_there, module_read, port_below, name_read}
 use Rattle.wf_labeller.proofs.edges.output_at.Goals as goal

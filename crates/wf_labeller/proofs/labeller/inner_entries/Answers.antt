@@ -1,4 +1,4 @@
-use Rattle.std.proofs.Common.{length, ap, sym, subst, ◌∙◌}
+use Rattle.std.proofs.Common.{sym, subst}
 use Rattle.std.proofs.lemmas.Result.{IfOk-weaker}
 use Rattle.bit_pack.specs.Bits.{packed}
 use Rattle.bit_pack.specs.Written.{IsFilled}
@@ -19,7 +19,7 @@ returns c =
     let wf = subst (λ (g : HeldGrammar). IsWellFormed g.core) c.grammar-g.ensures.grammar c.start-formed.ensures.formed in
     IfOk-weaker c.edge_entries.result _ _
     (λ es e events run taken.
-        made_entries c.args.run.now events run c.args.instance.now c.args.production c.args.names.now taken c.in-Some.n.0 c.in-Some.ensures.place.0 wf
-        c.grammar-g.result.now c.in-Some.number.0 c.prefix.result.bytes.now c.prefix.result.length c.prefix.result.chain
-        c.grammar-g.ensures.grammar c.in-Some.ensures.production.0 c.prefix.ensures.bytes c.prefix.ensures.length c.prefix.ensures.chain _ e)
+    made_entries c.args.run.now events run c.args.instance.now c.args.production c.args.names.now taken c.in-Some.n.0 c.in-Some.ensures.place.0 wf
+    c.grammar-g.result.now c.in-Some.number.0 c.prefix.result.bytes.now c.prefix.result.length c.prefix.result.chain
+    c.grammar-g.ensures.grammar c.in-Some.ensures.production.0 c.prefix.ensures.bytes c.prefix.ensures.length c.prefix.ensures.chain _ e)
     c.edge_entries.ensures
