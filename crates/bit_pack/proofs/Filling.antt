@@ -2,11 +2,11 @@
 use Rattle.std.proofs.Common.{◌≡◌, ℕ, zero, suc, ◌+◌, ◌-◌, ◌*◌, ◌/◌, ◌%◌, ◌^◌, ◌<◌, ◌≤◌, Bool, false, List, [], ◌∷◌, ◌++◌, length, get_or, take, drop, set, replicate, refl, sym, ap, ◌∙◌, subst, arith, append_assoc, length-append}
 use Rattle.std.proofs.lemmas.List.{drop-append-le, drop_at, nil_from_length, take_at, take_all, set_split, take-append-drop, take-append-le, length-take-le, length-replicate, replicate-append-replicate, take-replicate, drop-replicate}
 use Rattle.std.proofs.lemmas.Nat.{shr_split, shr_below, shr-shr}
-use Rattle.bit_pack.specs.Bits.{number, low_bits, bits_of, Holds}
+use Rattle.bit_pack.specs.Bits.{number, low_bits, bits_of, Holds, packed}
 use Rattle.bit_pack.specs.Written.{first_bits, IsFree, IsFilled, HasRoom, Writes}
 use Rattle.bit_pack.proofs.Numbers.{number_small, number-append, number-zeros}
 use Rattle.bit_pack.proofs.LowBits.{length-low_bits, number-low_bits, number_of_low_bits, low_bits-number, low_bits-add, low_bits-mod, low_bits-zero}
-use Rattle.bit_pack.proofs.Packing.{length-bits_of, bits_of-append, number-zeros_after}
+use Rattle.bit_pack.proofs.Packing.{length-bits_of, bits_of-append, number-zeros_after, packed_law, held_law}
 use Rattle.bit_pack.proofs.Bytes.{bits_at, bits_from}
 
 pub length-first_bits : (bytes : List ℕ) (n : ℕ) → n ≤ 8 * length bytes → length (first_bits bytes n) ≡ n
@@ -212,3 +212,21 @@ filled_holds bytes n f = record {
   few = omega (arith, f.few, f.free.inside);
   is = sym (take-append-drop n (bits_of bytes)) ∙ ap (λ z. first_bits bytes n ++ z) f.free.zeros;
 }
+
+-- the bytes that bits fill are filled with them
+pub packed_filled : (bits : List Bool) → IsFilled (packed bits) (length bits)
+packed_filled bits =
+    let h = (packed_law bits).holds in
+    let whole : 8 * length (packed bits) ≡ length bits + h.padding = omega (arith, length-bits_of (packed bits), ap length h.is, length-append bits (replicate h.padding false), length-replicate h.padding false) in
+    let left : h.padding ≡ 8 * length (packed bits) - length bits = omega arith in
+    record {
+      free = record {
+        inside = omega arith;
+        zeros = ap (drop (length bits)) h.is ∙ (drop_at bits (replicate h.padding false) (length bits) refl ∙ ap (λ z. replicate z false) left);
+      };
+      few = omega (arith, h.few);
+    }
+
+-- and these are the first bits of the bytes
+pub first_packed : (bits : List Bool) → first_bits (packed bits) (length bits) ≡ bits
+first_packed bits = (held_law (packed bits) bits (packed_law bits).holds).first

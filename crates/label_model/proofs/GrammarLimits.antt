@@ -36,7 +36,7 @@ module _ (g : Grammar) (wf : IsWellFormed g) where
       omega (arith, q.2, wf.few_positions p.0 p.1, length-map (production_at g p.0).positions (λ (x : Position). x.module_no), ap (λ (r : Production). length r.positions) p.2))
 
   -- the edges of a body have sources that differ, so there are no more than 64 times 64
-  edges_few : (p : ℕ) → p < length g.productions → length (production_at g p).edges ≤ 4096
+  pub edges_few : (p : ℕ) → p < length g.productions → length (production_at g p).edges ≤ 4096
   edges_few p h =
       let es = (production_at g p).edges in
       let body = wf.bodies p h in

@@ -1,0 +1,5 @@
+pub mod RootPorts
+pub mod Outputs
+pub mod EdgesRead
+pub mod Expansions
+pub mod Bounds

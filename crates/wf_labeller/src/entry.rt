@@ -1,8 +1,11 @@
 // The entries of items.
-ghost use Rattle.std.specs.Prelude.{◌≡◌, [], map};
+ghost use Rattle.std.specs.Prelude.{◌≡◌, [], map, IfOk};
+ghost use Rattle.wf_model.specs.Items.{dotted};
+ghost use Rattle.bit_pack.specs.Bits.{packed};
 ghost use Rattle.wf_labeller.specs.Entries.{entry_seen};
 
-use std::alloc::Global;
+use bit_pack::Bits;
+use std::alloc::{AllocError, Global};
 use std::marker::Model;
 use wf_spec::Seq;
 
@@ -11,6 +14,28 @@ use wf_spec::Seq;
 pub struct Entry {
     pub name: Seq<u8>,
     pub label: Seq<u8>,
+}
+
+impl Entry {
+    /// The entry of the item that is named by an instance and a port.
+    pub(crate) fn new(
+        alloc: Global,
+        instance: &[u8],
+        port: &[u8],
+        label: &Bits,
+    ) -> Result<Entry, AllocError>
+        ensures { IfOk result (λ e. entry_seen e ≡ record { name = dotted instance.now port.now; label = packed label.now }) }
+    {
+        let mut name = Vec::with_capacity(alloc, instance.len() + port.len() + 1)?;
+        name.extend_from_slice(instance)?;
+        name.push(b'.')?;
+        name.extend_from_slice(port)?;
+        let bytes = Vec::from_slice(alloc, label.bytes())?;
+        Ok(Entry {
+            name: Seq::from_vec(name),
+            label: Seq::from_vec(bytes),
+        })
+    }
 }
 
 /// The entries of the items that an event made, in order.

@@ -1,18 +1,22 @@
 // A run whose items are labelled as they are made.
-ghost use Rattle.std.specs.Prelude.{◌≡◌, ◌⊎◌, ◌++◌, ◌∷◌, [], List, Some, None, map, IfErr, OnOk, OnErr};
+ghost use Rattle.std.specs.Prelude.{◌≡◌, ◌⊎◌, ◌<◌, ◌++◌, ◌∷◌, [], List, Some, None, length, map, position, bytes_eq, IfOk, IfErr, IfSome, IsNone, OnOk, OnErr};
 ghost use Rattle.wf_model.specs.declared.event.Event.{Event};
+ghost use Rattle.wf_model.specs.declared.event.Event.TheVariants.{Start, Expand};
 ghost use Rattle.wf_model.specs.declared.event.RunFault.TheVariants.{NoMemory};
 ghost use Rattle.wf_model.specs.Faults.{fault_of};
+ghost use Rattle.wf_model.specs.Grammar.{body_of};
 ghost use Rattle.label_model.specs.Files.{entry_of};
 ghost use Rattle.label_model.specs.RunLabels.{labelled_by};
 ghost use Rattle.wf_run.specs.Runs.{IsRunOf, GoesOn};
 ghost use Rattle.wf_labeller.specs.Entries.{entry_seen, AreWithin};
 
+use crate::edges::edge_entries;
 use crate::entry::{Entry, Records};
-use std::alloc::Global;
+use crate::ports::root_entries;
+use std::alloc::{AllocError, Global};
 use std::marker::Model;
-use wf_run::Run;
-use wf_spec::{Event, RunFault};
+use wf_run::{NodeNo, Run};
+use wf_spec::{Event, Name, ProdNo, RunFault};
 
 /// A run, and what labels the items that its events make. A caller sees it as the run.
 #[derive(Drop)]
@@ -59,22 +63,111 @@ impl<'a> Labeller<'a> {
         ensures run { OnErr result (self.new ≡ self.old) }
         ensures into { OnErr result (into.new ≡ into.old) }
     {
-        let mut entries = Vec::new(self.alloc);
-        self.append(event, &mut entries)?;
+        // The bound holds since the grammar is well-formed and strictly linear.
+        let _formed = self.run.grammar().start();
+        let entries = self.label(event)?;
         *into = Records::of(entries);
         Ok(())
     }
 
-    /// Takes an event, and appends the entries of the items that it makes.
-    fn append(&mut self, event: &Event, to: &mut Vec<Entry>) -> Result<(), RunFault>
+    /// Takes an event, and gives the entries of the items that it makes.
+    fn label(&mut self, event: &Event) -> Result<Vec<Entry>, RunFault>
         ensures taken { OnOk result ((events : List Event) → IsRunOf self.old events → IsRunOf self.new (events ++ event.now ∷ [])) }
-        ensures entries { OnOk result ((events : List Event) → IsRunOf self.old events → map entry_seen to.new.items ≡ map entry_seen to.old.items ++ map entry_of (labelled_by self.old.grammar.core (events ++ event.now ∷ []) event.now)) }
+        ensures entries { IfOk result (λ es. (events : List Event) → IsRunOf self.old events → map entry_seen es.items ≡ map entry_of (labelled_by self.old.grammar.core (events ++ event.now ∷ []) event.now)) }
         ensures extends { OnOk result ((events : List Event) → IsRunOf self.old events → fault_of self.old.grammar.core self.old.most events event.now ≡ None) }
         ensures goes_on { OnOk result (GoesOn self.old self.new) }
         ensures refused { IfErr result (λ f. (f ≡ NoMemory) ⊎ ((events : List Event) → IsRunOf self.old events → fault_of self.old.grammar.core self.old.most events event.now ≡ Some f)) }
         ensures run { OnErr result (self.new ≡ self.old) }
-        ensures to { OnErr result (to.new.items ≡ to.old.items) }
     {
-        Err(RunFault::NoMemory)
+        match event {
+            Event::Start { name } => start(self.alloc, &mut self.run, name.bytes()),
+            Event::Expand {
+                instance,
+                production,
+                names,
+            } => expand(
+                self.alloc,
+                &mut self.run,
+                instance.bytes(),
+                *production,
+                names.items(),
+            ),
+        }
     }
+}
+
+/// Starts a run, and gives the entries of the ports of its root.
+fn start(alloc: Global, run: &mut Run<'_>, name: &[u8]) -> Result<Vec<Entry>, RunFault>
+    ensures taken { OnOk result ((events : List Event) → IsRunOf run.old events → IsRunOf run.new (events ++ Start name.now ∷ [])) }
+    ensures entries { IfOk result (λ es. (events : List Event) → IsRunOf run.old events → map entry_seen es.items ≡ map entry_of (labelled_by run.old.grammar.core (events ++ Start name.now ∷ []) (Start name.now))) }
+    ensures extends { OnOk result ((events : List Event) → IsRunOf run.old events → fault_of run.old.grammar.core run.old.most events (Start name.now) ≡ None) }
+    ensures goes_on { OnOk result (GoesOn run.old run.new) }
+    ensures refused { IfErr result (λ f. (f ≡ NoMemory) ⊎ ((events : List Event) → IsRunOf run.old events → fault_of run.old.grammar.core run.old.most events (Start name.now) ≡ Some f)) }
+    ensures unchanged { OnErr result (run.new ≡ run.old) }
+{
+    let entries = root_entries(alloc, run.grammar(), name)?;
+    run.start(name)?;
+    Ok(entries)
+}
+
+/// Expands an instance, and gives the entries of the edges of the production.
+fn expand(
+    alloc: Global,
+    run: &mut Run<'_>,
+    instance: &[u8],
+    production: u64,
+    names: &[Name],
+) -> Result<Vec<Entry>, RunFault>
+    ensures taken { OnOk result ((events : List Event) → IsRunOf run.old events → IsRunOf run.new (events ++ Expand instance.now production names.now ∷ [])) }
+    ensures entries { IfOk result (λ es. (events : List Event) → IsRunOf run.old events → map entry_seen es.items ≡ map entry_of (labelled_by run.old.grammar.core (events ++ Expand instance.now production names.now ∷ []) (Expand instance.now production names.now))) }
+    ensures extends { OnOk result ((events : List Event) → IsRunOf run.old events → fault_of run.old.grammar.core run.old.most events (Expand instance.now production names.now) ≡ None) }
+    ensures goes_on { OnOk result (GoesOn run.old run.new) }
+    ensures refused { IfErr result (λ f. (f ≡ NoMemory) ⊎ ((events : List Event) → IsRunOf run.old events → fault_of run.old.grammar.core run.old.most events (Expand instance.now production names.now) ≡ Some f)) }
+    ensures unchanged { OnErr result (run.new ≡ run.old) }
+{
+    let entries = inner_entries(alloc, run, instance, production, names)?;
+    run.expand(instance, production, names)?;
+    Ok(entries)
+}
+
+/// The entries of the items that an expand event makes, if the run takes it. There may be none if the run refuses it.
+fn inner_entries(
+    alloc: Global,
+    run: &Run<'_>,
+    instance: &[u8],
+    production: u64,
+    names: &[Name],
+) -> Result<Vec<Entry>, AllocError>
+    ensures { IfOk result (λ es. (events : List Event) → IsRunOf run.now events → fault_of run.now.grammar.core run.now.most events (Expand instance.now production names.now) ≡ None → map entry_seen es.items ≡ map entry_of (labelled_by run.now.grammar.core (events ++ Expand instance.now production names.now ∷ []) (Expand instance.now production names.now))) }
+{
+    let Some((n, number)) = place(run, instance, production, names) else {
+        return Ok(Vec::new(alloc));
+    };
+    let g = run.grammar();
+    // A grammar is well-formed: what the run keeps of an instance is the prefix of its labels.
+    let _formed = g.start();
+    edge_entries(alloc, g, number, names, run.prefix(n))
+}
+
+/// The numbers of an instance and of a production, where both are there and there is one name for each position.
+fn place(
+    run: &Run<'_>,
+    instance: &[u8],
+    production: u64,
+    names: &[Name],
+) -> Option<(NodeNo, ProdNo)>
+    ensures place { IfSome result (λ t. (position (bytes_eq instance.now) run.now.names ≡ Some t.0.0) × (t.0.0 < length run.now.nodes)) }
+    ensures production { IfSome result (λ t. (t.1.0 ≡ production) × (production < length run.now.grammar.core.productions) × (length names.now ≡ length (body_of run.now.grammar.core production))) }
+    ensures none { IsNone result → (events : List Event) → IsRunOf run.now events → fault_of run.now.grammar.core run.now.most events (Expand instance.now production names.now) ≡ None → ⊥ }
+{
+    let n = run.find(instance)?;
+    let g = run.grammar();
+    if g.productions().len() as u64 <= production {
+        return None;
+    }
+    let number = ProdNo(production as u16);
+    if names.len() != g.production(number).positions().len() {
+        return None;
+    }
+    Some((n, number))
 }

@@ -1,0 +1,101 @@
+-- An expand event that a run takes: its instance is there, with the bits of the labels of the items that the event makes.
+use Rattle.std.proofs.Common.{◌≡◌, ℕ, suc, ◌<◌, List, [], ◌∷◌, ◌++◌, map, length, get_or, zip, Option, Some, None, bytes_eq, refl, ap, sym, ◌∙◌, subst}
+use Rattle.std.specs.Prelude.{position}
+use Rattle.std.proofs.lemmas.List.{length-map, get_or-map}
+use Rattle.std.proofs.lemmas.List.Quantifiers.{position-Some}
+use Rattle.wf_model.specs.declared.event.Event.{Event}
+use Rattle.wf_model.specs.declared.event.Event.TheVariants.{Expand}
+use Rattle.wf_model.specs.Lists.{IsIn, numbers_from}
+use Rattle.wf_model.specs.Grammar.{Grammar, Edge, production_at, head_of, alternative_of}
+use Rattle.wf_model.specs.WellFormed.{IsWellFormed}
+use Rattle.wf_model.specs.Run.{Instance, made, names_of, CanExpand, IsAccepted}
+use Rattle.wf_model.specs.Items.{edge_item}
+use Rattle.wf_model.specs.Faults.{fault_of}
+use Rattle.wf_model.proofs.Lists.{same_bytes, is_at, at_in}
+use Rattle.wf_model.proofs.Runs.{name_in, AllExtend-append}
+use Rattle.wf_model.proofs.Differ.{one_of_name}
+use Rattle.wf_model.proofs.Taking.{run_differs, taking_law}
+use Rattle.bit_pack.specs.Bits.{packed}
+use Rattle.bit_pack.specs.Written.{first_bits}
+use Rattle.bit_pack.proofs.Filling.{first_packed}
+use Rattle.wf_spec.specs.Held.{HeldGrammar}
+use Rattle.label_model.specs.Labels.{OfEdge, label_bits, ending_bits}
+use Rattle.label_model.specs.Places.{place_of}
+use Rattle.label_model.specs.Files.{Entry, entry_of}
+use Rattle.label_model.specs.RunLabels.{address_in, labelled_by, IsPrefix}
+use Rattle.label_model.proofs.RunPrefixes.{prefix_in_run_law}
+use Rattle.wf_run.specs.Runs.{RunSeen, Node, node_at, name_at, IsRunOf}
+use Rattle.wf_spec.proofs.Numbering.{not_found}
+use Rattle.wf_labeller.specs.Entries.{edge_entry, numbered}
+
+module _ (r : RunSeen) (events : List Event) (run : IsRunOf r events) (i : List ℕ) (p : ℕ) (names : List (List ℕ)) (taken : fault_of r.grammar.core r.most events (Expand i p names) ≡ None) where
+  abbrev g : Grammar
+  g = r.grammar.core
+
+  abbrev all : List Instance
+  all = made g g.start events
+
+  after : IsAccepted g r.most (events ++ Expand i p names ∷ [])
+  after = (taking_law g r.most events (Expand i p names) run.accepted).0 taken
+
+  pub can : CanExpand g g.start events i p names
+  can = (AllExtend-append g g.start [] events (Expand i p names ∷ []) after.0).1.0
+
+  there : IsIn i (names_of all)
+  there = name_in _ all can.stands
+
+  pub is_found : position (bytes_eq i) r.names ≡ None → ⊥
+  is_found e = not_found r.names i None (sym e) refl (subst (IsIn i) (sym run.names) there)
+
+  module _ (k : ℕ) (place : position (bytes_eq i) r.names ≡ Some k) where
+    its_name : i ≡ name_at r k
+    its_name = same_bytes i (name_at r k) (position-Some (bytes_eq i) r.names k [] place).1
+
+    none : Instance
+    none = record { name = []; module_no = 0 }
+
+    within : k < length all
+    within = subst (λ n. k < n) (ap length run.names ∙ length-map all (λ (j : Instance). j.name)) (position-Some (bytes_eq i) r.names k [] place).0
+
+    in_nodes : k < length r.nodes
+    in_nodes = subst (λ n. k < n) (sym (length-map all (λ (j : Instance). j.module_no)) ∙ (sym (ap length run.modules) ∙ length-map r.nodes (λ (n : Node). n.module_no))) within
+
+    -- the instance of this number has the name, so it is the one that is expanded
+    its_instance : get_or all k none ≡ record { name = i; module_no = head_of g p }
+    its_instance = one_of_name all (run_differs g g.start events run.accepted.0) (get_or all k none) (record { name = i; module_no = head_of g p })
+        (at_in (get_or all k none) k all (is_at k all none within)) can.stands
+        (sym (get_or-map (λ (j : Instance). j.name) all k none [] within) ∙ (sym (ap (λ l. get_or l k []) run.names) ∙ sym its_name))
+
+    its_module : (node_at r k).module_no ≡ head_of g p
+    its_module =
+        sym (get_or-map (λ (n : Node). n.module_no) r.nodes k _ 0 in_nodes) ∙ (ap (λ l. get_or l k 0) run.modules ∙
+        (get_or-map (λ (j : Instance). j.module_no) all k none 0 within ∙ ap (λ (j : Instance). j.module_no) its_instance))
+
+    its_prefix : IsPrefix g events i (node_at r k).bits (node_at r k).chain
+    its_prefix = subst (λ n. IsPrefix g events n (node_at r k).bits (node_at r k).chain) (sym its_name) ((run.each k in_nodes).composite (p, (can.in_range, sym its_module)))
+
+    -- the label of an edge is the prefix, and the ending
+    its_label : IsWellFormed g → (e : ℕ) →
+        label_bits (OfEdge (place_of g g.start (address_in (events ++ Expand i p names ∷ []) i) p e)) ≡ (node_at r k).bits ++ ending_bits (node_at r k).chain (alternative_of g p) e
+    its_label wf e =
+        let keeps = (prefix_in_run_law g wf).keeps events i p names after.0 in
+        keeps.label e (node_at r k).bits (node_at r k).chain (keeps.old i (node_at r k).bits (node_at r k).chain there its_prefix)
+
+    -- the entries of edges, from number j on
+    entries_are : IsWellFormed g → (j : ℕ) (es : List Edge) →
+        map (edge_entry g p names (node_at r k).bits (node_at r k).chain) (numbered j es) ≡
+        map entry_of (zip (map (edge_item g i p names) es) (map (λ e. OfEdge (place_of g g.start (address_in (events ++ Expand i p names ∷ []) i) p e)) (numbers_from j (length es))))
+    entries_are wf j [] = refl
+    entries_are wf j (e ∷ es) =
+        ap (λ b. record { name = (edge_item g i p names e).name; label = packed b } ∷ map (edge_entry g p names (node_at r k).bits (node_at r k).chain) (numbered (suc j) es)) (sym (its_label wf j)) ∙
+        ap (λ (l : List Entry). entry_of (edge_item g i p names e, OfEdge (place_of g g.start (address_in (events ++ Expand i p names ∷ []) i) p j)) ∷ l) (entries_are wf (suc j) es)
+
+    -- the entries that are made with the prefix that the run keeps of the instance are those of the items of the event
+    pub made_entries : IsWellFormed g → (h : HeldGrammar) (q : ℕ) (bytes : List ℕ) (n : ℕ) (chain : Option ℕ) → h ≡ r.grammar → q ≡ p → bytes ≡ packed (node_at r k).bits → n ≡ length (node_at r k).bits → chain ≡ (node_at r k).chain →
+        (es : List Entry) → es ≡ map (edge_entry h.core q names (first_bits bytes n) chain) (numbered 0 (production_at h.core q).edges) →
+        es ≡ map entry_of (labelled_by g (events ++ Expand i p names ∷ []) (Expand i p names))
+    made_entries wf h q bytes n chain a b c d f es e =
+        e ∙ (ap (λ (z : HeldGrammar). map (edge_entry z.core q names (first_bits bytes n) chain) (numbered 0 (production_at z.core q).edges)) a ∙
+        (ap (λ z. map (edge_entry g z names (first_bits bytes n) chain) (numbered 0 (production_at g z).edges)) b ∙
+        (ap (λ z. map (edge_entry g p names z chain) (numbered 0 (production_at g p).edges)) (ap (λ z. first_bits z n) c ∙ (ap (first_bits (packed (node_at r k).bits)) d ∙ first_packed (node_at r k).bits)) ∙
+        (ap (λ z. map (edge_entry g p names (node_at r k).bits z) (numbered 0 (production_at g p).edges)) f ∙ entries_are wf 0 (production_at g p).edges))))
