@@ -36,3 +36,4 @@ pub mod RunPrefixes
 pub mod PrefixRoom
 pub mod Composites
 pub mod WorkedLabels
+pub mod EntrySizes
