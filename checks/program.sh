@@ -186,6 +186,20 @@ check "a refused file comes before an absent one" \
 
 check "a run that is not finished is refused" \
     says 2 'refused: events: NotBuilt\n' trace $line/spec $line/view "$(text begun '{"start":"r"}\n')" $line/queries
+# The line example with these events.
+refuses_events() {
+    says 2 "refused: events $1\n" trace $line/spec $line/view "$2" $line/queries
+}
+check "a line that is no JSON is told before later lines" \
+    refuses_events 'line 3: NotJson' "$(text cut_event '{"start":"r"}\n\n{"expand":"r",\n{"start":1}\n')"
+check "a line that is no event is told before later lines" \
+    refuses_events 'line 2: WrongShape' "$(text no_event '{"start":"r"}\n{"start":"r","expand":"r"}\nx\n')"
+check "an event is told before a later line that is too long" \
+    refuses_events 'line 1: NotStarted' "$( (echo '{"expand":"r","production":0,"names":[]}'; head -c 65537 /dev/zero) >"$work/early"; echo "$work/early")"
+check "a line that is too long is told before its form" \
+    refuses_events 'line 2: LineTooLong' "$( (echo '{"start":"r"}'; head -c 65537 /dev/zero; echo; echo x) >"$work/long_line"; echo "$work/long_line")"
+check "the longest line is read" \
+    refuses_events 'line 1: NotJson' "$( (head -c 65536 /dev/zero; echo) >"$work/longest"; echo "$work/longest")"
 check "an event that does not extend the run is told by its line" \
     says 2 'refused: events line 2: StartedTwice\n' trace $line/spec $line/view "$(text twice '{"start":"r"}\n{"start":"r"}\n')" $line/queries
 

@@ -16,6 +16,7 @@ use Rattle.wf_top.specs.declared.ending.Place.{Place}
 use Rattle.wf_top.specs.declared.ending.Place.TheVariants.{Events}
 use Rattle.wf_top.specs.Endings.{End, Refused, end_of}
 use Rattle.wf_top.specs.Refusals.{run_name}
+use Rattle.wf_top.specs.Telling.{AtLine}
 use Rattle.wf_top.specs.RunTold.{IsEventText, AreEvents, RefusesText, RefusesLines, RefusesRun}
 use Rattle.wf_top.specs.Outcome.{instance_most}
 use Rattle.wf_top.specs.Stages.{Declines}
@@ -30,9 +31,9 @@ pub declined : (place : Place) (Q : Option ℕ → List ℕ → Type 0) (e : End
 declined place Q e line fault is h = subst (Declines place Q) (sym is) (refl, h)
 
 -- a refused event
-pub event_refused : (g : Grammar) (t : Table) (number : ℕ) (text : List ℕ) (e : Event) (f : RunFault) → t.most ≡ instance_most → IsEventText text e → (f ≡ NoMemoryOfRun → ⊥) → (f ≡ NoMemoryOfRun) ⊎ (fault_of g t.most (events_of t) e ≡ Some f) → RefusesText g instance_most (events_of t) number text (Some number) (run_name f)
-event_refused g t number text e f most told other fault =
-    ⊎_elim (λ m. absurd (other m)) (λ q. inr (refl, (e, told, (f, subst (λ m. fault_of g m (events_of t) e ≡ Some f) most q, refl)))) fault
+pub event_refused : (g : Grammar) (t : Table) (text : List ℕ) (e : Event) (f : RunFault) → t.most ≡ instance_most → IsEventText text e → (f ≡ NoMemoryOfRun → ⊥) → (f ≡ NoMemoryOfRun) ⊎ (fault_of g t.most (events_of t) e ≡ Some f) → RefusesText g instance_most (events_of t) text (run_name f)
+event_refused g t text e f most told other fault =
+    ⊎_elim (λ m. absurd (other m)) (λ q. inr (e, told, (f, subst (λ m. fault_of g m (events_of t) e ≡ Some f) most q, refl))) fault
 
 -- the run of the lines before those that are left
 pub record IsTaken (g : Grammar) (all left : List Line) (t : Table) : Type 0 where
@@ -59,17 +60,18 @@ module _ (g : Grammar) (all : List Line) (old new : LinesLeft) (t : Table) (take
   all_taken ends = subst (AreEvents all) (append-nil (events_of t)) (taken.forth [] (subst (λ k. AreEvents k []) (sym ends.none) tt))
 
   -- the next line is too long
-  pub long_refused : Refuses old new → RefusesLines g instance_most [] all None (codes "NotBuilt")
-  long_refused h =
-      taken.refused None (codes "NotBuilt") (subst (λ ls. RefusesLines g instance_most (events_of t) ls None (codes "NotBuilt")) (sym h.takes.left) (inl (inl (h.long, refl, refl))))
+  pub long_refused : (number : ℕ) → number ≡ new.line → Refuses old new → RefusesLines g instance_most [] all (Some number) (codes "LineTooLong")
+  long_refused number same h =
+      taken.refused (Some number) (codes "LineTooLong") (subst (λ ls. RefusesLines g instance_most (events_of t) ls (Some number) (codes "LineTooLong")) (sym h.takes.left)
+      (inl (ap Some (same ∙ h.takes.line), inl (h.long, refl))))
 
   module _ (text : List ℕ) (lends : Lends old text new) where
     -- the text of the next line is refused
-    pub line_refused : (number : ℕ) → number ≡ new.line → (d : End) → Declines Events (RefusesText g instance_most (events_of t) number text) d → Declines Events (RefusesLines g instance_most [] all) d
+    pub line_refused : (number : ℕ) → number ≡ new.line → (d : End) → Declines Events (AtLine (RefusesText g instance_most (events_of t)) number text) d → Declines Events (RefusesLines g instance_most [] all) d
     line_refused number same d h =
-        declines_by Events (RefusesText g instance_most (events_of t) number text) (RefusesLines g instance_most [] all) (λ line fault r.
+        declines_by Events (AtLine (RefusesText g instance_most (events_of t)) number text) (RefusesLines g instance_most [] all) (λ line fault r.
         taken.refused line fault (subst (λ ls. RefusesLines g instance_most (events_of t) ls line fault) (sym lends.takes.left)
-        (inl (inr (lends.short, subst (λ n. RefusesText g instance_most (events_of t) n (text_of lends.first.raw) line fault) (same ∙ lends.takes.line) (subst (λ x. RefusesText g instance_most (events_of t) number x line fault) lends.text_is r)))))) d h
+        (inl (r.0 ∙ ap Some (same ∙ lends.takes.line), inr (lends.short, subst (λ x. RefusesText g instance_most (events_of t) x fault) lends.text_is r.1))))) d h
 
     -- the next line is taken
     pub taken_more : (u : Table) → IsRunOf g u → u.most ≡ instance_most → (e : Event) × IsEventText text e × (fault_of g instance_most (events_of t) e ≡ None) × (events_of u ≡ events_of t ++ e ∷ []) → IsTaken g all new.left u

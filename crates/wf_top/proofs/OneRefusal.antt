@@ -7,7 +7,8 @@ use Rattle.wf_json.specs.Reading.{IsReading, HasNoReading}
 use Rattle.wf_top.specs.Refusals.{shape_text}
 use Rattle.wf_top.proofs.OneOutcome.{IsSaid, one_reading, one_ok, one_err, ok_not_err}
 
-unread : (bytes : List ℕ) (d : Data) → HasNoReading bytes → IsReading bytes d → ⊥
+-- bytes without a reading have none
+pub unread : (bytes : List ℕ) (d : Data) → HasNoReading bytes → IsReading bytes d → ⊥
 unread bytes d none h = let e : Some d ≡ None = sym h.1 ∙ none h.0 in absurd (cc)
 
 module _ {A : Type 0} (form : Data → Result A Member) (Refuses : A → List ℕ → Type 0) where

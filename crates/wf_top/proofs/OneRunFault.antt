@@ -1,5 +1,5 @@
 -- Events have one refusal at most, and none where they tell a finished run.
-use Rattle.std.proofs.Common.{◌≡◌, ℕ, ◌+◌, ◌≤◌, List, [], ◌∷◌, ◌++◌, length, Option, Some, None, sym, ap, ◌∙◌, subst, inl, inr, arith, true≢false, append_assoc, length-append}
+use Rattle.std.proofs.Common.{◌≡◌, ℕ, ◌+◌, ◌≤◌, false, List, [], ◌∷◌, ◌++◌, length, Option, Some, None, sym, ap, ◌∙◌, subst, inl, inr, arith, true≢false, append_assoc, length-append}
 use Rattle.wf_model.specs.declared.event.Event.{Event}
 use Rattle.wf_model.specs.Grammar.{Grammar}
 use Rattle.wf_model.specs.View.{View}
@@ -9,10 +9,23 @@ use Rattle.wf_model.specs.Faults.{fault_of}
 use Rattle.wf_model.proofs.Lists.{in_append_left}
 use Rattle.wf_model.proofs.Runs.{made-append, name_in, name_from, AllExtend-append}
 use Rattle.wf_model.proofs.Taking.{taking_law}
-use Rattle.wf_io.specs.Lines.{Line, text_of, lines_of}
+use Rattle.wf_io.specs.Lines.{Line, is_too_long, text_of, lines_of}
+use Rattle.wf_events.specs.EventForm.{event_of}
 use Rattle.wf_top.specs.Refusals.{run_name}
-use Rattle.wf_top.specs.RunTold.{IsEventText, IsEventLine, AreEvents, TellsRun, RefusesEvent, RefusesText, RefusesLine, RefusesLines, RefusesRun}
-use Rattle.wf_top.proofs.OneOutcome.{some_same, one_event, one_list}
+use Rattle.wf_top.specs.RunTold.{IsEventText, IsEventLine, AreEvents, TellsRun, RefusesForm, RefusesEvent, RefusesText, RefusesBytes, RefusesLine, RefusesLines, RefusesRun}
+use Rattle.wf_top.proofs.OneOutcome.{some_same, one_reading, one_event, one_list}
+use Rattle.wf_top.proofs.OneRefusal.{unread}
+
+-- what has not the form of an event tells none
+no_event : (text x : List ℕ) (e : Event) → RefusesForm text x → IsEventText text e → ⊥
+no_event text x e (inl p) is = unread text is.0 p.0 is.1
+no_event text x e (inr p) is = let r : Some e ≡ None = sym is.2 ∙ (ap event_of (one_reading text is.0 p.0 is.1 p.1) ∙ p.2) in absurd (cc)
+
+one_form_fault : (text x y : List ℕ) → RefusesForm text x → RefusesForm text y → x ≡ y
+one_form_fault text x y (inl p) (inl q) = p.1 ∙ sym q.1
+one_form_fault text x y (inl p) (inr q) = absurd (unread text q.0 p.0 q.1)
+one_form_fault text x y (inr p) (inl q) = absurd (unread text p.0 q.0 p.1)
+one_form_fault text x y (inr p) (inr q) = p.3 ∙ sym q.3
 
 -- an accepted run is accepted as far as it is read
 accepted_before : (g : Grammar) (limit : ℕ) (a b : List Event) → IsAccepted g limit (a ++ b) → IsAccepted g limit a
@@ -38,27 +51,34 @@ module _ (g : Grammar) (limit : ℕ) where
       let same : p.2.0 ≡ q.2.0 = some_same p.2.0 q.2.0 (sym p.2.1 ∙ (ap (fault_of g limit before) (one_event text p.0 q.0 p.1 q.1) ∙ q.2.1)) in
       p.2.2 ∙ (ap run_name same ∙ sym q.2.2)
 
-  one_text_fault : (before : List Event) (number : ℕ) (text : List ℕ) (l m : Option ℕ) (x y : List ℕ) → RefusesText g limit before number text l x → RefusesText g limit before number text m y → (l ≡ m) × (x ≡ y)
-  one_text_fault before number text l m x y (inl p) (inl q) = (p.0 ∙ sym q.0, p.1.1 ∙ sym q.1.1)
-  one_text_fault before number text l m x y (inl p) (inr q) = absurd (p.1.0 q.1.0 q.1.1)
-  one_text_fault before number text l m x y (inr p) (inl q) = absurd (q.1.0 p.1.0 p.1.1)
-  one_text_fault before number text l m x y (inr p) (inr q) = (p.0 ∙ sym q.0, one_event_fault before text x y p.1 q.1)
+  one_text_fault : (before : List Event) (text x y : List ℕ) → RefusesText g limit before text x → RefusesText g limit before text y → x ≡ y
+  one_text_fault before text x y (inl p) (inl q) = one_form_fault text x y p q
+  one_text_fault before text x y (inl p) (inr q) = absurd (no_event text x q.0 p q.1)
+  one_text_fault before text x y (inr p) (inl q) = absurd (no_event text y p.0 q p.1)
+  one_text_fault before text x y (inr p) (inr q) = one_event_fault before text x y p q
 
-  one_line_fault : (before : List Event) (k : Line) (l m : Option ℕ) (x y : List ℕ) → RefusesLine g limit before k l x → RefusesLine g limit before k m y → (l ≡ m) × (x ≡ y)
-  one_line_fault before k l m x y (inl p) (inl q) = (p.1 ∙ sym q.1, p.2 ∙ sym q.2)
-  one_line_fault before k l m x y (inl p) (inr q) = absurd (true≢false (sym p.0 ∙ q.0))
-  one_line_fault before k l m x y (inr p) (inl q) = absurd (true≢false (sym q.0 ∙ p.0))
-  one_line_fault before k l m x y (inr p) (inr q) = one_text_fault before k.number (text_of k.raw) l m x y p.1 q.1
+  one_bytes_fault : (before : List Event) (raw x y : List ℕ) → RefusesBytes g limit before raw x → RefusesBytes g limit before raw y → x ≡ y
+  one_bytes_fault before raw x y (inl p) (inl q) = p.1 ∙ sym q.1
+  one_bytes_fault before raw x y (inl p) (inr q) = absurd (true≢false (sym p.0 ∙ q.0))
+  one_bytes_fault before raw x y (inr p) (inl q) = absurd (true≢false (sym q.0 ∙ p.0))
+  one_bytes_fault before raw x y (inr p) (inr q) = one_text_fault before (text_of raw) x y p.1 q.1
 
-  text_not_taken : (before : List Event) (number : ℕ) (text : List ℕ) (l : Option ℕ) (x : List ℕ) (e : Event) → RefusesText g limit before number text l x → IsEventText text e → fault_of g limit before e ≡ None → ⊥
-  text_not_taken before number text l x e (inl p) is none = p.1.0 e is
-  text_not_taken before number text l x e (inr p) is none =
-      let refused : Some p.1.2.0 ≡ None = sym p.1.2.1 ∙ (ap (fault_of g limit before) (one_event text p.1.0 e p.1.1 is) ∙ none) in absurd (cc)
+  -- a line has one refusal
+  pub one_line_fault : (before : List Event) (k : Line) (l m : Option ℕ) (x y : List ℕ) → RefusesLine g limit before k l x → RefusesLine g limit before k m y → (l ≡ m) × (x ≡ y)
+  one_line_fault before k l m x y p q = (p.0 ∙ sym q.0, one_bytes_fault before k.raw x y p.1 q.1)
+
+  text_not_taken : (before : List Event) (text x : List ℕ) (e : Event) → RefusesText g limit before text x → IsEventText text e → fault_of g limit before e ≡ None → ⊥
+  text_not_taken before text x e (inl p) is none = no_event text x e p is
+  text_not_taken before text x e (inr p) is none =
+      let refused : Some p.2.0 ≡ None = sym p.2.1 ∙ (ap (fault_of g limit before) (one_event text p.0 e p.1 is) ∙ none) in absurd (cc)
+
+  bytes_not_taken : (before : List Event) (raw x : List ℕ) (e : Event) → RefusesBytes g limit before raw x → (is_too_long raw ≡ false) × IsEventText (text_of raw) e → fault_of g limit before e ≡ None → ⊥
+  bytes_not_taken before raw x e (inl p) is none = true≢false (sym p.0 ∙ is.0)
+  bytes_not_taken before raw x e (inr p) is none = text_not_taken before (text_of raw) x e p.1 is.1 none
 
   -- a line whose event the run takes is not refused
-  not_taken : (before : List Event) (k : Line) (l : Option ℕ) (x : List ℕ) (e : Event) → RefusesLine g limit before k l x → IsEventLine k e → fault_of g limit before e ≡ None → ⊥
-  not_taken before k l x e (inl p) is none = true≢false (sym p.0 ∙ is.0)
-  not_taken before k l x e (inr p) is none = text_not_taken before k.number (text_of k.raw) l x e p.1 is.1 none
+  pub not_taken : (before : List Event) (k : Line) (l : Option ℕ) (x : List ℕ) (e : Event) → RefusesLine g limit before k l x → IsEventLine k e → fault_of g limit before e ≡ None → ⊥
+  not_taken before k l x e p is none = bytes_not_taken before k.raw x e p.1 is none
 
   -- lines have one refusal
   one_lines_fault : (ks : List Line) (before : List Event) (l m : Option ℕ) (x y : List ℕ) → RefusesLines g limit before ks l x → RefusesLines g limit before ks m y → (l ≡ m) × (x ≡ y)

@@ -1,5 +1,5 @@
 -- How the steps of reading a specification make what its bytes tell.
-use Rattle.std.proofs.Common.{◌≡◌, ◌⊎◌, ℕ, List, Option, None, refl, subst, inl, inr, ⊎_elim}
+use Rattle.std.proofs.Common.{◌≡◌, ◌⊎◌, ℕ, List, None, refl, subst, inl, inr, ⊎_elim}
 use Rattle.wf_model.specs.declared.parts.Parts.{Parts}
 use Rattle.wf_model.specs.Grammar.{Grammar}
 use Rattle.wf_model.specs.Proper.{IsProper}

@@ -25,7 +25,7 @@ use Rattle.wf_view.specs.Viewing.{name_of, input_name, output_name}
 use Rattle.wf_safe.specs.declared.witness.Choice.{Choice}
 use Rattle.wf_safe.specs.declared.witness.Witness.{Witness}
 use Rattle.wf_top.specs.declared.refusal.Refusal.{Refusal}
-use Rattle.wf_top.specs.declared.refusal.Refusal.TheVariants.{TooLong, NotJson, WrongShape, Form, Check, Recur, View, Unsafe, Run, NotBuilt}
+use Rattle.wf_top.specs.declared.refusal.Refusal.TheVariants.{TooLong, LineTooLong, NotJson, WrongShape, WrongEvent, Form, Check, Recur, View, Unsafe, Run, NotBuilt}
 
 -- the word of a member
 abbrev pub member_word : Member → List ℕ
@@ -194,8 +194,10 @@ unsafe_text g w = productions_text g w ++ (ports_text g w ++ joined_choice_text 
 -- the text of a refusal
 abbrev pub refusal_text : Refusal → List ℕ
 refusal_text TooLong = codes "TooLong"
+refusal_text LineTooLong = codes "LineTooLong"
 refusal_text NotJson = codes "NotJson"
 refusal_text (WrongShape m) = shape_text m
+refusal_text WrongEvent = codes "WrongShape"
 refusal_text (Form f) = form_text f
 refusal_text (Check g f) = check_text g.core f
 refusal_text (Recur g f) = recur_text g.core f

@@ -8,10 +8,10 @@ use Rattle.wf_model.specs.View.{View as ViewOf}
 use Rattle.wf_model.specs.Run.{IsAccepted, IsFinished}
 use Rattle.wf_model.specs.Faults.{fault_of}
 use Rattle.wf_io.specs.Lines.{Line, is_too_long, text_of, lines_of}
-use Rattle.wf_json.specs.Reading.{IsReading}
+use Rattle.wf_json.specs.Reading.{IsReading, HasNoReading}
 use Rattle.wf_events.specs.EventForm.{event_of}
 use Rattle.wf_top.specs.Refusals.{run_name}
-use Rattle.wf_top.specs.Telling.{IsNotBuilt, OfWhole}
+use Rattle.wf_top.specs.Telling.{AtLine}
 
 -- the text is an event in JSON
 abbrev pub IsEventText : List ℕ → Event → Type 0
@@ -34,22 +34,30 @@ pub record TellsRun (g : Grammar) (u : ViewOf) (limit : ℕ) (bytes : List ℕ) 
   pub accepted : IsAccepted g limit events
   pub finished : IsFinished g u g.start events
 
+-- why a text tells no event: it has no reading; or the value that it reads as has not the form of an event
+abbrev pub RefusesForm : List ℕ → List ℕ → Type 0
+RefusesForm text fault =
+    (HasNoReading text × (fault ≡ codes "NotJson")) ⊎
+    ((d : Data) × IsReading text d × (event_of d ≡ None) × (fault ≡ codes "WrongShape"))
+
 -- the run refuses the event that a text tells, with this fault
 abbrev pub RefusesEvent : Grammar → ℕ → List Event → List ℕ → List ℕ → Type 0
 RefusesEvent g limit before text fault =
     (e : Event) × IsEventText text e × ((f : RunFault) × (fault_of g limit before e ≡ Some f) × (fault ≡ run_name f))
 
--- why the text of a line of this number is refused after a run: it tells no event, and no line is named; or it tells one that the run refuses, and the line is named
-abbrev pub RefusesText : Grammar → ℕ → List Event → ℕ → List ℕ → Option ℕ → List ℕ → Type 0
-RefusesText g limit before number text line fault =
-    OfWhole (IsNotBuilt IsEventText) text line fault ⊎
-    ((line ≡ Some number) × RefusesEvent g limit before text fault)
+-- why a text is refused after a run: it tells no event, or one that the run refuses
+abbrev pub RefusesText : Grammar → ℕ → List Event → List ℕ → List ℕ → Type 0
+RefusesText g limit before text fault = RefusesForm text fault ⊎ RefusesEvent g limit before text fault
 
--- why a line is refused after a run: it is too long; or its text is refused
+-- why what a line holds is refused after a run: it is too long; or its text is refused
+abbrev pub RefusesBytes : Grammar → ℕ → List Event → List ℕ → List ℕ → Type 0
+RefusesBytes g limit before raw fault =
+    ((is_too_long raw ≡ true) × (fault ≡ codes "LineTooLong")) ⊎
+    ((is_too_long raw ≡ false) × RefusesText g limit before (text_of raw) fault)
+
+-- a line is refused after a run, and its number told
 abbrev pub RefusesLine : Grammar → ℕ → List Event → Line → Option ℕ → List ℕ → Type 0
-RefusesLine g limit before l line fault =
-    ((is_too_long l.raw ≡ true) × (line ≡ None) × (fault ≡ codes "NotBuilt")) ⊎
-    ((is_too_long l.raw ≡ false) × RefusesText g limit before l.number (text_of l.raw) line fault)
+RefusesLine g limit before l line fault = AtLine (RefusesBytes g limit before) l.number l.raw line fault
 
 -- why lines are refused after a run: the first is; or the run takes its event, and those behind it are refused after that
 abbrev pub RefusesLines : Grammar → ℕ → List Event → List Line → Option ℕ → List ℕ → Type 0

@@ -6,9 +6,9 @@ ghost use Rattle.wf_io.specs.Lines.{lines_of};
 ghost use Rattle.wf_model.specs.declared.event.Event.{Event};
 ghost use Rattle.wf_flat.specs.Table.{IsRunOf, events_of};
 ghost use Rattle.wf_top.specs.Endings.{end_of, Refused};
-ghost use Rattle.wf_top.specs.Refusals.{run_name};
-ghost use Rattle.wf_top.specs.Telling.{IsNotBuilt, OfWhole};
-ghost use Rattle.wf_top.specs.RunTold.{IsEventText, AreEvents, TellsRun, RefusesText, RefusesLines, RefusesRun};
+ghost use Rattle.wf_top.specs.Refusals.{refusal_text};
+ghost use Rattle.wf_top.specs.Telling.{AtLine};
+ghost use Rattle.wf_top.specs.RunTold.{IsEventText, AreEvents, TellsRun, RefusesForm, RefusesText, RefusesLines, RefusesRun};
 ghost use Rattle.wf_top.specs.Outcome.{instance_most};
 ghost use Rattle.wf_top.specs.Stages.{Declines};
 ghost use Rattle.wf_top.specs.declared.ending.Place.TheVariants.{Events};
@@ -25,27 +25,27 @@ use wf_spec::{Event, Grammar, RunFault};
 /// The greatest number of instances of a run.
 const INSTANCES: u32 = 16777216;
 
-/// The event of a line.
-fn event_of_line(alloc: Global, line: &[u8]) -> Result<Event, Ending>
-    ensures ok { IfOk result (λ e. IsEventText line.now e) }
-    ensures declines { IfErr result (λ d. Declines Events (OfWhole (IsNotBuilt IsEventText) line.now) (end_of d)) }
-{
-    match read_event(alloc, line) {
-        Ok(event) => Ok(event),
-        Err(EventFault::NotJson) => Err(not_built(Place::Events)),
-        Err(EventFault::WrongShape) => Err(not_built(Place::Events)),
-        Err(EventFault::NoMemory) => Err(Ending::NoMemory),
-    }
-}
-
-/// The ending at a line whose event the run refuses.
-fn refused(number: u64, fault: RunFault) -> Ending
-    ensures { end_of result ≡ Refused Events (Some number) (run_name fault) }
+/// The ending at a line that is refused.
+fn refused(number: u64, refusal: Refusal) -> Ending
+    ensures { end_of result ≡ Refused Events (Some number) (refusal_text refusal) }
 {
     Ending::Refused {
         place: Place::Events,
         line: Some(number),
-        refusal: Refusal::Run { fault },
+        refusal,
+    }
+}
+
+/// The event of a line.
+fn event_of_line(alloc: Global, number: u64, line: &[u8]) -> Result<Event, Ending>
+    ensures ok { IfOk result (λ e. IsEventText line.now e) }
+    ensures declines { IfErr result (λ d. Declines Events (AtLine RefusesForm number line.now) (end_of d)) }
+{
+    match read_event(alloc, line) {
+        Ok(event) => Ok(event),
+        Err(EventFault::NotJson) => Err(refused(number, Refusal::NotJson)),
+        Err(EventFault::WrongShape) => Err(refused(number, Refusal::WrongEvent)),
+        Err(EventFault::NoMemory) => Err(Ending::NoMemory),
     }
 }
 
@@ -62,15 +62,15 @@ fn take_line(
     ensures run { IsRunOf g.now.core run.new }
     ensures most { run.new.most ≡ instance_most }
     ensures ok { OnOk result ((e : Event) × IsEventText line.now e × (fault_of g.now.core instance_most (events_of run.old) e ≡ None) × (events_of run.new ≡ events_of run.old ++ e ∷ [])) }
-    ensures declines { IfErr result (λ d. Declines Events (RefusesText g.now.core instance_most (events_of run.old) number line.now) (end_of d)) }
+    ensures declines { IfErr result (λ d. Declines Events (AtLine (RefusesText g.now.core instance_most (events_of run.old)) number line.now) (end_of d)) }
 {
-    let event = event_of_line(alloc, line)?;
+    let event = event_of_line(alloc, number, line)?;
     let Err(fault) = run.take(g, &event) else {
         return Ok(());
     };
     match fault {
         RunFault::NoMemory => Err(Ending::NoMemory),
-        _ => Err(refused(number, fault)),
+        _ => Err(refused(number, Refusal::Run { fault })),
     }
 }
 
@@ -84,7 +84,7 @@ fn take_lines(alloc: Global, g: &Grammar, bytes: &[u8]) -> Result<PlainRun, Endi
     let mut lines = WholeLines::open(bytes);
     loop {
         let Ok(next) = lines.next() else {
-            return Err(not_built(Place::Events));
+            return Err(refused(lines.line(), Refusal::LineTooLong));
         };
         let Some(line) = next else {
             return Ok(run);
@@ -95,7 +95,7 @@ fn take_lines(alloc: Global, g: &Grammar, bytes: &[u8]) -> Result<PlainRun, Endi
 
 /// The run that events tell, which is finished under a view.
 ///
-/// Refused at the first line that is too long or no event, which is not named; at the first whose event the run refuses, which is named by its number, with the fault; and at the end where the run is not finished. `NoMemory` may come at any line.
+/// Refused at the first line that is too long, has no reading, has not the form of an event, or tells an event that the run refuses, with its number and the fault; and at the end where the run is not finished. `NoMemory` may come at any line.
 ///
 /// Cost: linear in the bytes.
 pub fn run_of_bytes(alloc: Global, v: &Viewed, bytes: &[u8]) -> Result<PlainRun, Ending>

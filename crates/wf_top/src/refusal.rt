@@ -11,10 +11,14 @@ use wf_view::ViewFault;
 pub enum Refusal {
     /// The file is longer than it may be.
     TooLong,
+    /// The line is longer than it may be.
+    LineTooLong,
     /// The bytes are not UTF-8, or no JSON value.
     NotJson,
     /// This member is the first that has not its form.
     WrongShape { member: Member },
+    /// The value of a line has not the form of an event.
+    WrongEvent,
     /// The parts of a specification form no grammar.
     Form { fault: FormFault },
     /// The grammar is not proper. It is kept for the names of its modules.

@@ -196,7 +196,7 @@ const ROWS: [(&str, Status, &str, &str); 38] = [
         "trace spec view queries queries",
         Refused,
         "",
-        "refused: events: NotBuilt\n",
+        "refused: events line 1: NotJson\n",
     ),
     (
         "trace spec view events third-wrong",

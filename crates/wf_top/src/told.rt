@@ -196,8 +196,10 @@ pub fn put_refusal<E: Sink>(err: &mut E, refusal: &Refusal) -> Result<(), Failed
 {
     match refusal {
         Refusal::TooLong => put(err, b"TooLong"),
+        Refusal::LineTooLong => put(err, b"LineTooLong"),
         Refusal::NotJson => put(err, b"NotJson"),
         Refusal::WrongShape { member } => put_two(err, b"WrongShape ", member_word(*member)),
+        Refusal::WrongEvent => put(err, b"WrongShape"),
         Refusal::Form { fault } => put_form(err, *fault),
         Refusal::Check { grammar, fault } => put_check(err, grammar, fault),
         Refusal::Recur { grammar, fault } => put_recur(err, grammar, *fault),

@@ -1,4 +1,4 @@
-use Rattle.std.proofs.Common.{[], None, ap}
+use Rattle.std.proofs.Common.{[], Some, ap}
 use Rattle.std.specs.Prelude.{codes}
 use Rattle.std.proofs.lemmas.Result.{err_from_is_err_and}
 use Rattle.wf_io.specs.Lines.{LinesLeft, Lends, Ends, lines_of}
@@ -15,8 +15,8 @@ loop-next-init c =
 
 pub returns-in_default-clause-declines : goal.returns-in_default-clause-declines
 returns-in_default-clause-declines c =
-    declined Events _ (end_of c.not_built.result) None (codes "NotBuilt") c.not_built.ensures
-    (long_refused c.args.g.now.core (lines_of c.args.bytes.now) c.loop-next.lines c.next.new.self c.loop-next.run c.loop-next.invariant c.in_default.ensures.next)
+    declined Events _ (end_of c.refused.result) (Some c.line.result) (codes "LineTooLong") c.refused.ensures
+    (long_refused c.args.g.now.core (lines_of c.args.bytes.now) c.loop-next.lines c.next.new.self c.loop-next.run c.loop-next.invariant _ c.line.ensures c.in_default.ensures.next)
 
 pub returns-in_default-next-clause-read : goal.returns-in_default-next-clause-read
 returns-in_default-next-clause-read c =
@@ -32,4 +32,4 @@ pub returns-in_err-take_line-clause-declines : goal.returns-in_err-take_line-cla
 returns-in_err-take_line-clause-declines c =
     let h : Lends c.loop-next.lines c.in-Some.line.now c.next.new.self = rw c.in-Some.is at c.in-Ok.ensures.next in
     handed_on Events (RefusesLines c.args.g.now.core instance_most [] (lines_of c.args.bytes.now)) c.from_residual.result c.in_err-take_line.field-0.0 (err_from_is_err_and c.from_residual.result c.from_residual.ensures.1)
-    (line_refused c.args.g.now.core (lines_of c.args.bytes.now) c.loop-next.lines c.next.new.self c.loop-next.run c.loop-next.invariant c.in-Some.line.now h _ c.line.ensures _ c.in_err-take_line.ensures.declines)
+    (line_refused c.args.g.now.core (lines_of c.args.bytes.now) c.loop-next.lines c.next.new.self c.loop-next.run c.loop-next.invariant c.in-Some.line.now h _ c.line-in-loop-next.ensures _ c.in_err-take_line.ensures.declines)
