@@ -66,7 +66,7 @@ marks_of g (Input p) = AtInput p ∷ []
 marks_of g (Output p) = AtOutput p ∷ []
 marks_of g (OfEdge p) = place_marks g g.start p.steps p.chain p.alternative p.edge
 
--- the bits of a mark of a place
+-- the bits of a mark; before those of a place stands one bit more
 abbrev pub mark_bits : Grammar → Mark → List Bool
 mark_bits g (AtInput p) = false ∷ false ∷ gamma (p + 1)
 mark_bits g (AtOutput p) = false ∷ true ∷ gamma (p + 1)
