@@ -1,5 +1,6 @@
 -- Where continuing steps lead, by the table of cycles.
-use Rattle.std.proofs.Common.{◌≡◌, ◌≢◌, ℕ, zero, suc, ◌+◌, ◌%◌, ◌<◌, length, get_or, Option, Some, None, refl, ◌∙◌, subst, ⊎_elim, arith}
+use Rattle.std.proofs.Common.{◌≡◌, ◌≢◌, ℕ, zero, suc, ◌+◌, ◌%◌, ◌<◌, true, false, length, get_or, Option, Some, None, refl, sym, ◌∙◌, subst, ⊎_elim, arith, true≢false}
+use Rattle.std.specs.Prelude.{option_map, is_some}
 use Rattle.wf_model.specs.Grammar.{Grammar}
 use Rattle.wf_model.specs.WellFormed.{IsWellFormed}
 use Rattle.wf_model.specs.Reach.{Step}
@@ -36,3 +37,13 @@ next_below g wf m i (Some s) e = let c = continuing_is g m s e in target_below g
 pub after_below : (g : Grammar) → IsWellFormed g → (c m : ℕ) → m < length g.modules → after g c m < length g.modules
 after_below g wf zero m i = i
 after_below g wf (suc c) m i = after_below g wf c (next_by g m (continuing g m)) (next_below g wf m i (continuing g m) refl)
+
+-- where nothing is held, nothing is told
+pub none_told : {A B : Type 0} (f : A → B) (o : Option A) (p : Option B) → option_map f o ≡ p → is_some o ≡ false → p ≡ None
+none_told f None p e h = sym e
+none_told f (Some x) p e h = absurd (true≢false h)
+
+-- where something is held, something is told
+pub some_told : {A B : Type 0} (f : A → B) (o : Option A) (p : Option B) → option_map f o ≡ p → is_some o ≡ true → p ≢ None
+some_told f None p e h q = true≢false (sym h)
+some_told f (Some x) p e h q = absurd (cc)

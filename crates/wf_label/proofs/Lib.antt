@@ -6,4 +6,5 @@ pub mod PartsLeft
 pub mod WholeLabels
 pub mod MarksRead
 pub mod MarksSpelled
+pub mod MarksNamed
 pub mod LabelFirst

@@ -41,7 +41,7 @@ module _ (g : Grammar) where
   chain_spelled (Some c) ms = refl
 
   -- these marks are those of a place at the module, and are spelled by these bits
-  record AreSpelled (m : ℕ) (ms : List Mark) (bits : List Bool) : Type 0 where
+  pub record AreSpelled (m : ℕ) (ms : List Mark) (bits : List Bool) : Type 0 where
     pub of_it : AreMarksAt g m false ms
     pub is : flat_map (mark_bits g) ms ≡ bits
 
@@ -64,7 +64,8 @@ module _ (g : Grammar) where
         joined (chain_bits s.chain) (gamma (s.alternative + 1)) (gamma (s.position + 1)) front rest true)));
   }
 
-  place_spelled : (m : ℕ) (steps : List PlaceStep) (c : Option ℕ) (a e : ℕ) → IsPlace g m (record { steps = steps; chain = c; alternative = a; edge = e }) → AreSpelled m (place_marks g m steps c a e) (flat_map step_bits steps ++ ending_bits c a e)
+  -- the marks of a place are spelled by the bits of the place
+  pub place_spelled : (m : ℕ) (steps : List PlaceStep) (c : Option ℕ) (a e : ℕ) → IsPlace g m (record { steps = steps; chain = c; alternative = a; edge = e }) → AreSpelled m (place_marks g m steps c a e) (flat_map step_bits steps ++ ending_bits c a e)
   place_spelled m [] c a e h =
       let chain : IsChain g m c h.from = subst (λ z. IsChain g z c h.from) (sym h.leads) h.chain in
       let p = production_named m c h.from a h.production chain h.of_it h.alternative in

@@ -1,6 +1,6 @@
 -- The marks of a label: what it tells, in order, with the productions and steps that its numbers name in the grammar.
 use Rattle.std.specs.Prelude.{◌≡◌, ◌≢◌, ℕ, ◌+◌, ◌^◌, ◌<◌, Bool, true, false, List, [], ◌∷◌, ◌++◌, length, get_or, flat_map, Option, Some, None, MatchOption}
-use Rattle.wf_model.specs.Grammar.{Grammar, production_at, alternative_of, IsProductionOf}
+use Rattle.wf_model.specs.Grammar.{Grammar, production_at, inputs_of, outputs_of, head_of, alternative_of, IsProductionOf}
 use Rattle.wf_model.specs.Reach.{Step, target_of}
 use Rattle.wf_model.specs.Linear.{IsStepOf, IsLinear}
 use Rattle.bit_pack.specs.Gamma.{gamma}
@@ -28,6 +28,14 @@ mark_of (OutputHeld p) = AtOutput p.0
 mark_of (ChainHeld c) = Chain c
 mark_of (IntoHeld s) = Into (step_of s)
 mark_of (EndHeld p e) = End p.0 e.0
+
+-- what a mark names is there in the grammar
+abbrev pub IsMarkOf : Grammar → Mark → Type 0
+IsMarkOf g (AtInput p) = p < inputs_of g g.start
+IsMarkOf g (AtOutput p) = p < outputs_of g g.start
+IsMarkOf g (Chain c) = c < 2 ^ 24
+IsMarkOf g (Into s) = IsStepOf g (head_of g s.production) s
+IsMarkOf g (End p e) = (p < length g.productions) × (e < length (production_at g p).edges)
 
 -- the production of a module with this alternative number
 abbrev pub production_by : Grammar → ℕ → ℕ → ℕ
@@ -58,7 +66,7 @@ marks_of g (Input p) = AtInput p ∷ []
 marks_of g (Output p) = AtOutput p ∷ []
 marks_of g (OfEdge p) = place_marks g g.start p.steps p.chain p.alternative p.edge
 
--- the bits of a mark of a place
+-- the bits of a mark; before those of a place stands one bit more
 abbrev pub mark_bits : Grammar → Mark → List Bool
 mark_bits g (AtInput p) = false ∷ false ∷ gamma (p + 1)
 mark_bits g (AtOutput p) = false ∷ true ∷ gamma (p + 1)

@@ -3,7 +3,7 @@ ghost use Rattle.std.specs.Prelude.{◌≡◌, ◌<◌, length, IfSome, MatchOpt
 ghost use Rattle.wf_model.specs.Linear.{IsLinear};
 ghost use Rattle.label_model.specs.Labels.{Label, label_bits, IsLabel};
 ghost use Rattle.wf_recur.specs.Cycles.{AreCyclesOf};
-ghost use Rattle.wf_label.specs.Marks.{marks_of, HasMarks, IsFirst, IsNext, AreLeft};
+ghost use Rattle.wf_label.specs.Marks.{marks_of, mark_of, HasMarks, IsMarkOf, IsFirst, IsNext, AreLeft};
 ghost use Rattle.wf_label.specs.Values.{AreLabelBits};
 
 use crate::parts::{continuing_step, read_alternative, read_number};
@@ -156,6 +156,7 @@ impl<'a, 'g> Cursor<'a, 'g> {
     /// Cost: linear in the bits of the mark.
     pub fn next(&mut self) -> Option<Mark>
         ensures next { IsNext self.old result self.new }
+        ensures named { IfSome result (λ k. IsMarkOf self.old.grammar (mark_of k)) }
         ensures fewer { IfSome result (λ _. length self.new.left < length self.old.left) }
         ensures same { self.new.grammar ≡ self.old.grammar }
     {

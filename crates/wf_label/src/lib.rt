@@ -18,3 +18,6 @@ pub use cursor::{Cursor, Mark};
 pub use label::{Label, Place, PlaceStep};
 pub use reference::LabelRef;
 pub use write::{write_ending, write_label, write_step};
+
+#[cfg(test)]
+mod worked;

@@ -1,34 +1,26 @@
-use Rattle.std.proofs.Common.{◌≡◌, ◌≢◌, ◌+◌, true, false, length, Option, Some, None, sym, ap, subst, arith, length-append, true≢false}
-use Rattle.std.specs.Prelude.{option_map, is_some}
+use Rattle.std.proofs.Common.{◌+◌, true, false, length, sym, ap, subst, arith, length-append}
 use Rattle.bit_pack.specs.Gamma.{gamma}
 use Rattle.wf_label.specs.Marks.{BeginMarks}
+use Rattle.wf_label.proofs.ByTable.{none_told, some_told}
 use Rattle.wf_label.proofs.MarksRead.{ok_from, some_bit, marks_below, no_chain, chain_number, chain_read}
 use Rattle.wf_label.proofs.cursor.place_mark.Goals as goal
-
-is_nothing : {A B : Type 0} (f : A → B) (o : Option A) (p : Option B) → option_map f o ≡ p → is_some o ≡ false → p ≡ None
-is_nothing f None p e h = sym e
-is_nothing f (Some x) p e h = absurd (true≢false h)
-
-is_something : {A B : Type 0} (f : A → B) (o : Option A) (p : Option B) → option_map f o ≡ p → is_some o ≡ true → p ≢ None
-is_something f None p e h q = true≢false (sym h)
-is_something f (Some x) p e h q = absurd (cc)
 
 pub continuing_step-requires-clause-in_range : goal.continuing_step-requires-clause-in_range
 continuing_step-requires-clause-in_range c = marks_below c.args.g.now.core c.start-formed.ensures.formed c.args.m.0 false c.requires.marks.0 c.requires.marks.1.of_it
 
 pub part_mark-requires : goal.part_mark-requires
 part_mark-requires c =
-    let none = is_nothing _ c.continuing_step.result _ c.continuing_step.ensures c.if-is_none.ensures in
+    let none = none_told _ c.continuing_step.result _ c.continuing_step.ensures c.if-is_none.ensures in
     (c.requires.marks.0, no_chain c.args.g.now.core c.args.m.0 c.args.bits.now.left c.requires.marks.0 none c.requires.marks.1)
 
 pub returns-then-is_none-clause-first : goal.returns-then-is_none-clause-first
 returns-then-is_none-clause-first c = λ marks h.
-    let none = is_nothing _ c.continuing_step.result _ c.continuing_step.ensures c.if-is_none.ensures in
+    let none = none_told _ c.continuing_step.result _ c.continuing_step.ensures c.if-is_none.ensures in
     c.part_mark.ensures.first marks (no_chain c.args.g.now.core c.args.m.0 c.args.bits.now.left marks none h)
 
 pub unwrap-c-requires : goal.unwrap-c-requires
 unwrap-c-requires c =
-    let on = is_something _ c.continuing_step.result _ c.continuing_step.ensures c.if-is_none.ensures in
+    let on = some_told _ c.continuing_step.result _ c.continuing_step.ensures c.if-is_none.ensures in
     ok_from c.read_number.result (λ e. chain_number c.args.g.now.core c.args.m.0 c.args.bits.now.left c.requires.marks.0 on c.requires.marks.1 (c.read_number.ensures.malformed e))
 
 pub passed-requires-clause-module_no : goal.passed-requires-clause-module_no
@@ -38,7 +30,7 @@ pub returns-clause-first : goal.returns-clause-first
 returns-clause-first c = λ marks h.
     let g = c.args.g.now.core in
     let n = c.unwrap-c.result in
-    let on = is_something _ c.continuing_step.result _ c.continuing_step.ensures c.if-is_none.ensures in
+    let on = some_told _ c.continuing_step.result _ c.continuing_step.ensures c.if-is_none.ensures in
     let number = rw c.unwrap-c.ensures at c.read_number.ensures.read in
     let r = chain_read g c.args.m.0 n c.args.bits.now.left c.read_number.new.reader.left marks on h number.is in
     (r.0, r.1, subst (λ z. BeginMarks g z true c.read_number.new.reader.left r.0) (sym c.passed.ensures.to) r.2)
