@@ -1,4 +1,4 @@
-use Rattle.std.proofs.Common.{arith, ◌≡◌, ◌≤◌, List, ◌++◌, map, length, ap, sym, ◌∙◌, subst}
+use Rattle.std.proofs.Common.{arith, ◌≡◌, List, ◌++◌, map, ap, sym, ◌∙◌}
 use Rattle.wf_model.specs.Grammar.{Module, module_at}
 use Rattle.wf_model.specs.declared.numbers.Side.TheVariants.{Input as InputSide, Output as OutputSide}
 use Rattle.label_model.specs.Files.{Entry, entry_of}
