@@ -1,6 +1,7 @@
 -- An expand event that a run takes: its instance is there, with the bits of the labels of the items that the event makes.
-use Rattle.std.proofs.Common.{◌≡◌, ℕ, suc, ◌<◌, List, [], ◌∷◌, ◌++◌, map, length, get_or, zip, Option, Some, None, bytes_eq, refl, ap, sym, ◌∙◌, subst}
-use Rattle.std.specs.Prelude.{position}
+use Rattle.std.proofs.Common.{◌≡◌, ℕ, suc, ◌<◌, true, not, List, [], ◌∷◌, ◌++◌, map, length, get_or, zip, Option, Some, None, bytes_eq, refl, ap, sym, ◌∙◌, subst, arith, true≢false}
+use Rattle.std.specs.Prelude.{position, is_some, option_map, ◌==◌}
+use Rattle.std.proofs.lemmas.Bool.Decides.{nat_tests}
 use Rattle.std.proofs.lemmas.List.{length-map, get_or-map}
 use Rattle.std.proofs.lemmas.List.Quantifiers.{position-Some}
 use Rattle.wf_model.specs.declared.event.Event.{Event}
@@ -8,7 +9,7 @@ use Rattle.wf_model.specs.declared.event.Event.TheVariants.{Expand}
 use Rattle.wf_model.specs.Lists.{IsIn, numbers_from}
 use Rattle.wf_model.specs.Grammar.{Grammar, Edge, production_at, head_of, alternative_of}
 use Rattle.wf_model.specs.WellFormed.{IsWellFormed}
-use Rattle.wf_model.specs.Run.{Instance, made, names_of, CanExpand, IsAccepted}
+use Rattle.wf_model.specs.Run.{Instance, made, names_of, expanded_by, CanExpand, IsAccepted}
 use Rattle.wf_model.specs.Items.{edge_item}
 use Rattle.wf_model.specs.Faults.{fault_of}
 use Rattle.wf_model.proofs.Lists.{same_bytes, is_at, at_in}
@@ -24,7 +25,7 @@ use Rattle.label_model.specs.Places.{place_of}
 use Rattle.label_model.specs.Files.{Entry, entry_of}
 use Rattle.label_model.specs.RunLabels.{address_in, labelled_by, IsPrefix}
 use Rattle.label_model.proofs.RunPrefixes.{prefix_in_run_law}
-use Rattle.wf_run.specs.Runs.{RunSeen, Node, node_at, name_at, IsRunOf}
+use Rattle.wf_run.specs.Runs.{RunSeen, Node, node_at, name_at, IsExpandedAs, IsRunOf}
 use Rattle.wf_spec.proofs.Numbering.{not_found}
 use Rattle.wf_labeller.specs.Entries.{edge_entry, numbered}
 
@@ -32,18 +33,20 @@ module _ (r : RunSeen) (events : List Event) (run : IsRunOf r events) (i : List 
   abbrev g : Grammar
   g = r.grammar.core
 
+  -- the instances before the event
   abbrev all : List Instance
   all = made g g.start events
 
   after : IsAccepted g r.most (events ++ Expand i p names ∷ [])
   after = (taking_law g r.most events (Expand i p names) run.accepted).0 taken
 
-  pub can : CanExpand g g.start events i p names
+  can : CanExpand g g.start events i p names
   can = (AllExtend-append g g.start [] events (Expand i p names ∷ []) after.0).1.0
 
   there : IsIn i (names_of all)
   there = name_in _ all can.stands
 
+  -- the name of the instance is found
   pub is_found : position (bytes_eq i) r.names ≡ None → ⊥
   is_found e = not_found r.names i None (sym e) refl (subst (IsIn i) (sym run.names) there)
 
@@ -66,11 +69,27 @@ module _ (r : RunSeen) (events : List Event) (run : IsRunOf r events) (i : List 
         (at_in (get_or all k none) k all (is_at k all none within)) can.stands
         (sym (get_or-map (λ (j : Instance). j.name) all k none [] within) ∙ (sym (ap (λ l. get_or l k []) run.names) ∙ sym its_name))
 
+    -- so its module is the head of the production
     its_module : (node_at r k).module_no ≡ head_of g p
     its_module =
         sym (get_or-map (λ (n : Node). n.module_no) r.nodes k _ 0 in_nodes) ∙ (ap (λ l. get_or l k 0) run.modules ∙
         (get_or-map (λ (j : Instance). j.module_no) all k none 0 within ∙ ap (λ (j : Instance). j.module_no) its_instance))
 
+    -- which a test of the two does not deny
+    pub is_of_head : (m q : ℕ) → m ≡ (node_at r k).module_no → q ≡ head_of g p → not (m == q) ≡ true → ⊥
+    is_of_head m q a b e = let f : m ≡ q = a ∙ (its_module ∙ sym b) in absurd (grind (arith, nat_tests))
+
+    -- it has no children yet
+    pub is_closed : {A : Type 0} (f : A → List ℕ) (o : Option A) → option_map f o ≡ (node_at r k).children → is_some o ≡ true → ⊥
+    is_closed f None a e = true≢false (sym e)
+    is_closed f (Some x) a e =
+        let opened = subst (IsExpandedAs r events (name_at r k)) (sym a) (run.each k in_nodes).children in
+        let closed = can.open_end in
+        let same = ap (expanded_by events) its_name in
+        let other = opened.1 in
+        absurd (cc)
+
+    -- it is one of a composite module, so the run keeps its prefix
     its_prefix : IsPrefix g events i (node_at r k).bits (node_at r k).chain
     its_prefix = subst (λ n. IsPrefix g events n (node_at r k).bits (node_at r k).chain) (sym its_name) ((run.each k in_nodes).composite (p, (can.in_range, sym its_module)))
 

@@ -58,13 +58,14 @@ pub(crate) fn edge_entries(
     ensures { IfOk result (λ es. map entry_seen es.items ≡ map (edge_entry g.now.core production.0 names.now (first_bits prefix.entry.bytes.now prefix.entry.length) prefix.entry.chain) (numbered 0 (production_at g.now.core production.0).edges)) }
 {
     let rule = g.production(production);
+    let alternative = rule.alternative();
     let edges = rule.edges();
     let mut entries = Vec::with_capacity(alloc, edges.len())?;
     for k in 0..edges.len() {
         let from = edges[k].from;
         let instance = names[from.pos.0 as usize].bytes();
         let port = output_at(g, production, from);
-        let label = edge_bits(alloc, prefix, rule.alternative(), EdgeNo(k as u16))?;
+        let label = edge_bits(alloc, prefix, alternative, EdgeNo(k as u16))?;
         entries.push(Entry::new(alloc, instance, port, &label)?)?;
     }
     Ok(entries)

@@ -149,7 +149,7 @@ fn inner_entries(
     edge_entries(alloc, g, number, names, run.prefix(n))
 }
 
-/// The numbers of an instance and of a production, where both are there and there is one name for each position.
+/// The numbers of an instance and of a production by which it may be expanded into these names. None tells that the run refuses the event.
 fn place(
     run: &Run<'_>,
     instance: &[u8],
@@ -166,7 +166,14 @@ fn place(
         return None;
     }
     let number = ProdNo(production as u16);
-    if names.len() != g.production(number).positions().len() {
+    let rule = g.production(number);
+    if run.module(n) != rule.head() {
+        return None;
+    }
+    if run.children(n).is_some() {
+        return None;
+    }
+    if names.len() != rule.positions().len() {
         return None;
     }
     Some((n, number))

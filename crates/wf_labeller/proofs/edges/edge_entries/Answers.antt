@@ -37,5 +37,5 @@ loop-k-preserved c =
     let below = from_below g c.production-rule.ensures.formed p c.requires.production _ _ c.production-rule.ensures.core c.edges-edges.ensures c.loop-k.k no_edge c.loop-k-test.true in
     let at = get_or c.edges-edges.result.now c.loop-k.k no_edge in
     let one = entry_is g p c.args.names.now bits c.args.prefix.chain (edge_of at) c.loop-k.k _ _ _ _ _ _ c.in_ok-new.ensures c.bytes-instance.ensures c.index-names-from.is (subst (λ n. at.from.pos.0 < n) (sym c.requires.one_each) below)
-    c.output_at-port.ensures c.in_ok-label.ensures (c.alternative.ensures ∙ c.production-rule.ensures.alternative) in
+    c.output_at-port.ensures c.in_ok-label.ensures (c.alternative-alternative.ensures ∙ c.production-rule.ensures.alternative) in
     entries-cons (edge_entry g p c.args.names.now bits c.args.prefix.chain) c.edges-edges.result.now c.loop-k.k no_edge _ _ c.loop-k-test.true (seen-push _ _ _ _ c.in_ok-push.ensures.items one) ∙ c.loop-k.invariant

@@ -1,6 +1,17 @@
-use Rattle.std.proofs.Common.{sym}
-use Rattle.wf_labeller.proofs.Expansions.{is_found}
+use Rattle.std.proofs.Common.{sym, ap, ◌∙◌}
+use Rattle.wf_model.specs.Grammar.{Production, head_of}
+use Rattle.wf_spec.specs.Held.{HeldGrammar}
+use Rattle.wf_labeller.proofs.Expansions.{is_found, is_of_head, is_closed}
 use Rattle.wf_labeller.proofs.labeller.place.Goals as goal
 
 pub returns-in_err-n-clause-none : goal.returns-in_err-n-clause-none
 returns-in_err-n-clause-none c none events run taken = is_found c.args.run.now events run c.args.instance.now c.args.production c.args.names.now taken (sym c.in_err-n.ensures.place)
+
+pub returns-then-ne-clause-none : goal.returns-then-ne-clause-none
+returns-then-ne-clause-none c none events run taken =
+    let head = c.head.ensures ∙ (ap (λ (q : Production). q.head) c.production-rule.ensures.core ∙ ap (λ (g : HeldGrammar). head_of g.core c.args.production) c.grammar-g.ensures.grammar) in
+    is_of_head c.args.run.now events run c.args.instance.now c.args.production c.args.names.now taken c.in_ok-n.n.0 (sym c.in_ok-n.ensures.place) _ _ c.module.ensures head (sym c.ne.ensures ∙ c.if-ne.true)
+
+pub returns-then-is_some-clause-none : goal.returns-then-is_some-clause-none
+returns-then-is_some-clause-none c none events run taken =
+    is_closed c.args.run.now events run c.args.instance.now c.args.production c.args.names.now taken c.in_ok-n.n.0 (sym c.in_ok-n.ensures.place) _ _ c.children.ensures (sym c.is_some.ensures ∙ c.if-is_some.true)

@@ -1,4 +1,4 @@
-use Rattle.std.proofs.Common.{◌≡◌, ◌≤◌, List, ◌++◌, map, length, ap, sym, ◌∙◌, subst}
+use Rattle.std.proofs.Common.{arith, ◌≡◌, List, ◌++◌, map, ap, sym, ◌∙◌}
 use Rattle.wf_model.specs.Grammar.{Module, module_at}
 use Rattle.wf_model.specs.declared.numbers.Side.TheVariants.{Input as InputSide, Output as OutputSide}
 use Rattle.label_model.specs.Files.{Entry, entry_of}
@@ -7,14 +7,10 @@ use Rattle.wf_labeller.proofs.RootPorts.{root_read, labelled-start}
 use Rattle.wf_labeller.proofs.ports.root_entries.Goals as goal
 
 pub append_ports-requires : goal.append_ports-requires
-append_ports-requires c =
-    let r = root_read c.args.g.now.core _ _ _ c.start.ensures.formed c.modules.ensures.modules c.start.ensures.start c.index-modules-start.is in
-    subst (λ (l : List (List _)). length l ≤ 64) (sym c.inputs.ensures) r.few_inputs
+append_ports-requires c = grind (arith, root_read c.args.g.now.core _ _ _ c.start.ensures.formed c.modules.ensures.modules c.start.ensures.start c.index-modules-start.is)
 
 pub append_ports-requires-2 : goal.append_ports-requires-2
-append_ports-requires-2 c =
-    let r = root_read c.args.g.now.core _ _ _ c.start.ensures.formed c.modules.ensures.modules c.start.ensures.start c.index-modules-start.is in
-    subst (λ (l : List (List _)). length l ≤ 64) (sym c.outputs.ensures) r.few_outputs
+append_ports-requires-2 c = grind (arith, root_read c.args.g.now.core _ _ _ c.start.ensures.formed c.modules.ensures.modules c.start.ensures.start c.index-modules-start.is)
 
 pub returns : goal.returns
 returns c events =
