@@ -33,9 +33,10 @@ impl<'a> LabelRef<'a> {
         }
         let mut reader = BitReader::new(bytes);
         pass_label(g, cycles, &mut reader)?;
-        if !reader.padding() {
-            return Err(Malformed);
+        if reader.padding() {
+            Ok(LabelRef::new(bytes, reader.at() as u32))
+        } else {
+            Err(Malformed)
         }
-        Ok(LabelRef::new(bytes, reader.at() as u32))
     }
 }

@@ -8,6 +8,8 @@
 mod check;
 mod cursor;
 mod label;
+#[cfg(test)]
+mod label_tests;
 mod parts;
 mod passing;
 mod reference;

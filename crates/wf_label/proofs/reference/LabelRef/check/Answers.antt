@@ -29,12 +29,12 @@ returns-in_err-pass_label-clause-malformed c =
     let none = subst (λ (r : Reading). ¬ IsLabelLeft g r.left) c.new-reader.ensures (c.in_err-pass_label.ensures.malformed refl) in
     at_error (¬ IsLabelBytes g c.args.bytes.now) c.from_residual.result (nothing_read g c.args.bytes.now none)
 
-pub returns-then-not-padding-clause-malformed : goal.returns-then-not-padding-clause-malformed
-returns-then-not-padding-clause-malformed c =
+pub returns-else-padding-clause-malformed : goal.returns-else-padding-clause-malformed
+returns-else-padding-clause-malformed c =
     let g = c.args.g.now.core in
     let r = c.pass_label.new.reader in
     let h = subst (λ a. IsPassed (IsLabelLeft g) IsPadding a r) c.new-reader.ensures c.in_ok-pass_label.ensures.passed in
-    more_left g c.args.bytes.now r h (λ p. true≢false (sym (c.padding.ensures.1 p) ∙ c.if-not-padding.true))
+    more_left g c.args.bytes.now r h (λ p. true≢false (sym (c.padding.ensures.1 p) ∙ c.if-padding.false))
 
 pub overflow_cast-at : goal.overflow_cast-at
 overflow_cast-at c =
@@ -48,13 +48,13 @@ new-requires c =
     let r = c.pass_label.new.reader in
     let are : AreBytes bytes = All-from_get_or (λ b. b < 256) bytes 0 (λ i h. let fits = c.type_inv.bytes i in omega arith) in
     let few = c.if-bytes-gt16384.false in
-    subst (IsWhole bytes) (sym c.at.ensures) (whole_read c.args.g.now.core bytes r (read c) (c.padding.ensures.0 c.if-not-padding.false) are (omega arith))
+    subst (IsWhole bytes) (sym c.at.ensures) (whole_read c.args.g.now.core bytes r (read c) (c.padding.ensures.0 c.if-padding.true) are (omega arith))
 
-pub returns-clause-label : goal.returns-clause-label
-returns-clause-label c =
+pub returns-then-padding-clause-label : goal.returns-then-padding-clause-label
+returns-then-padding-clause-label c =
     let g = c.args.g.now.core in
     let bytes = c.args.bytes.now in
     let r = c.pass_label.new.reader in
     let h = subst (λ a. IsPassed (IsLabelLeft g) IsPadding a r) c.new-reader.ensures c.in_ok-pass_label.ensures.passed in
     let is = c.new.ensures ∙ ap (first_bits bytes) c.at.ensures in
-    subst (λ bits. AreLabelBits g bits × Holds bytes bits) (sym is) (bits_read g bytes r h, bytes_read g bytes r h (c.padding.ensures.0 c.if-not-padding.false))
+    subst (λ bits. AreLabelBits g bits × Holds bytes bits) (sym is) (bits_read g bytes r h, bytes_read g bytes r h (c.padding.ensures.0 c.if-padding.true))
