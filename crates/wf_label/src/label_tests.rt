@@ -2,7 +2,7 @@
 use super::*;
 use std::alloc::{AllocError, Global};
 use std::test::Fail;
-use wf_recur::{Cycles, cycles};
+use wf_recur::cycles;
 use wf_spec::{
     EdgeNo, EdgePart, EntryPart, ExitPart, Grammar, ModulePart, Name, Parts, PortNo, PortPart,
     PosNo, PosPart, ProdNo, ProdPart, Seq, Step,
