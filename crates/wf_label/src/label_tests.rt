@@ -1,11 +1,8 @@
 // Bytes that are tried as labels of two grammars. Their bodies are chains, in which each port leads to the port with the same digit.
-ghost use Rattle.wf_model.specs.Linear.{IsLinear};
-ghost use Rattle.wf_recur.specs.Cycles.{AreCyclesOf};
-
 use super::*;
 use std::alloc::{AllocError, Global};
 use std::test::Fail;
-use wf_recur::{Cycles, cycles};
+use wf_recur::cycles;
 use wf_spec::{
     EdgeNo, EdgePart, EntryPart, ExitPart, Grammar, ModulePart, Name, Parts, PortNo, PortPart,
     PosNo, PosPart, ProdNo, ProdPart, Seq, Step,
@@ -161,75 +158,80 @@ fn twisting(alloc: Global) -> Result<Grammar, Fail> {
     )
 }
 
+/// Whether none of these is a label.
+fn are_refused(alloc: Global, g: &Grammar, texts: &[&[u8]]) -> Result<bool, Fail> {
+    let table = cycles(alloc, g)?;
+    for bytes in texts {
+        if LabelRef::check(g, &table, bytes).is_ok() {
+            return Ok(false);
+        }
+    }
+    Ok(true)
+}
+
+/// The length of a label, and what a cursor tells at its first four calls.
+fn told(alloc: Global, g: &Grammar, bytes: &[u8]) -> Result<(u32, [Option<Mark>; 4]), Fail> {
+    let table = cycles(alloc, g)?;
+    let Ok(label) = LabelRef::check(g, &table, bytes) else {
+        return Err(Fail::new("a label"));
+    };
+    let mut cursor = label.cursor(g, &table);
+    let marks = [cursor.next(), cursor.next(), cursor.next(), cursor.next()];
+    Ok((label.length(), marks))
+}
+
 #[test]
 fn bytes_that_are_no_label_are_refused(rt: HostRuntime) -> Result<(), Fail> {
     let g = line(rt.alloc())?;
-    let table = cycles(rt.alloc(), &g)?;
-    for bytes in [
-        [].as_slice(),
+    let texts: &[&[u8]] = &[
+        b"",
         &[0x00],
         &[0x10],
         &[0x28],
         &[0x30],
         &[0xb1],
         &[0xb0, 0x00],
-    ] {
-        assert!(rt; LabelRef::check(&g, &table, bytes).is_err());
-    }
+    ];
+    assert!(rt; are_refused(rt.alloc(), &g, texts)?);
     let g = twisting(rt.alloc())?;
-    let table = cycles(rt.alloc(), &g)?;
-    for bytes in [
-        [0xfe, 0xac].as_slice(),
-        &[0xf0, 0x00, 0x00, 0x08, 0x00, 0x00, 0x0b],
-    ] {
-        assert!(rt; LabelRef::check(&g, &table, bytes).is_err());
-    }
+    // A step along the continuing step, and a chain number of 2^24.
+    let texts: &[&[u8]] = &[&[0xfe, 0xac], &[0xf0, 0x00, 0x00, 0x08, 0x00, 0x00, 0x0b]];
+    assert!(rt; are_refused(rt.alloc(), &g, texts)?);
     Ok(())
-}
-
-/// The length of a label, and what a cursor tells at its first four calls.
-fn told(g: &Grammar, table: &Cycles, bytes: &[u8]) -> Result<(u32, [Option<Mark>; 4]), Malformed>
-    requires linear { IsLinear g.now.core }
-    requires cycles { AreCyclesOf g.now.core table.now }
-{
-    let label = LabelRef::check(g, table, bytes)?;
-    let mut cursor = label.cursor(g, table);
-    let marks = [cursor.next(), cursor.next(), cursor.next(), cursor.next()];
-    Ok((label.length(), marks))
 }
 
 #[test]
 fn labels_are_told_mark_by_mark(rt: HostRuntime) -> Result<(), Fail> {
     let g = line(rt.alloc())?;
-    let table = cycles(rt.alloc(), &g)?;
+    let port = PortNo(0);
     let production = ProdNo(0);
     let edge = EdgeNo(0);
     for (byte, length, mark) in [
-        (0x20, 3, Mark::Input(PortNo(0))),
-        (0x60, 3, Mark::Output(PortNo(0))),
+        (0x20, 3, Mark::Input(port)),
+        (0x60, 3, Mark::Output(port)),
         (0xb0, 4, Mark::End { production, edge }),
     ] {
         let marks = [Some(mark), None, None, None];
-        assert_eq!(rt; told(&g, &table, &[byte]), Ok((length, marks)));
+        assert_eq!(rt; told(rt.alloc(), &g, &[byte])?, (length, marks));
     }
     let g = twisting(rt.alloc())?;
-    let table = cycles(rt.alloc(), &g)?;
-    let position = PosNo(0);
+    let into = Step {
+        production,
+        position: PosNo(0),
+    };
+    let end = Mark::End {
+        production: ProdNo(1),
+        edge,
+    };
     let marks = [
-        Some(Mark::Into(Step {
-            production,
-            position,
-        })),
+        Some(Mark::Into(into)),
         Some(Mark::Chain(100_000)),
-        Some(Mark::End {
-            production: ProdNo(1),
-            edge,
-        }),
+        Some(end),
         None,
     ];
     assert_eq!(rt;
-        told(&g, &table, &[0xf0, 0x00, 0x0c, 0x35, 0x0b]),
-        Ok((40, marks))
+        told(rt.alloc(), &g, &[0xf0, 0x00, 0x0c, 0x35, 0x0b])?,
+        (40, marks)
     );
     Ok(())
 }
