@@ -22,4 +22,4 @@ pub use reference::LabelRef;
 pub use write::{write_ending, write_label, write_step};
 
 #[cfg(test)]
-mod worked;
+mod write_tests;
