@@ -19,7 +19,14 @@ pub mod SeenModules
 pub mod FlatLinks
 pub mod Answered
 pub mod Tracing
+pub mod TakenLines
+pub mod Labelling
+pub mod Ingesting
+pub mod Behind
+pub mod IngestStages
+pub mod GrownLines
 pub mod OutcomeLaws
+pub mod IngestGrows
 pub mod Writing
 pub mod NumberedTexts
 pub mod ViewLines

@@ -41,7 +41,7 @@ accepted_before g limit a b h =
 
 module _ (g : Grammar) (limit : ℕ) where
   -- a run that is accepted took each of its events
-  takes : (before : List Event) (e : Event) (es : List Event) → IsAccepted g limit (before ++ e ∷ es) → fault_of g limit before e ≡ None
+  pub takes : (before : List Event) (e : Event) (es : List Event) → IsAccepted g limit (before ++ e ∷ es) → fault_of g limit before e ≡ None
   takes before e es acc =
       (taking_law g limit before e (accepted_before g limit before (e ∷ es) acc)).1
       (accepted_before g limit (before ++ e ∷ []) es (subst (IsAccepted g limit) (sym (append_assoc before (e ∷ []) es)) acc))

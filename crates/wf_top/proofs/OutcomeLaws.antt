@@ -1,5 +1,5 @@
 -- Words and files have one outcome at most.
-use Rattle.std.proofs.Common.{◌≡◌, ℕ, ◌<◌, ◌≤◌, List, [], ◌∷◌, ◌++◌, length, Option, Some, None, sym, ap, ◌∙◌, subst, inl, inr, arith, true≢false}
+use Rattle.std.proofs.Common.{◌≡◌, ℕ, ◌<◌, ◌≤◌, List, [], ◌∷◌, ◌++◌, Option, Some, None, sym, ap, ◌∙◌, subst, inl, inr, arith, true≢false}
 use Rattle.wf_model.specs.declared.event.Event.{Event}
 use Rattle.wf_model.specs.Grammar.{Grammar}
 use Rattle.wf_model.specs.View.{View as ViewOf}
@@ -8,24 +8,30 @@ use Rattle.wf_model.specs.Proper.{IsProper}
 use Rattle.wf_model.specs.Linear.{IsLinear}
 use Rattle.wf_model.specs.WellFormed.{IsWellFormed}
 use Rattle.wf_io.specs.Told.{File}
-use Rattle.wf_io.specs.Lines.{Line}
+use Rattle.wf_io.specs.Lines.{Line, lines_of}
 use Rattle.wf_top.specs.declared.ending.Place.{Place}
 use Rattle.wf_top.specs.declared.ending.Place.TheVariants.{Spec, View, Events, Queries}
 use Rattle.wf_top.specs.Endings.{End, Refused}
-use Rattle.wf_top.specs.Words.{Command, Check, View as ViewCommand, Trace, command_of}
+use Rattle.wf_top.specs.Words.{Command, Check, View as ViewCommand, Ingest, Trace, command_of}
 use Rattle.wf_top.specs.Specification.{TellsGrammar, RefusesSpec}
 use Rattle.wf_top.specs.Telling.{IsNotBuilt, OfWhole}
 use Rattle.wf_top.specs.ViewTold.{TellsView, RefusesView}
 use Rattle.wf_top.specs.RunTold.{TellsRun, RefusesRun}
-use Rattle.wf_top.specs.Outcome.{Stage, too_long, broken, refused, goes_on, TellsLines, AreAnswered, SpecStage, ViewStage, IsChecked, IsViewWritten, Checks, Views, Traces, Does, short_most, long_most}
+use Rattle.wf_top.specs.Ingested.{IngestsLines, refused as stopped, done, file_of}
+use Rattle.wf_top.specs.Outcome.{Stage, too_long, broken, refused, goes_on, TellsLines, AreAnswered, SpecStage, ViewStage, IsChecked, IsViewWritten, IngestsEvents, long_events, broken_events, event_lines, Checks, Views, Ingests, Traces, Does, short_most, long_most, instance_most}
 use Rattle.wf_top.specs.Laws.{OneOutcomeLaw}
-use Rattle.wf_top.proofs.OneOutcome.{one_grammar, one_view, one_run, one_written}
+use Rattle.wf_top.proofs.OneOutcome.{one_grammar, one_view, one_run, one_written, one_list}
 use Rattle.wf_top.proofs.OneFault.{one_refusal, no_refusal}
 use Rattle.wf_top.proofs.OneViewFault.{one_refusal_of_view, no_refusal_of_view}
 use Rattle.wf_top.proofs.OneRunFault.{one_refusal_of_run, no_refusal_of_run}
 use Rattle.wf_top.proofs.OneText.{one_text}
 use Rattle.wf_top.proofs.OneViewText.{one_view_text}
 use Rattle.wf_top.proofs.ViewComposites.{told_composites}
+use Rattle.wf_top.proofs.TakenLines.{one_stop, not_stopped}
+
+-- what is too long is not short
+pub past_most : {m n : ℕ} → m < n → n ≤ m → ⊥
+past_most l s = absurd (omega arith)
 
 -- ends and texts that are the same
 abbrev AreSame : End → End → List ℕ → List ℕ → Type 0
@@ -36,24 +42,21 @@ module _ {A : Type 0} (most : ℕ) (place : Place) (file : File) (Tells : List �
     (one_fault : (l m : Option ℕ) (x y : List ℕ) → Refuses file.bytes l x → Refuses file.bytes m y → (l ≡ m) × (x ≡ y))
     (apart : (a : A) (l : Option ℕ) (x : List ℕ) → Tells file.bytes a → Refuses file.bytes l x → ⊥)
     (next_one : (a : A) → Tells file.bytes a → (d e : End) (t s : List ℕ) → Next a d t → Next a e s → AreSame d e t s) where
-  too_short : most < length file.bytes → length file.bytes ≤ most → ⊥
-  too_short l s = absurd (omega arith)
-
   -- a stage has one outcome where what follows has
   one_stage : (d e : End) (t s : List ℕ) → Stage most place file Tells Refuses Next d t → Stage most place file Tells Refuses Next e s → AreSame d e t s
   one_stage d e t s (too_long l x y) (too_long m u v) = (x ∙ sym u, y ∙ sym v)
-  one_stage d e t s (too_long l x y) (broken m b u v) = absurd (too_short l m)
-  one_stage d e t s (too_long l x y) (refused m b n f h u v) = absurd (too_short l m)
-  one_stage d e t s (too_long l x y) (goes_on m b c h n) = absurd (too_short l m)
-  one_stage d e t s (broken l a x y) (too_long m u v) = absurd (too_short m l)
+  one_stage d e t s (too_long l x y) (broken m b u v) = absurd (past_most l m)
+  one_stage d e t s (too_long l x y) (refused m b n f h u v) = absurd (past_most l m)
+  one_stage d e t s (too_long l x y) (goes_on m b c h n) = absurd (past_most l m)
+  one_stage d e t s (broken l a x y) (too_long m u v) = absurd (past_most m l)
   one_stage d e t s (broken l a x y) (broken m b u v) = (x ∙ sym u, y ∙ sym v)
   one_stage d e t s (broken l a x y) (refused m b n f h u v) = absurd (true≢false (sym a ∙ b))
   one_stage d e t s (broken l a x y) (goes_on m b c h n) = absurd (true≢false (sym a ∙ b))
-  one_stage d e t s (refused l a n f k x y) (too_long m u v) = absurd (too_short m l)
+  one_stage d e t s (refused l a n f k x y) (too_long m u v) = absurd (past_most m l)
   one_stage d e t s (refused l a n f k x y) (broken m b u v) = absurd (true≢false (sym b ∙ a))
   one_stage d e t s (refused l a n f k x y) (refused m b o g h u v) = let r = one_fault n o f g k h in (x ∙ (ap (λ z. Refused place z f) r.0 ∙ (ap (Refused place o) r.1 ∙ sym u)), y ∙ sym v)
   one_stage d e t s (refused l a n f k x y) (goes_on m b c h o) = absurd (apart c n f h k)
-  one_stage d e t s (goes_on l a z k n) (too_long m u v) = absurd (too_short m l)
+  one_stage d e t s (goes_on l a z k n) (too_long m u v) = absurd (past_most m l)
   one_stage d e t s (goes_on l a z k n) (broken m b u v) = absurd (true≢false (sym b ∙ a))
   one_stage d e t s (goes_on l a z k n) (refused m b o f h u v) = absurd (apart z o f k h)
   one_stage d e t s (goes_on l a z k n) (goes_on m b c h o) = next_one z k d e t s n (subst (λ x. Next x e s) (one z c k h) o)
@@ -98,6 +101,28 @@ one_trace spec view events queries =
     one_stage long_most Events events (TellsRun g u _) (RefusesRun g u _) _ (one_run g u _ events.bytes) (one_refusal_of_run g _ u events.bytes) (no_refusal_of_run g _ u events.bytes) (λ r told.
     one_open_stage long_most Queries queries TellsLines _ (λ a b x y. y ∙ sym x) (λ ls h. one_answers g u r told.accepted.0 told.finished ls))))
 
+-- lines of events are ingested in one way
+one_ingested : (g : Grammar) (limit : ℕ) (ls : List Line) (d e : End) (t s : List ℕ) → IngestsLines g limit ls d t → IngestsLines g limit ls e s → AreSame d e t s
+one_ingested g limit ls d e t s (stopped es m x a p is) (stopped fs n y b q js) =
+    let r = one_stop g limit ls es fs m n x y a b in (p ∙ (ap (λ k. Refused Events k x) r.1 ∙ (ap (Refused Events n) r.2 ∙ sym q)), is ∙ (ap (file_of g) r.0 ∙ sym js))
+one_ingested g limit ls d e t s (stopped es m x a p is) (done fs told acc q js) = absurd (not_stopped g limit ls fs es m x told acc a)
+one_ingested g limit ls d e t s (done es told acc p is) (stopped fs n y b q js) = absurd (not_stopped g limit ls es fs n y told acc b)
+one_ingested g limit ls d e t s (done es told acc p is) (done fs told_too acc_too q js) = (p ∙ sym q, is ∙ (ap (file_of g) (one_list ls es fs told told_too) ∙ sym js))
+
+one_events : (g : Grammar) (events : File) (d e : End) (t s : List ℕ) → IngestsEvents g events d t → IngestsEvents g events e s → AreSame d e t s
+one_events g events d e t s (long_events l p is) (long_events k q js) = (p ∙ sym q, is ∙ sym js)
+one_events g events d e t s (long_events l p is) (broken_events k b q js) = absurd (past_most l k)
+one_events g events d e t s (long_events l p is) (event_lines k b h) = absurd (past_most l k)
+one_events g events d e t s (broken_events l a p is) (long_events k q js) = absurd (past_most k l)
+one_events g events d e t s (broken_events l a p is) (broken_events k b q js) = (p ∙ sym q, is ∙ sym js)
+one_events g events d e t s (broken_events l a p is) (event_lines k b h) = absurd (true≢false (sym a ∙ b))
+one_events g events d e t s (event_lines l a h) (long_events k q js) = absurd (past_most k l)
+one_events g events d e t s (event_lines l a h) (broken_events k b q js) = absurd (true≢false (sym b ∙ a))
+one_events g events d e t s (event_lines l a h) (event_lines k b i) = one_ingested g instance_most (lines_of events.bytes) d e t s h i
+
+one_ingest : (spec events : File) (d e : End) (t s : List ℕ) → Ingests spec events d t → Ingests spec events e s → AreSame d e t s
+one_ingest spec events = one_spec_stage spec _ (λ g told. one_events g events)
+
 one_check : (spec : File) (d e : End) (t s : List ℕ) → Checks spec d t → Checks spec e s → AreSame d e t s
 one_check spec = one_spec_stage spec IsChecked (λ g told d e t s p q.
     (p.0 ∙ sym q.0, p.1.4 ∙ (one_text g (subst IsLinear (sym told.is) told.linear) p.1.0 q.1.0 p.1.2 q.1.2 p.1.1 q.1.1 p.1.3 q.1.3 ∙ sym q.1.4)))
@@ -113,6 +138,7 @@ one_doing : (files : List ℕ → File) (c : Option Command) (d e : End) (t s : 
 one_doing files None d e t s p q = (p.0 ∙ sym q.0, p.1 ∙ sym q.1)
 one_doing files (Some (Check a)) d e t s p q = one_check (files a) d e t s p q
 one_doing files (Some (ViewCommand a b)) d e t s p q = one_views (files a) (files b) d e t s p q
+one_doing files (Some (Ingest a b)) d e t s p q = one_ingest (files a) (files b) d e t s p q
 one_doing files (Some (Trace a b c f)) d e t s p q = one_trace (files a) (files b) (files c) (files f) d e t s p q
 
 pub one_outcome_law : OneOutcomeLaw

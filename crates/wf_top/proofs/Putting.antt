@@ -29,6 +29,10 @@ shorter k xs ys = (min k (length xs), take-append-le (min k (length xs)) xs ys (
 pub begun_longer : (k : ℕ) (xs ys : List ℕ) (a b : Option (List ℕ)) → Appended (take k xs) a b → (j : ℕ) × Appended (take j (xs ++ ys)) a b
 begun_longer k xs ys a b p = let s = shorter k xs ys in (s.0, subst (λ l. Appended l a b) (sym s.1) p)
 
+-- so is it one of the same text
+pub begun_same : (xs ys : List ℕ) (a b : Option (List ℕ)) → xs ≡ ys → (k : ℕ) × Appended (take k xs) a b → (k : ℕ) × Appended (take k ys) a b
+begun_same xs ys a b e = subst (λ l. (k : ℕ) × Appended (take k l) a b) e
+
 -- a text, and then the beginning of another
 pub begun_after : (xs ys : List ℕ) (k : ℕ) (a b c : Option (List ℕ)) → Appended xs a b → Appended (take k ys) b c → (j : ℕ) × Appended (take j (xs ++ ys)) a c
 begun_after xs ys k a b c p q = (length xs + k, subst (λ l. Appended l a c) (sym (take-append-add xs ys k)) (appended_twice xs (take k ys) a b c p q))

@@ -102,3 +102,7 @@ passed_on R r d old new p h = subst (λ s. EndsBy R (end_after s) old new) (sym 
 -- the cause of an ending, counted from an earlier time
 pub cause_from : {T : Type 0} (r : Result T Ending) (m n after : ℕ) (last : Bool) (i j : ℕ) (out_last : Bool) → m ≡ n → IfErr r (λ e. IsCause m after last i j out_last (end_of e)) → IfErr r (λ e. IsCause n after last i j out_last (end_of e))
 cause_from r m n after last i j out_last p = subst (λ k. IfErr r (λ e. IsCause k after last i j out_last (end_of e))) p
+
+-- and with what out had put by then
+pub cause_later : {T : Type 0} (r : Result T Ending) (before after : ℕ) (last : Bool) (m n j : ℕ) (out_last : Bool) → m ≡ n → IfErr r (λ e. IsCause before after last m j out_last (end_of e)) → IfErr r (λ e. IsCause before after last n j out_last (end_of e))
+cause_later r before after last m n j out_last p = subst (λ k. IfErr r (λ e. IsCause before after last k j out_last (end_of e))) p

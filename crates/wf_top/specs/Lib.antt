@@ -7,6 +7,7 @@ pub mod Specification
 pub mod Telling
 pub mod RunTold
 pub mod CheckText
+pub mod Ingested
 pub mod Outcome
 pub mod Meets
 pub mod Stages
@@ -15,4 +16,5 @@ pub mod ViewTold
 pub mod ViewText
 pub mod Prepared
 pub mod Asked
+pub mod Labelled
 pub mod Laws

@@ -30,6 +30,12 @@ pub record EndsBy (Outcome : End → List ℕ → Type 0) (ending : End) (old ne
   pub whole : IsOfOutcome ending → (text : List ℕ) × Outcome ending text × Appended text old new
   pub begun : (e : End) (text : List ℕ) → Outcome e text → (k : ℕ) × Appended (take k text) old new
 
+-- How the rest of a call ended, behind a text that was put first.
+-- But for a fault of writing and want of memory, the end is related to this text with what out got behind it. Whatever the end is, each text that is related begins with the first one, and out got a beginning of what follows it
+pub record EndsBehind (first : List ℕ) (Outcome : End → List ℕ → Type 0) (ending : End) (old new : Option (List ℕ)) : Type 0 where
+  pub whole : IsOfOutcome ending → (rest : List ℕ) × Outcome ending (first ++ rest) × Appended rest old new
+  pub begun : (e : End) (text : List ℕ) → Outcome e text → (rest : List ℕ) × (text ≡ first ++ rest) × ((k : ℕ) × Appended (take k rest) old new)
+
 -- one text is written, and that is all
 abbrev pub IsWritten : List ℕ → End → List ℕ → Type 0
 IsWritten written ending text = (ending ≡ Done) × (text ≡ written)

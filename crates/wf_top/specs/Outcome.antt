@@ -20,7 +20,8 @@ use Rattle.wf_top.specs.Telling.{IsNotBuilt, OfWhole}
 use Rattle.wf_top.specs.RunTold.{TellsRun, RefusesRun}
 use Rattle.wf_top.specs.CheckText.{check_text_of}
 use Rattle.wf_top.specs.Answers.{IsAnswer}
-use Rattle.wf_top.specs.Words.{Command, Check, View as ViewCommand, Trace, command_of}
+use Rattle.wf_top.specs.Ingested.{IngestsLines, file_of}
+use Rattle.wf_top.specs.Words.{Command, Check, View as ViewCommand, Ingest, Trace, command_of}
 
 -- the fault of a file that is too long
 abbrev pub long_fault : Place → List ℕ
@@ -112,11 +113,22 @@ AnswersView g view events queries = ViewStage g view (λ u. AnswersRun g u event
 abbrev pub Traces : File → File → File → File → End → List ℕ → Type 0
 Traces spec view events queries = SpecStage spec (λ g. AnswersView g view events queries)
 
+-- EVENTS of a grammar, ingested: the label file of no events where the file is too long or broken, and else that of the lines that are taken
+pub data IngestsEvents (g : Grammar) (events : File) (ending : End) (text : List ℕ) : Type 0 where
+  long_events : long_most < length events.bytes → ending ≡ Refused Events None (long_fault Events) → text ≡ file_of g [] → IngestsEvents g events ending text
+  broken_events : length events.bytes ≤ long_most → events.broken ≡ true → ending ≡ ReadFault Events → text ≡ file_of g [] → IngestsEvents g events ending text
+  event_lines : length events.bytes ≤ long_most → events.broken ≡ false → IngestsLines g instance_most (lines_of events.bytes) ending text → IngestsEvents g events ending text
+
+-- `ingest` over SPEC and EVENTS
+abbrev pub Ingests : File → File → End → List ℕ → Type 0
+Ingests spec events = SpecStage spec (λ g. IngestsEvents g events)
+
 -- what a command does over files
 abbrev pub Does : (List ℕ → File) → Option Command → End → List ℕ → Type 0
 Does files None ending text = (ending ≡ Usage) × (text ≡ [])
 Does files (Some (Check s)) ending text = Checks (files s) ending text
 Does files (Some (ViewCommand s v)) ending text = Views (files s) (files v) ending text
+Does files (Some (Ingest s e)) ending text = Ingests (files s) (files e) ending text
 Does files (Some (Trace s v e q)) ending text = Traces (files s) (files v) (files e) (files q) ending text
 
 -- how the program ends over files, and the text that it writes to out

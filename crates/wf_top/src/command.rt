@@ -1,5 +1,5 @@
 // The words of a command.
-ghost use Rattle.std.specs.Prelude.{◌≡◌, Some, None, map, MatchOption};
+ghost use Rattle.std.specs.Prelude.{◌≡◌, ◌∷◌, [], Some, None, map, MatchOption};
 ghost use Rattle.wf_top.specs.Words.{command_of};
 ghost use Rattle.wf_top.specs.Called.{meant};
 
@@ -17,7 +17,24 @@ pub struct TraceWords<'w> {
 pub enum Command<'w> {
     Check { spec: &'w str },
     View { spec: &'w str, view: &'w str },
+    Ingest { spec: &'w str, events: &'w str },
     Trace { words: TraceWords<'w> },
+}
+
+/// The command of two files, if the word is one.
+fn with_two_files<'w>(command: &'w str, spec: &'w str, second: &'w str) -> Option<Command<'w>>
+    ensures { MatchOption result (command_of (command.now ∷ spec.now ∷ second.now ∷ []) ≡ None) (λ c. command_of (command.now ∷ spec.now ∷ second.now ∷ []) ≡ Some (meant c)) }
+{
+    if command == "view" {
+        Some(Command::View { spec, view: second })
+    } else if command == "ingest" {
+        Some(Command::Ingest {
+            spec,
+            events: second,
+        })
+    } else {
+        None
+    }
 }
 
 /// The command that the words are, if they are one.
@@ -32,13 +49,7 @@ pub fn command_of<'w>(words: &'w [&'w str]) -> Option<Command<'w>>
                 None
             }
         }
-        [command, spec, view] => {
-            if *command == "view" {
-                Some(Command::View { spec, view })
-            } else {
-                None
-            }
-        }
+        [command, spec, second] => with_two_files(command, spec, second),
         [command, spec, view, events, queries] => {
             if *command == "trace" {
                 Some(Command::Trace {

@@ -23,10 +23,10 @@ use wf_io::WholeLines;
 use wf_spec::{Event, Grammar, RunFault};
 
 /// The greatest number of instances of a run.
-const INSTANCES: u32 = 16777216;
+pub const INSTANCES: u32 = 16777216;
 
 /// The ending at a line that is refused.
-fn refused(number: u64, refusal: Refusal) -> Ending
+pub fn refused(number: u64, refusal: Refusal) -> Ending
     ensures { end_of result ≡ Refused Events (Some number) (refusal_text refusal) }
 {
     Ending::Refused {
@@ -37,7 +37,7 @@ fn refused(number: u64, refusal: Refusal) -> Ending
 }
 
 /// The event of a line.
-fn event_of_line(alloc: Global, number: u64, line: &[u8]) -> Result<Event, Ending>
+pub fn event_of_line(alloc: Global, number: u64, line: &[u8]) -> Result<Event, Ending>
     ensures ok { IfOk result (λ e. IsEventText line.now e) }
     ensures declines { IfErr result (λ d. Declines Events (AtLine RefusesForm number line.now) (end_of d)) }
 {

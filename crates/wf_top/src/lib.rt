@@ -8,6 +8,8 @@ mod command;
 mod ending;
 mod events;
 mod file;
+mod ingest;
+mod label_lines;
 mod law;
 mod names;
 mod prepared;
@@ -25,12 +27,14 @@ mod trace;
 mod view;
 mod view_text;
 
-pub use law::one_outcome_law;
+pub use law::{ingest_grows_law, one_outcome_law};
 pub use program::run;
 pub use status::Status;
 
 #[cfg(test)]
 mod event_tests;
+#[cfg(test)]
+mod ingest_tests;
 #[cfg(test)]
 mod spec_tests;
 #[cfg(test)]

@@ -11,6 +11,7 @@ ghost use Rattle.wf_top.specs.Stages.{IsCause, IsStop};
 use crate::check::check;
 use crate::command::{Command, command_of};
 use crate::ending::Ending;
+use crate::ingest::ingest;
 use crate::show::show;
 use crate::status::Status;
 use crate::tell::{status_of, tell};
@@ -23,6 +24,8 @@ use wf_io::{Shelf, Sink};
 /// `check SPEC` writes the canonical text of a grammar, and the rank, the choice and the cycle of each composite module.
 ///
 /// `view SPEC VIEW` writes each module that is seen under a safe view, whether it is expanded, and the pairs of its ports that each of its expansions joins.
+///
+/// `ingest SPEC EVENTS` writes the label file of a run: the head once SPEC is accepted, and the entries of the items that an event makes before the next event is taken.
 ///
 /// `trace SPEC VIEW EVENTS QUERIES` answers each query line by `yes`, `no`, `hidden` or `unknown`: whether the second item depends on the first, however the run is finished under the view.
 pub fn run<H: Shelf, O: Sink, E: Sink>(
@@ -77,6 +80,7 @@ fn obey<H: Shelf, O: Sink>(
     match command {
         Command::Check { spec } => check(alloc, spec, shelf, out),
         Command::View { spec, view } => show(alloc, spec, view, shelf, out),
+        Command::Ingest { spec, events } => ingest(alloc, spec, events, shelf, out),
         Command::Trace { words } => trace(alloc, words, shelf, out),
     }
 }

@@ -9,5 +9,8 @@ returns-in-Check-clause-ends g c = λ f told. does f _ _ _ _ _ (ap (λ x. Some (
 pub returns-in-View-clause-ends : goal.returns-in-View-clause-ends
 returns-in-View-clause-ends g c = λ f told. does f _ _ _ _ _ (ap (λ x. Some (meant x)) c.in-View.is) (c.show.ensures.ends f told)
 
+pub returns-in-Ingest-clause-ends : goal.returns-in-Ingest-clause-ends
+returns-in-Ingest-clause-ends g c = λ f told. does f _ _ _ _ _ (ap (λ x. Some (meant x)) c.in-Ingest.is) (c.ingest.ensures.ends f told)
+
 pub returns-in-Trace-clause-ends : goal.returns-in-Trace-clause-ends
 returns-in-Trace-clause-ends g c = λ f told. does f _ _ _ _ _ (ap (λ x. Some (meant x)) c.in-Trace.is) (c.trace.ensures.ends f told)
