@@ -133,7 +133,7 @@ pub(crate) fn words<'a>(alloc: Global, line: &'a str) -> Result<Vec<&'a str>, Al
 }
 
 /// Each line: the words, the status, the text on out and the line on err.
-const ROWS: [(&str, Status, &str, &str); 38] = [
+const ROWS: [(&str, Status, &str, &str); 41] = [
     ("trace spec view events queries", Done, ANSWERS, ""),
     ("trace spec view events empty", Done, "", ""),
     ("trace spec view events two-ends", Done, "yes\nno\n", ""),
@@ -273,6 +273,19 @@ const ROWS: [(&str, Status, &str, &str); 38] = [
     ),
     ("check none", ReadFault, "", "fault: reading spec\n"),
     ("check spec-cut", ReadFault, "", "fault: reading spec\n"),
+    (
+        "ingest inside-itself none",
+        Refused,
+        "",
+        "refused: spec: Unproductive S\n",
+    ),
+    ("ingest none none", ReadFault, "", "fault: reading spec\n"),
+    (
+        "ingest none none none",
+        Usage,
+        "",
+        "usage: wfprov COMMAND WORDS\n",
+    ),
     ("check", Usage, "", "usage: wfprov COMMAND WORDS\n"),
     (
         "check none none",
