@@ -1,13 +1,13 @@
 -- How many row products a way takes.
-use Rattle.std.proofs.Common.{◌≡◌, ℕ, zero, suc, ◌+◌, ◌/◌, ◌%◌, ◌≤◌, Bool, true, false, cond, List, [], ◌∷◌, ◌++◌, map, length, take, refl, arith, length-append, length-take}
+use Rattle.std.proofs.Common.{◌≡◌, ℕ, zero, suc, ◌+◌, ◌/◌, ◌%◌, ◌<◌, ◌≤◌, Bool, true, false, cond, List, [], ◌∷◌, ◌++◌, map, length, take, refl, sym, subst, arith, length-append, length-take}
 use Rattle.std.proofs.Math.Nat.{mod-lt}
 use Rattle.std.proofs.lemmas.List.{length-map}
 use Rattle.bool_mat.specs.Matrix.{Matrix, has}
 use Rattle.wf_model.specs.Reach.{Step}
 use Rattle.decode_model.specs.Matrices.{ViewMatrices}
 use Rattle.decode_model.specs.Legs.{Leg, One, Chain, Part, squares, each_up, leg_down, leg_up, way_down, way_up}
-use Rattle.decode_model.specs.Costs.{leg_cost, cost, IsShortLeg, AreShort}
-use Rattle.decode_model.specs.CostLaws.{CostLaw}
+use Rattle.decode_model.specs.Costs.{leg_cost, cost, IsShortLeg, AreShort, all, later, of_chain, of_part}
+use Rattle.decode_model.specs.CostLaws.{CostLaw, LeftLaw}
 
 squares_short : (square : ℕ → Matrix) (q n : ℕ) → length (squares square q n) ≤ n
 squares_short square q zero = omega arith
@@ -60,3 +60,14 @@ cost_law v l (leg ∷ legs) x =
     let ad = length-append (leg_down v leg) (way_down v legs) in
     let au = length-append (way_up v legs) (leg_up v leg) in
     record { down = omega arith; up = omega arith }
+
+-- what is left of a leg is short if the leg is, and costs as much
+pub left_law : LeftLaw
+left_law l _ legs all = record { no_more = omega arith; short = λ x. x }
+left_law l rest (leg ∷ legs) (later h) =
+    let r = left_law l rest legs h in
+    let n = r.no_more in
+    record { no_more = omega arith; short = λ x. r.short x.1 }
+left_law l _ _ (of_chain e k) = record { no_more = omega arith; short = λ x. ((subst (λ z. 0 < z) (sym e) x.0.0, subst (λ z. z ≤ l) (sym e) x.0.1), x.1) }
+left_law l _ _ (of_part {steps = steps} gone) =
+    record { no_more = omega arith; short = λ x. (let w = x.0 in let a = length-append gone steps in omega arith, x.1) }

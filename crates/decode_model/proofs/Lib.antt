@@ -5,4 +5,8 @@ pub mod Squares
 pub mod SeenLegs
 pub mod LegRows
 pub mod LastRows
+pub mod Decided
 pub mod LegCosts
+pub mod ComponentNumbers
+pub mod LegCounts
+pub mod QueryCosts
