@@ -26,8 +26,8 @@ more_pass p a b l t =
       (λ i. let k = in_numbers a 0 a (in_filter_from p a ns i).0 in absurd (omega arith)),
       differ_filter p ns (numbers_differ 0 a),
     ) (λ x i. ⊎_elim
-      (λ (e : x ≡ a). (subst (λ z. z < b) (sym e) l, subst (λ z. p z ≡ true) (sym e) t))
-      (λ j. let q = in_filter_from p x ns j in let k = in_numbers x 0 a q.0 in (omega arith, q.1)) i) in
+    (λ (e : x ≡ a). (subst (λ z. z < b) (sym e) l, subst (λ z. p z ≡ true) (sym e) t))
+    (λ j. let q = in_filter_from p x ns j in let k = in_numbers x 0 a q.0 in (omega arith, q.1)) i) in
     omega (arith, r, length-filter p ns)
 
 module _ (g : Grammar) (wf : IsWellFormed g) where

@@ -1,7 +1,7 @@
 -- Ways along lists of steps, as relations, and where two addresses part.
-use Rattle.std.proofs.Common.{◌≢◌, ℕ, ◌↔◌, List, [], ◌∷◌, ◌++◌, inr, ⊎_elim}
-use Rattle.bool_mat.specs.Matrix.{Matrix, Then, Power, Joined, Means, IsProduct, IsPower}
-use Rattle.bool_mat.proofs.Relations.{Same, same_trans, then_same, power_same}
+use Rattle.std.proofs.Common.{◌≢◌, ℕ, ◌↔◌, List, ◌∷◌, ◌++◌, inr, ⊎_elim}
+use Rattle.bool_mat.specs.Matrix.{Then}
+use Rattle.bool_mat.proofs.Relations.{Same}
 use Rattle.wf_model.specs.Grammar.{Grammar, Assignment}
 use Rattle.wf_model.specs.Reach.{Step, target_of, module_along, OutOf, Reaches}
 use Rattle.wf_laws.specs.Splits.{IntoAll, OutAll}
@@ -30,11 +30,3 @@ crosses_law g d m p s t a b i o n =
     let c = past_common g d p (s ∷ a) (t ∷ b) m i o in
     let q = parted g d (module_along g m p) s t a b i o n in
     ((λ h. q.0 (c.0 h)), λ h. c.1 (q.1 h))
-
--- a product means one relation after another
-pub means_product : (a b p : Matrix) (R S : ℕ → ℕ → Type 0) → Means a R → Means b S → IsProduct a b p → Means p (Then R S)
-means_product a b p R S ha hb hp = same_trans hp.pairs (then_same ha hb)
-
--- a power means the relation taken so many times
-pub means_power : (a p : Matrix) (R : ℕ → ℕ → Type 0) (n : ℕ) → Means a R → IsPower a n p → Means p (Power R n)
-means_power a p R n ha hp = same_trans hp.pairs (power_same (Joined a) R n ha)

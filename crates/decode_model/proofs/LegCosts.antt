@@ -1,12 +1,12 @@
 -- How many row products a way takes.
-use Rattle.std.proofs.Common.{◌≡◌, ℕ, zero, suc, ◌+◌, ◌/◌, ◌%◌, ◌<◌, ◌≤◌, Bool, true, false, cond, List, [], ◌∷◌, ◌++◌, map, length, take, refl, sym, subst, arith, length-append, length-take}
+use Rattle.std.proofs.Common.{◌≡◌, ℕ, zero, suc, ◌/◌, ◌%◌, ◌<◌, ◌≤◌, Bool, true, false, cond, List, [], ◌∷◌, map, length, take, refl, sym, subst, arith, length-append, length-take}
 use Rattle.std.proofs.Math.Nat.{mod-lt}
 use Rattle.std.proofs.lemmas.List.{length-map}
 use Rattle.bool_mat.specs.Matrix.{Matrix, has}
 use Rattle.wf_model.specs.Reach.{Step}
 use Rattle.decode_model.specs.Matrices.{ViewMatrices}
 use Rattle.decode_model.specs.Legs.{Leg, One, Chain, Part, squares, each_up, leg_down, leg_up, way_down, way_up}
-use Rattle.decode_model.specs.Costs.{leg_cost, cost, IsShortLeg, AreShort, all, later, of_chain, of_part}
+use Rattle.decode_model.specs.Costs.{leg_cost, IsShortLeg, all, later, of_chain, of_part}
 use Rattle.decode_model.specs.CostLaws.{CostLaw, LeftLaw}
 
 squares_short : (square : ℕ → Matrix) (q n : ℕ) → length (squares square q n) ≤ n

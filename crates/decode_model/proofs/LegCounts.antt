@@ -1,5 +1,5 @@
 -- A place enters each strong component once.
-use Rattle.std.proofs.Common.{◌≡◌, ℕ, zero, suc, ◌+◌, ◌*◌, ◌<◌, ◌≤◌, true, List, [], ◌∷◌, length, map, refl, sym, ap, ◌∙◌, subst, inl, inr, ⊎_elim, arith}
+use Rattle.std.proofs.Common.{◌≡◌, ℕ, suc, ◌+◌, ◌*◌, ◌<◌, ◌≤◌, true, List, [], ◌∷◌, length, map, refl, sym, ap, ◌∙◌, subst, inl, inr, ⊎_elim, arith}
 use Rattle.std.proofs.Math.Nat.{mul-le-mul_right}
 use Rattle.std.proofs.lemmas.List.{length-map}
 use Rattle.std.proofs.lemmas.List.Sums.{count_by-le-length}
@@ -128,6 +128,7 @@ chain_starts g m _ (ends_part n s on mn nm x) = alone g (IsOnCycle g) m m on her
 chain_starts g m _ (goes_part {legs = legs} n s on mn nm x out p) =
     let st = walk-append mn (onward (target_made g n s x) here) in
     add g (IsOnCycle g) m (target_of g s) m (chain_legs legs) on here st (λ d. out (x, walk-append d mn)) (chain_starts g (target_of g s) legs p)
+
 -- the legs of a place cost at most one for each component, and for each cycle what a chain costs
 place_cost : (g : Grammar) → IsWellFormed g → (l m : ℕ) (legs : List Leg) → IsLegsOfPlace g m legs → cost l legs ≤ components g + cycles g * (23 + l)
 place_cost g wf l m legs p =

@@ -1,5 +1,5 @@
 -- The matrices of legs have the relations of their steps.
-use Rattle.std.proofs.Common.{◌≡◌, ℕ, ◌/◌, ◌%◌, ◌^◌, ◌<◌, List, [], ◌∷◌, ◌++◌, map, length, take, sym, subst, arith}
+use Rattle.std.proofs.Common.{◌≡◌, ℕ, ◌/◌, ◌%◌, ◌^◌, ◌<◌, List, [], ◌∷◌, map, length, take, sym, subst, arith}
 use Rattle.std.proofs.Math.Nat.{mod-eq_of_lt, div-le_self}
 use Rattle.bool_mat.specs.Matrix.{Power}
 use Rattle.bool_mat.proofs.Relations.{Same, same_refl, same_sym, same_trans, then_same, then_id_left}

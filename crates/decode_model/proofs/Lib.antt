@@ -1,4 +1,5 @@
 pub mod Crossing
+pub mod Meanings
 pub mod Rounds
 pub mod RowProducts
 pub mod Squares
@@ -10,3 +11,4 @@ pub mod LegCosts
 pub mod ComponentNumbers
 pub mod LegCounts
 pub mod QueryCosts
+pub mod WorkedOrders

@@ -1,7 +1,6 @@
 -- What is left of two places takes no more row products than a query may.
-use Rattle.std.proofs.Common.{ℕ, ◌≤◌, List, [], ◌∷◌, ◌++◌, length, arith, length-append}
-use Rattle.wf_model.specs.Reach.{Step, target_of, module_along}
-use Rattle.decode_model.specs.Matrices.{ViewMatrices}
+use Rattle.std.proofs.Common.{[], ◌∷◌, ◌++◌, arith, length-append}
+use Rattle.wf_model.specs.Reach.{target_of, module_along}
 use Rattle.decode_model.specs.Legs.{way_steps, way_down, way_up}
 use Rattle.decode_model.specs.CostLaws.{ProductsLaw}
 use Rattle.decode_model.proofs.LegCosts.{cost_law, left_law}

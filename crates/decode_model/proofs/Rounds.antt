@@ -40,10 +40,10 @@ continuing_same g lin m (s ∷ a) (t ∷ b) x y e =
     let x' : AreContinuing g (target_of g t) a = subst (λ z. AreContinuing g (target_of g z) a) st x.1 in
     ap (λ z. z ∷ a) st ∙ ap (λ zs. t ∷ zs) (continuing_same g lin (target_of g t) a b x' y.1 e')
 
-pub times_chain : (g : Grammar) (m : ℕ) (round : List Step) → IsRound g m round → (n : ℕ) → AreContinuing g m (times n round) × (module_along g m (times n round) ≡ m)
-times_chain g m round r zero = subst (λ z. AreContinuing g m z × (module_along g m z ≡ m)) (sym (times_zero round)) (tt, refl)
-times_chain g m round r (suc n) =
-    let c = times_chain g m round r n in
+pub times_continuing : (g : Grammar) (m : ℕ) (round : List Step) → IsRound g m round → (n : ℕ) → AreContinuing g m (times n round) × (module_along g m (times n round) ≡ m)
+times_continuing g m round r zero = subst (λ z. AreContinuing g m z × (module_along g m z ≡ m)) (sym (times_zero round)) (tt, refl)
+times_continuing g m round r (suc n) =
+    let c = times_continuing g m round r n in
     subst (λ z. AreContinuing g m z × (module_along g m z ≡ m)) (sym (times_suc n round)) (
       continuing_append g m round (times n round) r.continuing (subst (λ z. AreContinuing g z (times n round)) (sym r.back) c.0),
       module_along-append g m round (times n round) ∙ (ap (λ z. module_along g z (times n round)) r.back ∙ c.1),
@@ -76,7 +76,7 @@ out_times g d round (suc n) =
 -- the steps are so many rounds and a rest
 pub chain_is : (g : Grammar) → IsLinear g → (m : ℕ) (round steps : List Step) → IsRound g m round → AreContinuing g m steps → (q r : ℕ) → r < length round → length steps ≡ q * length round + r → steps ≡ times q round ++ take r round
 chain_is g lin m round steps x y q r h e =
-    let c = times_chain g m round x q in
+    let c = times_continuing g m round x q in
     let rest : AreContinuing g m (take r round) = continuing_take g m r round x.continuing in
     let whole : AreContinuing g m (times q round ++ take r round) = continuing_append g m (times q round) (take r round) c.0 (subst (λ z. AreContinuing g z (take r round)) (sym c.1) rest) in
     let l = length-append (times q round) (take r round) in

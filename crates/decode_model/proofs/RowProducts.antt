@@ -1,5 +1,5 @@
 -- What a row comes to by row products, one after another.
-use Rattle.std.proofs.Common.{◌≡◌, ℕ, ◌+◌, IsTrue, List, [], ◌∷◌, ◌++◌, length, refl, sym, subst, arith, length-append}
+use Rattle.std.proofs.Common.{◌≡◌, ℕ, ◌+◌, IsTrue, List, [], ◌∷◌, ◌++◌, refl, sym, subst, arith, length-append}
 use Rattle.bool_mat.specs.Matrix.{Matrix, has, Joined, Then, IsUnion}
 use Rattle.bool_mat.proofs.Relations.{Same, same_refl, same_sym, same_trans, then_same, then_assoc, then_id_left, then_id_right}
 use Rattle.decode_model.specs.Rows.{Through, Along, Progress}

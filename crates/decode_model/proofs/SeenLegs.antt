@@ -7,7 +7,7 @@ use Rattle.wf_model.proofs.Lists.{is_at, at_in}
 use Rattle.decode_model.specs.Rounds.{times}
 use Rattle.decode_model.specs.Matrices.{IsOpenStep, IsOpenRoute, IsOnceRound}
 use Rattle.decode_model.specs.Legs.{Leg, One, Chain, Part, leg_steps, way_steps, IsLeg, AreLegs}
-use Rattle.decode_model.proofs.Rounds.{module_along-append, times_chain}
+use Rattle.decode_model.proofs.Rounds.{module_along-append, times_continuing}
 
 module _ (g : Grammar) (u : View) where
   pub open_take : (m n : ℕ) (steps : List Step) → IsOpenRoute g u m steps → IsOpenRoute g u m (take n steps)
@@ -23,12 +23,12 @@ module _ (g : Grammar) (u : View) where
   route_seen m (s ∷ steps) h x = route_seen (target_of g s) steps (step_seen s x.0) x.2
 
   times_seen : (m : ℕ) (round : List Step) (n : ℕ) → IsOnceRound g u m round → IsSeenModule g u m → IsSeenModule g u (module_along g m (times n round))
-  times_seen m round n x h = subst (IsSeenModule g u) (sym (times_chain g m round x.goes_round n).1) h
+  times_seen m round n x h = subst (IsSeenModule g u) (sym (times_continuing g m round x.goes_round n).1) h
 
   leg_seen : (m : ℕ) (leg : Leg) → IsSeenModule g u m → IsLeg g u m leg → IsSeenModule g u (module_along g m (leg_steps leg))
   leg_seen m (One s) h x = step_seen s x.0
   leg_seen m (Chain from round c) h x =
-      let back = (times_chain g m round x.1.goes_round (c / length round)).1 in
+      let back = (times_continuing g m round x.1.goes_round (c / length round)).1 in
       subst (IsSeenModule g u) (sym (module_along-append g m (times (c / length round) round) (take (c % length round) round)))
       (route_seen (module_along g m (times (c / length round) round)) (take (c % length round) round) (times_seen m round (c / length round) x.1 h)
       (subst (λ z. IsOpenRoute g u z (take (c % length round) round)) (sym back) (open_take m (c % length round) round x.1.open_route)))

@@ -7,7 +7,7 @@ use Rattle.wf_model.specs.Linear.{IsStepOf, Continues, IsOnCycle}
 use Rattle.label_model.specs.Bound.{components, cycles}
 use Rattle.decode_model.specs.Legs.{Leg, One, Chain, Part}
 
--- the legs of a place from the module m, with the last step into the position where its item is consumed or produced: a chain where the module is on a cycle, and then a step that is not the continuing one, unless it is the last
+-- The legs of a place from the module m, with the last step into the position where its item is consumed or produced. They are steps that do not continue, but for the last, which may; before each of them there may be one chain, from a module on a cycle to a module of that cycle
 pub data IsLegsOfPlace (g : Grammar) : ℕ → List Leg → Type 0 where
   ends : {m : ℕ} (s : Step) → IsStepOf g m s → IsLegsOfPlace g m (One s ∷ [])
   goes : {m : ℕ} {legs : List Leg} (s : Step) → IsStepOf g m s → (Continues g m s → ⊥) → IsLegsOfPlace g (target_of g s) legs → IsLegsOfPlace g m (One s ∷ legs)

@@ -9,3 +9,4 @@ pub mod WayLaws
 pub mod RowLaws
 pub mod DecidedLaws
 pub mod CostLaws
+pub mod Examples

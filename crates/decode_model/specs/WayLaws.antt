@@ -12,7 +12,7 @@ CrossesLaw =
     (g : Grammar) (d : Assignment) (m : ℕ) (p : List Step) (s t : Step) (a b : List Step) (i o : ℕ) → s.position ≢ t.position →
     Reaches g d m (p ++ s ∷ a) (p ++ t ∷ b) i o ↔ Crosses g d s a t b i o
 
--- c continuing steps are so many rounds and a rest, by the division of c by the length of the round
+-- continuing steps are q rounds and a rest of r steps, if they are q times as many as those of a round and r
 abbrev pub ChainLaw : Type 0
 ChainLaw =
     (g : Grammar) (d : Assignment) → IsLinear g → (m : ℕ) (round steps : List Step) → IsRound g m round → AreContinuing g m steps →

@@ -2,9 +2,13 @@
 #![tactic(auto)]
 
 mod costs;
+mod examples;
 mod rows;
 mod ways;
 
 pub use costs::{cost_law, count_law, left_law, numbers_law, products_law};
-pub use rows::{decided_law, down_rows_law, progress_law, rows_law, through_law, up_rows_law, ways_law};
+pub use examples::orders_are_worked;
+pub use rows::{
+    decided_law, down_rows_law, progress_law, rows_law, through_law, up_rows_law, ways_law,
+};
 pub use ways::{chain_law, crosses_law};

@@ -1,7 +1,12 @@
 // Laws of row products.
 ghost use Rattle.decode_model.specs.DecidedLaws.{DecidedLaw};
 ghost use Rattle.decode_model.specs.RowLaws.{
-    DownRowsLaw, ProgressLaw, RowsLaw, ThroughLaw, UpRowsLaw, WaysLaw,
+  DownRowsLaw,
+  ProgressLaw,
+  RowsLaw,
+  ThroughLaw,
+  UpRowsLaw,
+  WaysLaw,
 };
 
 /// Row products tell what lies in a list of matrices.
