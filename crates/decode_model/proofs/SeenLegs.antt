@@ -1,5 +1,5 @@
--- Open steps and legs lead to seen modules.
-use Rattle.std.proofs.Common.{ℕ, zero, suc, ◌/◌, ◌%◌, List, [], ◌∷◌, length, take, sym, subst}
+-- The steps of legs are open, and open steps lead to seen modules.
+use Rattle.std.proofs.Common.{ℕ, zero, suc, ◌/◌, ◌%◌, List, [], ◌∷◌, ◌++◌, length, take, sym, subst}
 use Rattle.wf_model.specs.Grammar.{Grammar, body_of}
 use Rattle.wf_model.specs.View.{View, IsSeenModule, in_body}
 use Rattle.wf_model.specs.Reach.{Step, target_of, module_along}
@@ -7,7 +7,7 @@ use Rattle.wf_model.proofs.Lists.{is_at, at_in}
 use Rattle.decode_model.specs.Rounds.{times}
 use Rattle.decode_model.specs.Matrices.{IsOpenStep, IsOpenRoute, IsOnceRound}
 use Rattle.decode_model.specs.Legs.{Leg, One, Chain, Part, leg_steps, way_steps, IsLeg, AreLegs}
-use Rattle.decode_model.proofs.Rounds.{module_along-append, times_continuing}
+use Rattle.decode_model.proofs.Rounds.{times_continuing}
 
 module _ (g : Grammar) (u : View) where
   pub open_take : (m n : ℕ) (steps : List Step) → IsOpenRoute g u m steps → IsOpenRoute g u m (take n steps)
@@ -22,19 +22,26 @@ module _ (g : Grammar) (u : View) where
   route_seen m [] h x = h
   route_seen m (s ∷ steps) h x = route_seen (target_of g s) steps (step_seen s x.0) x.2
 
-  times_seen : (m : ℕ) (round : List Step) (n : ℕ) → IsOnceRound g u m round → IsSeenModule g u m → IsSeenModule g u (module_along g m (times n round))
-  times_seen m round n x h = subst (IsSeenModule g u) (sym (times_continuing g m round x.goes_round n).1) h
+  pub open_append : (m : ℕ) (a b : List Step) → IsOpenRoute g u m a → IsOpenRoute g u (module_along g m a) b → IsOpenRoute g u m (a ++ b)
+  open_append m [] b x y = y
+  open_append m (s ∷ a) b x y = (x.0, x.1, open_append (target_of g s) a b x.2 y)
 
-  leg_seen : (m : ℕ) (leg : Leg) → IsSeenModule g u m → IsLeg g u m leg → IsSeenModule g u (module_along g m (leg_steps leg))
-  leg_seen m (One s) h x = step_seen s x.0
-  leg_seen m (Chain from round c) h x =
-      let back = (times_continuing g m round x.1.goes_round (c / length round)).1 in
-      subst (IsSeenModule g u) (sym (module_along-append g m (times (c / length round) round) (take (c % length round) round)))
-      (route_seen (module_along g m (times (c / length round) round)) (take (c % length round) round) (times_seen m round (c / length round) x.1 h)
-      (subst (λ z. IsOpenRoute g u z (take (c % length round) round)) (sym back) (open_take m (c % length round) round x.1.open_route)))
-  leg_seen m (Part from steps) h x = route_seen m steps h x.1
+  open_times : (m : ℕ) (round : List Step) (n : ℕ) → IsOnceRound g u m round → IsOpenRoute g u m (times n round)
+  open_times m round zero x = tt
+  open_times m round (suc n) x = open_append m round (times n round) x.open_route (subst (λ z. IsOpenRoute g u z (times n round)) (sym x.goes_round.back) (open_times m round n x))
+
+  leg_open : (m : ℕ) (leg : Leg) → IsLeg g u m leg → IsOpenRoute g u m (leg_steps leg)
+  leg_open m (One s) x = (x.0, x.1, tt)
+  leg_open m (Chain from round c) x =
+      let n = c / length round in
+      let rest = take (c % length round) round in
+      let back = (times_continuing g m round x.1.goes_round n).1 in
+      open_append m (times n round) rest (open_times m round n x.1) (subst (λ z. IsOpenRoute g u z rest) (sym back) (open_take m (c % length round) round x.1.open_route))
+  leg_open m (Part from steps) x = x.1
+
+  pub legs_open : (m : ℕ) (legs : List Leg) → AreLegs g u m legs → IsOpenRoute g u m (way_steps legs)
+  legs_open m [] x = tt
+  legs_open m (leg ∷ legs) x = open_append m (leg_steps leg) (way_steps legs) (leg_open m leg x.0) (legs_open (module_along g m (leg_steps leg)) legs x.1)
 
   pub legs_seen : (m : ℕ) (legs : List Leg) → IsSeenModule g u m → AreLegs g u m legs → IsSeenModule g u (module_along g m (way_steps legs))
-  legs_seen m [] h x = h
-  legs_seen m (leg ∷ legs) h x =
-      subst (IsSeenModule g u) (sym (module_along-append g m (leg_steps leg) (way_steps legs))) (legs_seen (module_along g m (leg_steps leg)) legs (leg_seen m leg h x.0) x.1)
+  legs_seen m legs h x = route_seen m (way_steps legs) h (legs_open m legs x)

@@ -42,12 +42,13 @@ abbrev pub CountLaw : Type 0
 CountLaw =
     (g : Grammar) → IsWellFormed g → (l m : ℕ) (a b : List Leg) → IsLegsOfPlace g m a → IsLegsOfPlace g m b → cost l a + cost l b + 2 ≤ most_products g l
 
--- across a body, down alone and up alone, what is left of two places takes no more row products than a query may
+-- Across a body, what is left of two places takes no more row products than a query may; down alone and up alone, what is left of one place does not
 abbrev pub ProductsLaw : Type 0
 ProductsLaw =
-    (g : Grammar) → IsWellFormed g → (v : ViewMatrices) (l m : ℕ) (first second a b : List Leg) → IsLegsOfPlace g m first → IsLegsOfPlace g m second → AreShort l first → AreShort l second → IsLeft a first → IsLeft b second →
+    (g : Grammar) → IsWellFormed g → (v : ViewMatrices) (l m : ℕ) →
     record {
-      across : (s t : Step) → length (crossing g v s a t b) ≤ most_products g l;
-      down : (n : ℕ) → length (way_down v b ++ v.full n ∷ []) ≤ most_products g l;
-      up : length (way_up v a) ≤ most_products g l;
+      across : (first second a b : List Leg) (s t : Step) → IsLegsOfPlace g m first → IsLegsOfPlace g m second → AreShort l first → AreShort l second → IsLeft a first → IsLeft b second →
+          length (crossing g v s a t b) ≤ most_products g l;
+      down : (second b : List Leg) (n : ℕ) → IsLegsOfPlace g m second → AreShort l second → IsLeft b second → length (way_down v b ++ v.full n ∷ []) ≤ most_products g l;
+      up : (first a : List Leg) → IsLegsOfPlace g m first → AreShort l first → IsLeft a first → length (way_up v a) ≤ most_products g l;
     }
