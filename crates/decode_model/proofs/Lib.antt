@@ -1,6 +1,7 @@
 pub mod Crossing
 pub mod Meanings
 pub mod Rounds
+pub mod ChainLegs
 pub mod RowProducts
 pub mod Squares
 pub mod SeenLegs

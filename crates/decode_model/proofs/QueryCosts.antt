@@ -27,8 +27,14 @@ products_law g wf v l m =
     record {
       across = λ first second a b s t pa pb sa sb la lb.
           let full = v.full (module_along g (target_of g t) (way_steps b)) in
-          omega (arith, (costs_no_more v l a first sa la).up, (costs_no_more v l b second sb lb).down, count_law g wf l m first second pa pb,
-          length-append (way_up v a) (v.between s t.position ∷ (way_down v b ++ full ∷ [])), length-append (way_down v b) (full ∷ []));
+          omega (
+            arith,
+            (costs_no_more v l a first sa la).up,
+            (costs_no_more v l b second sb lb).down,
+            count_law g wf l m first second pa pb,
+            length-append (way_up v a) (v.between s t.position ∷ (way_down v b ++ full ∷ [])),
+            length-append (way_down v b) (full ∷ []),
+          );
       down = λ second b n p short left. omega (arith, (costs_no_more v l b second short left).down, count_law g wf l m second second p p, length-append (way_down v b) (v.full n ∷ []));
       up = λ first a p short left. omega (arith, (costs_no_more v l a first short left).up, count_law g wf l m first first p p);
     }

@@ -11,4 +11,4 @@ pub use examples::orders_are_worked;
 pub use rows::{
     decided_law, down_rows_law, progress_law, rows_law, through_law, up_rows_law, ways_law,
 };
-pub use ways::{chain_law, crosses_law};
+pub use ways::{chain_law, chain_leg_law, crosses_law};
