@@ -1,0 +1,11 @@
+//! What two labels tell under a view, and the laws of it.
+#![tactic(auto)]
+
+mod laws;
+mod verdict;
+
+pub use laws::{
+    answer_law, both_law, either_law, kept_law, no_clash_law, one_answer_law, one_verdict_law,
+    telling_law,
+};
+pub use verdict::Verdict;
