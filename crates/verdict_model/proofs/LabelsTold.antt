@@ -63,6 +63,10 @@ module _ (g : Grammar) (events : List Event) (run : IsRun g g.start events) (t :
         ends = ending g events run i p names here x.edge_no (at_below x.edge x.edge_no (production_at g p).edges x.at);
       }
 
+  -- and what its label tells
+  pub told_there : (i : List ℕ) (p : ℕ) (names : List (List ℕ)) → IsIn (Expand i p names) events → (x : IsOfEdge g events t l i p names) → Tells g l (address_in events i) p x.edge_no
+  told_there i p names here x = record { ending = (made_there i p names here x).ends; is = x.label_is }
+
   -- the label of the item tells where the item is made
   pub made_at : IsWellFormed g → IsIn (t, l) (labelled g events) → (a : List Step) (p e : ℕ) → Tells g l a p e → IsMadeAt g events t a p e
   made_at wf h a p e tells = go (kind g events run t l h)
@@ -72,5 +76,5 @@ module _ (g : Grammar) (events : List Event) (run : IsRun g g.start events) (t :
       go (an_output k small x y) = absurd (output_untold g k a p e (subst (λ z. Tells g z a p e) y tells))
       go (of_edge i q names here x) =
           let m = made_there i q names here x in
-          let r = (telling_law g wf).one l (address_in events i) a q p x.edge_no e (record { ending = m.ends; is = x.label_is }) tells in
+          let r = (telling_law g wf).one l (address_in events i) a q p x.edge_no e (told_there i q names here x) tells in
           subst (λ z. IsMadeAt g events t a p z) r.2 (subst (λ z. IsMadeAt g events t a z x.edge_no) r.1 (subst (λ z. IsMadeAt g events t z q x.edge_no) r.0 m))

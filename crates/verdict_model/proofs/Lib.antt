@@ -1,1 +1,5 @@
 pub mod LabelsTold
+pub mod Naming
+pub mod Hiding
+pub mod RootPorts
+pub mod Keeping
