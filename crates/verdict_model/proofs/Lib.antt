@@ -3,3 +3,4 @@ pub mod Naming
 pub mod Hiding
 pub mod RootPorts
 pub mod Keeping
+pub mod Clashing
