@@ -28,7 +28,7 @@ child_of a p k = a ++ record { production = p; position = k } ∷ []
 abbrev pub AreParting : List Step → ℕ → List Step → ℕ → Type 0
 AreParting a p b q = (c : List Step) × (r : ℕ) × (k : ℕ) × Passes a p c r × Passes b q c k × (r ≢ k)
 
-agree_nil : (a : List Step) → Agree a []
+pub agree_nil : (a : List Step) → Agree a []
 agree_nil [] = tt
 agree_nil (s ∷ a) = tt
 

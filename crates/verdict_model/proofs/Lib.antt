@@ -4,3 +4,5 @@ pub mod Hiding
 pub mod RootPorts
 pub mod Keeping
 pub mod Clashing
+pub mod ListedItems
+pub mod BothLabels
