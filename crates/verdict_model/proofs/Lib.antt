@@ -6,3 +6,5 @@ pub mod Keeping
 pub mod Clashing
 pub mod ListedItems
 pub mod BothLabels
+pub mod ToldPorts
+pub mod Answering
