@@ -1,10 +1,10 @@
 -- Two labels that do not clash have a run that has both.
-use Rattle.std.proofs.Common.{◌≡◌, ◌≢◌, ℕ, ◌<◌, List, [], ◌∷◌, ◌++◌, length, get_or, refl, sym, subst, ◌∙◌, inl, ⊎_elim, arith}
+use Rattle.std.proofs.Common.{◌≡◌, ◌≢◌, ℕ, ◌<◌, List, [], ◌∷◌, length, get_or, refl, sym, subst, inl, ⊎_elim, arith}
 use Rattle.wf_model.specs.Lists.{IsIn}
 use Rattle.wf_model.specs.Grammar.{Grammar, Edge, production_at, head_of, body_of}
 use Rattle.wf_model.specs.WellFormed.{IsWellFormed}
 use Rattle.wf_model.specs.declared.event.Event.{Event}
-use Rattle.wf_model.specs.declared.event.Event.TheVariants.{Start, Expand}
+use Rattle.wf_model.specs.declared.event.Event.TheVariants.{Start}
 use Rattle.wf_model.specs.Run.{IsName, IsRun, root_of}
 use Rattle.wf_model.specs.Items.{Item}
 use Rattle.wf_model.specs.Reach.{Step, target_of, module_along}
@@ -14,7 +14,6 @@ use Rattle.wf_laws.proofs.Routes.{routes_law}
 use Rattle.label_model.specs.Labels.{Label, Input, Output, OfEdge, IsLabel}
 use Rattle.label_model.specs.RunLabels.{labelled, HasLabel}
 use Rattle.verdict_model.specs.Telling.{Tells}
-use Rattle.verdict_model.specs.Verdicts.{AreClashing}
 use Rattle.verdict_model.specs.Laws.{BothLaw}
 use Rattle.verdict_model.proofs.LabelsTold.{telling_law}
 use Rattle.verdict_model.proofs.Clashing.{child_of, agree_nil, parting_or_agree, parting_clash}

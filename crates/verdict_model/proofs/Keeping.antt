@@ -1,5 +1,5 @@
 -- An item keeps its label and its visibility, and is visible exactly where its label is not hidden.
-use Rattle.std.proofs.Common.{◌≡◌, ◌≢◌, ◌↔◌, ◌&&◌, ℕ, List, [], ◌∷◌, ◌++◌, flat_map, get_or, bytes_eq, Some, None, refl, sym, ap, ◌∙◌, subst}
+use Rattle.std.proofs.Common.{◌≡◌, ◌≢◌, ◌↔◌, ◌&&◌, ℕ, List, [], ◌∷◌, ◌++◌, flat_map, bytes_eq, Some, None, refl, sym, ap, ◌∙◌, subst}
 use Rattle.std.proofs.lemmas.Bool.{and_parts, and_from}
 use Rattle.wf_model.specs.Lists.{IsIn}
 use Rattle.wf_model.specs.Grammar.{Grammar, module_at}

@@ -1,5 +1,5 @@
 -- What the labels of the items of a run tell: the instance that made the item, and the event that expanded it.
-use Rattle.std.proofs.Common.{◌≡◌, ℕ, List, [], ◌∷◌, ◌++◌, Some, sym, ap, ◌∙◌, subst, append-nil}
+use Rattle.std.proofs.Common.{◌≡◌, ℕ, List, [], Some, sym, ap, ◌∙◌, subst, append-nil}
 use Rattle.wf_model.specs.Lists.{IsIn, IsAt}
 use Rattle.wf_model.specs.Grammar.{Grammar, Edge, production_at, head_of}
 use Rattle.wf_model.specs.WellFormed.{IsWellFormed}
@@ -11,7 +11,7 @@ use Rattle.wf_model.specs.Routes.{IsAddress}
 use Rattle.wf_model.specs.Items.{Item, edge_item}
 use Rattle.wf_model.proofs.Lists.{at_below}
 use Rattle.label_model.specs.Labels.{Label, Place, Input, Output, OfEdge}
-use Rattle.label_model.specs.Places.{place_of, IsEnding}
+use Rattle.label_model.specs.Places.{IsEnding}
 use Rattle.label_model.specs.RunLabels.{address_in, labelled}
 use Rattle.label_model.proofs.PlaceRoutes.{place_law}
 use Rattle.label_model.proofs.InstanceAddresses.{instance_law}

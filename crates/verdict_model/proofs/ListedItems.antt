@@ -67,18 +67,22 @@ module _ (g : Grammar) (events : List Event) (run : IsRun g g.start events) wher
   input_listed ne k small =
       let r = root_of events in
       let t = get_or (input_items r 0 ins) k no_item in
-      let at = beside_all Input (input_items r 0 ins) (length ins) k t (sym (length-inputs r 0 ins)) (is_at k (input_items r 0 ins) no_item (let w : k < length (input_items r 0 ins) = omega (arith, small, length-inputs r 0 ins) in w)) in
-      (t, in_flat_map (labelled_by g events) (Start r) (t, Input k) events (start_there events run ne)
-      (subst (IsIn (t, Input k)) (sym (ports_listed r)) (in_append_left (t, Input k) (zip (input_items r 0 ins) (map Input (numbers_from 0 (length ins)))) (zip (output_items r 0 outs) (map Output (numbers_from 0 (length outs)))) at)))
+      let at = beside_all Input (input_items r 0 ins) (length ins) k t (sym (length-inputs r 0 ins)) (is_at k (input_items r 0 ins) no_item (let w : k < length (input_items r 0 ins) = omega (arith, small, length-inputs r 0 ins) in w)) in (
+        t,
+        in_flat_map (labelled_by g events) (Start r) (t, Input k) events (start_there events run ne)
+            (subst (IsIn (t, Input k)) (sym (ports_listed r)) (in_append_left (t, Input k) (zip (input_items r 0 ins) (map Input (numbers_from 0 (length ins)))) (zip (output_items r 0 outs) (map Output (numbers_from 0 (length outs)))) at)),
+      )
 
   pub output_listed : events ≢ [] → (k : ℕ) → k < outputs_of g g.start → (t : Item) × IsIn (t, Output k) (labelled g events)
   unfolding ins outs
   output_listed ne k small =
       let r = root_of events in
       let t = get_or (output_items r 0 outs) k no_item in
-      let at = beside_all Output (output_items r 0 outs) (length outs) k t (sym (length-outputs r 0 outs)) (is_at k (output_items r 0 outs) no_item (let w : k < length (output_items r 0 outs) = omega (arith, small, length-outputs r 0 outs) in w)) in
-      (t, in_flat_map (labelled_by g events) (Start r) (t, Output k) events (start_there events run ne)
-      (subst (IsIn (t, Output k)) (sym (ports_listed r)) (in_append_right (t, Output k) (zip (input_items r 0 ins) (map Input (numbers_from 0 (length ins)))) (zip (output_items r 0 outs) (map Output (numbers_from 0 (length outs)))) at)))
+      let at = beside_all Output (output_items r 0 outs) (length outs) k t (sym (length-outputs r 0 outs)) (is_at k (output_items r 0 outs) no_item (let w : k < length (output_items r 0 outs) = omega (arith, small, length-outputs r 0 outs) in w)) in (
+        t,
+        in_flat_map (labelled_by g events) (Start r) (t, Output k) events (start_there events run ne)
+            (subst (IsIn (t, Output k)) (sym (ports_listed r)) (in_append_right (t, Output k) (zip (input_items r 0 ins) (map Input (numbers_from 0 (length ins)))) (zip (output_items r 0 outs) (map Output (numbers_from 0 (length outs)))) at)),
+      )
 
   -- the item of an edge, with the label that tells the address of its maker
   pub edge_listed : IsWellFormed g → (t : Item) (a : List Step) (p e : ℕ) → IsMadeAt g events t a p e → IsIn (t, OfEdge (place_of g g.start a p e)) (labelled g events)

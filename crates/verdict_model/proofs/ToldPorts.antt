@@ -1,20 +1,19 @@
 -- Where the item of a label that is not hidden is consumed and produced in a run, and that this is what the label tells.
-use Rattle.std.proofs.Common.{◌≡◌, ◌≢◌, ◌⊎◌, ℕ, ◌+◌, ◌<◌, List, [], ◌∷◌, ◌++◌, length, get_or, Some, None, refl, sym, ap, ◌∙◌, subst, inl, inr, arith}
+use Rattle.std.proofs.Common.{◌≡◌, ◌⊎◌, ℕ, ◌+◌, ◌<◌, List, [], length, get_or, Some, None, refl, sym, ap, ◌∙◌, subst, inl, inr, arith}
 use Rattle.wf_model.specs.Lists.{IsIn, IsAt}
-use Rattle.wf_model.specs.Grammar.{Grammar, Edge, production_at, module_at, head_of, body_of, inputs_of, outputs_of}
+use Rattle.wf_model.specs.Grammar.{Grammar, Edge, production_at, module_at, body_of, inputs_of, outputs_of}
 use Rattle.wf_model.specs.WellFormed.{IsWellFormed, IsInnerInput, IsInnerOutput}
 use Rattle.wf_model.specs.View.{View, expands}
 use Rattle.wf_model.specs.declared.event.Event.{Event}
 use Rattle.wf_model.specs.Run.{IsRun, root_of}
 use Rattle.wf_model.specs.Links.{input, output}
 use Rattle.wf_model.specs.Items.{Item}
-use Rattle.wf_model.specs.Reach.{Step, target_of, module_along, IsAlong}
+use Rattle.wf_model.specs.Reach.{Step, IsAlong}
 use Rattle.wf_model.specs.Depends.{IsConsumedAt, IsProducedAt}
 use Rattle.wf_model.proofs.Lists.{at_below, at_is, at_in}
 use Rattle.wf_model.proofs.Level.{opening}
 use Rattle.wf_laws.proofs.Address.{along_more, module_along_more}
 use Rattle.label_model.specs.Labels.{Label, Input, Output, OfEdge}
-use Rattle.label_model.specs.Places.{place_of}
 use Rattle.label_model.specs.RunLabels.{address_in, labelled}
 use Rattle.label_model.proofs.ItemLabels.{IsKind, an_input, an_output, of_edge, kind, no_item}
 use Rattle.verdict_model.specs.Telling.{Tells, ConsumedAt, ProducedAt}
