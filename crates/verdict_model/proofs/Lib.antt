@@ -8,3 +8,4 @@ pub mod ListedItems
 pub mod BothLabels
 pub mod ToldPorts
 pub mod Answering
+pub mod WorkedVerdicts
