@@ -20,7 +20,8 @@ use Rattle.label_model.proofs.ItemLabels.{IsOfEdge, IsKind, an_input, an_output,
 use Rattle.verdict_model.specs.Telling.{Tells}
 use Rattle.verdict_model.specs.Laws.{TellingLaw}
 
-same_place : (q r : Place) → OfEdge q ≡ OfEdge r → q ≡ r
+-- labels of edges are one where their places are
+pub same_place : (q r : Place) → OfEdge q ≡ OfEdge r → q ≡ r
 same_place q r e = cc
 
 pub telling_law : TellingLaw

@@ -1,8 +1,6 @@
 -- The worked verdicts. Where one tells of all runs, it follows from the law of answers.
-use Rattle.std.proofs.Common.{◌≡◌, ◌≢◌, ℕ, true, false, List, [], ◌∷◌, ◌++◌, length, Some, None, refl, sym, ap, ◌∙◌, subst, inl, inr, ⊎_elim, arith, lit<, lit≤, true≢false}
+use Rattle.std.proofs.Common.{◌≡◌, ℕ, List, [], ◌∷◌, ◌++◌, refl, sym, ap, ◌∙◌, subst, inl, inr, ⊎_elim, arith, lit<, true≢false}
 use Rattle.wf_model.specs.Lists.{IsIn, here, onward}
-use Rattle.wf_model.specs.Grammar.{Grammar}
-use Rattle.wf_model.specs.WellFormed.{IsWellFormed}
 use Rattle.wf_model.specs.View.{expands}
 use Rattle.wf_model.specs.Finishing.{ExpandsComposites}
 use Rattle.wf_model.specs.Reach.{Step, module_along, Reaches}
@@ -12,13 +10,14 @@ use Rattle.wf_laws.proofs.LineGrammar.{line_induced, line_grammar_is_worked}
 use Rattle.label_model.specs.Continuing.{derives_within, derives, continuing}
 use Rattle.label_model.specs.Labels.{Label, Place, Input, Output, OfEdge, IsLabel}
 use Rattle.label_model.specs.Places.{place_of}
-use Rattle.label_model.specs.RunLabels.{address_in, labelled, HasLabel}
+use Rattle.label_model.specs.RunLabels.{address_in, labelled}
 use Rattle.label_model.specs.Examples.{fork}
 use Rattle.label_model.proofs.OneRoute.{one_route}
 use Rattle.verdict_model.specs.Telling.{Tells, Names, ConsumedAt, ProducedAt}
-use Rattle.verdict_model.specs.Verdicts.{IsHidden, AreShown, AreClashing, HasBoth, AlwaysDepends}
+use Rattle.verdict_model.specs.Verdicts.{IsHidden, AreShown, AreClashing, AlwaysDepends}
 use Rattle.verdict_model.specs.Laws.{IsAnswered}
 use Rattle.verdict_model.specs.Examples.{first_edge, second_edge, VerdictsAreWorked}
+use Rattle.verdict_model.proofs.LabelsTold.{same_place}
 use Rattle.verdict_model.proofs.Naming.{input_unnamed, output_unnamed}
 use Rattle.verdict_model.proofs.Hiding.{expanded_shown, input_shown, output_shown}
 use Rattle.verdict_model.proofs.Clashing.{agree_not_parting, clash_parting}
@@ -105,11 +104,8 @@ edge_hidden = ([], 0, ([], 0, 0, line_tells, inl (refl, refl)), refl)
 names_root : (p e : ℕ) (c : List Step) (r : ℕ) → Names fork (OfEdge (place_of fork 0 [] p e)) c r → c ≡ []
 names_root p e c r n = ⊎_elim (λ q. sym q.0 ∙ none) (λ q. absurd (longer c q.0 q.1 (sym q.2 ∙ none))) n.4
   where
-    same : (q r : Place) → OfEdge q ≡ OfEdge r → q ≡ r
-    same q r e = cc
-
     none : n.0 ≡ []
-    none = let w = same _ _ (sym n.3.is) in one_route fork n.0 [] 0 0 n.3.ending.route tt (ap (λ (z : Place). z.steps) w) (ap (λ (z : Place). z.chain) w)
+    none = let w = same_place _ _ (sym n.3.is) in one_route fork n.0 [] 0 0 n.3.ending.route tt (ap (λ (z : Place). z.steps) w) (ap (λ (z : Place). z.chain) w)
 
     longer : (c : List Step) (s : Step) (rest : List Step) → c ++ s ∷ rest ≡ [] → ⊥
     longer [] s rest e = cc
