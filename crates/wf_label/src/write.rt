@@ -1,5 +1,5 @@
 // Labels written as bits.
-ghost use Rattle.std.specs.Prelude.{◌≡◌, ◌≤◌, ◌<◌, ◌+◌, ◌^◌, false, ◌∷◌, ◌++◌, length, IfOk, OnOk};
+ghost use Rattle.std.specs.Prelude.{◌≡◌, ◌≤◌, ◌<◌, ◌+◌, ◌^◌, Bool, false, List, ◌∷◌, ◌++◌, length, IfOk, OnOk, OnErr};
 ghost use Rattle.bit_pack.specs.Gamma.{gamma};
 ghost use Rattle.label_model.specs.Labels.{OfEdge, chain_bits, label_bits, step_bits, ending_bits};
 ghost use Rattle.wf_label.specs.Values.{step_of, place_of, label_of, HasSteps};
@@ -13,6 +13,7 @@ use wf_spec::{EdgeNo, PortNo};
 fn write_chain(w: &mut BitWriter, chain: Option<u32>) -> Result<(), AllocError>
     requires { length w.old < 2 ^ 30 }
     ensures ok { OnOk result (w.new ≡ w.old ++ chain_bits chain) }
+    ensures err { OnErr result (w.new ≡ w.old) }
     ensures few { OnOk result (length w.new ≤ length w.old + 127) }
 {
     match chain {
@@ -21,10 +22,11 @@ fn write_chain(w: &mut BitWriter, chain: Option<u32>) -> Result<(), AllocError>
     }
 }
 
-/// Writes a step of a place behind the bits that are there. After an error a part of it may be written; the only error is that memory is refused.
+/// Writes a step of a place behind the bits that are there. After an error a part of it may be written behind them; the only error is that memory is refused.
 pub fn write_step(w: &mut BitWriter, step: PlaceStep) -> Result<(), AllocError>
     requires { length w.old < 2 ^ 30 }
     ensures ok { OnOk result (w.new ≡ w.old ++ step_bits (step_of step)) }
+    ensures kept { (written : List Bool) × (w.new ≡ w.old ++ written) }
     ensures few { OnOk result (length w.new ≤ length w.old + 382) }
 {
     write_chain(w, step.chain)?;
@@ -33,7 +35,7 @@ pub fn write_step(w: &mut BitWriter, step: PlaceStep) -> Result<(), AllocError>
     w.gamma(step.position.0 as u64 + 1)
 }
 
-/// Writes the last chain number of a place and its ending: the alternative number of the production and the edge. After an error a part of it may be written; the only error is that memory is refused.
+/// Writes the last chain number of a place and its ending: the alternative number of the production and the edge. After an error a part of it may be written behind them; the only error is that memory is refused.
 pub fn write_ending(
     w: &mut BitWriter,
     chain: Option<u32>,
@@ -42,6 +44,7 @@ pub fn write_ending(
 ) -> Result<(), AllocError>
     requires { length w.old < 2 ^ 30 }
     ensures ok { OnOk result (w.new ≡ w.old ++ ending_bits chain alternative edge.0) }
+    ensures kept { (written : List Bool) × (w.new ≡ w.old ++ written) }
     ensures few { OnOk result (length w.new ≤ length w.old + 382) }
 {
     write_chain(w, chain)?;
