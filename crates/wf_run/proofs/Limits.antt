@@ -1,21 +1,17 @@
 -- How large the numbers of a run can be.
-use Rattle.std.proofs.Common.{◌≡◌, ℕ, ◌+◌, ◌-◌, ◌^◌, ◌<◌, ◌≤◌, Bool, true, false, List, [], ◌∷◌, ◌++◌, length, Some, None, refl, sym, subst, ◌∙◌, true≢false, arith}
+use Rattle.std.proofs.Common.{◌≡◌, ℕ, ◌-◌, ◌^◌, ◌<◌, ◌≤◌, Bool, true, false, List, [], length, Some, None, refl, sym, subst, ◌∙◌, true≢false, arith}
 use Rattle.wf_model.specs.Lists.{IsIn}
 use Rattle.wf_model.specs.WellFormed.{IsWellFormed}
 use Rattle.wf_model.specs.Linear.{IsLinear}
 use Rattle.wf_model.specs.declared.event.Event.{Event}
-use Rattle.wf_model.specs.declared.event.Event.TheVariants.{Expand}
 use Rattle.wf_model.specs.Run.{IsAccepted}
 use Rattle.wf_model.proofs.Lists.{at_in}
 use Rattle.label_model.specs.Continuing.{is_composite}
 use Rattle.label_model.proofs.AcceptedLabels.{made_long, run_long}
 use Rattle.label_model.proofs.Composites.{composite_gives, composite_is}
 use Rattle.label_model.proofs.PrefixRoom.{chain_within, prefix_below}
-use Rattle.wf_run.specs.Runs.{Node, RunSeen, node_at, name_at, prefix_at, IsRunOf}
-use Rattle.wf_run.specs.Opening.{child_node, opened_run}
+use Rattle.wf_run.specs.Runs.{RunSeen, node_at, name_at, IsRunOf}
 use Rattle.wf_run.proofs.NamedInstances.{instance_of, instances_of, same_count, instance_at}
-use Rattle.wf_run.proofs.OpenedNodes.{length-opened, node_new}
-use Rattle.wf_run.proofs.OpenedRun.{opened_is_run}
 
 module _ (r : RunSeen) (events : List Event) (wf : IsWellFormed r.grammar.core) (run : IsRunOf r events) where
   pub nodes_within : length r.nodes ≤ r.most
@@ -66,18 +62,3 @@ module _ (r : RunSeen) (events : List Event) (wf : IsWellFormed r.grammar.core) 
         go false t =
             let n = ((run.each k h).atomic (λ d. true≢false (sym (composite_is r.grammar.core (node_at r k).module_no d) ∙ t))).0 in
             subst (λ b. length b < 2 ^ 17) (sym n) (omega arith)
-
--- the bits and the chain number of a child, once the run can take the event that makes it
-module _ (r : RunSeen) (events : List Event) (k p : ℕ) (i : List ℕ) (names : List (List ℕ)) (wf : IsWellFormed r.grammar.core) (run : IsRunOf r events) (few : r.most ≤ 2 ^ 24) (there : k < length r.nodes) (named_so : name_at r k ≡ i)
-    (next : IsAccepted r.grammar.core r.most (events ++ Expand i p names ∷ [])) where
-  later : IsRunOf (opened_run r k p names) (events ++ Expand i p names ∷ [])
-  later = opened_is_run r events k p i names wf run there named_so next
-
-  in_range : (m : ℕ) → m < length names → length r.nodes + m < length (opened_run r k p names).nodes
-  in_range m h = omega (arith, h, length-opened r k p names)
-
-  pub child_prefix_small : IsLinear r.grammar.core → (m : ℕ) → m < length names → length (child_node r.grammar.core p (prefix_at r k) m).bits < 2 ^ 17
-  child_prefix_small lin m h = subst (λ (n : Node). length n.bits < 2 ^ 17) (node_new r k p names m h) (prefix_small (opened_run r k p names) (events ++ Expand i p names ∷ []) wf later few lin (length r.nodes + m) (in_range m h))
-
-  pub child_chain_small : (m : ℕ) → m < length names → (c : ℕ) → (child_node r.grammar.core p (prefix_at r k) m).chain ≡ Some c → c < 2 ^ 24
-  child_chain_small m h = subst (λ (n : Node). (c : ℕ) → n.chain ≡ Some c → c < 2 ^ 24) (node_new r k p names m h) (chain_small (opened_run r k p names) (events ++ Expand i p names ∷ []) wf later few (length r.nodes + m) (in_range m h))

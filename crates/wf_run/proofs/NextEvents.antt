@@ -1,28 +1,20 @@
 -- An event that has no fault goes on with a run.
-use Rattle.std.proofs.Common.{◌≡◌, ℕ, List, [], ◌∷◌, ◌++◌, length, None, Some, subst, sym}
+use Rattle.std.proofs.Common.{◌≡◌, ℕ, List, [], ◌∷◌, ◌++◌, None, Some, sym}
 use Rattle.std.specs.Prelude.{position, bytes_eq}
 use Rattle.wf_model.specs.WellFormed.{IsWellFormed}
 use Rattle.wf_model.specs.declared.event.Event.{Event}
-use Rattle.wf_model.specs.declared.event.Event.TheVariants.{Start, Expand}
+use Rattle.wf_model.specs.declared.event.Event.TheVariants.{Expand}
 use Rattle.wf_model.specs.Run.{IsAccepted}
 use Rattle.wf_model.specs.Faults.{fault_of}
 use Rattle.wf_model.proofs.Taking.{taking_law}
 use Rattle.wf_run.specs.Runs.{RunSeen, IsRunOf}
-use Rattle.wf_run.specs.Opening.{opened_run, started_run}
-use Rattle.wf_run.proofs.NamedInstances.{its_name, no_event}
-use Rattle.wf_run.proofs.Started.{started_is_run}
+use Rattle.wf_run.specs.Opening.{opened_run}
+use Rattle.wf_run.proofs.NamedInstances.{its_name}
 use Rattle.wf_run.proofs.OpenedRun.{opened_is_run}
 
 module _ (r : RunSeen) (events : List Event) (run : IsRunOf r events) where
   pub accepted_next : (e : Event) → fault_of r.grammar.core r.most events e ≡ None → IsAccepted r.grammar.core r.most (events ++ e ∷ [])
   accepted_next e f = (taking_law r.grammar.core r.most events e run.accepted).0 f
-
-  -- a run that has no instance, after its start
-  pub started_next : IsWellFormed r.grammar.core → (name : List ℕ) → length r.nodes ≡ 0 → fault_of r.grammar.core r.most events (Start name) ≡ None → IsRunOf (started_run r name) (events ++ Start name ∷ [])
-  started_next wf name e f =
-      let none = no_event r events run e in
-      subst (λ l. IsRunOf (started_run r name) (l ++ Start name ∷ [])) (sym none)
-      (started_is_run r name wf (subst (IsRunOf r) none run) (subst (λ l. IsAccepted r.grammar.core r.most (l ++ Start name ∷ [])) none (accepted_next (Start name) f)))
 
   -- a run after its instance of a name is expanded
   pub expanded_next : IsWellFormed r.grammar.core → (name : List ℕ) (k p : ℕ) (names : List (List ℕ)) → position (bytes_eq name) r.names ≡ Some k → fault_of r.grammar.core r.most events (Expand name p names) ≡ None →
