@@ -1,0 +1,4 @@
+pub mod Groups
+pub mod Cuts
+pub mod Seen
+pub mod Tables
