@@ -1,0 +1,10 @@
+pub mod Ways
+pub mod Rounds
+pub mod Rows
+pub mod Matrices
+pub mod Legs
+pub mod Costs
+pub mod Counts
+pub mod WayLaws
+pub mod RowLaws
+pub mod CostLaws
