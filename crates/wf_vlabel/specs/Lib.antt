@@ -2,3 +2,4 @@ pub mod Groups
 pub mod Cuts
 pub mod Seen
 pub mod Tables
+pub mod Held

@@ -6,3 +6,6 @@ mod cuts;
 mod full;
 mod groups;
 mod rounds;
+mod view_label;
+
+pub use view_label::ViewLabel;

@@ -1,5 +1,5 @@
 // Labels of views.
-ghost use Rattle.std.specs.Prelude.{◌≡◌, ◌≢◌, ◌<◌, ℕ, [], None, length, get_or, IfOk};
+ghost use Rattle.std.specs.Prelude.{◌≡◌, ◌≢◌, ◌+◌, ◌<◌, ℕ, [], None, length, get_or, IfOk};
 ghost use Rattle.bool_mat.specs.Matrix.{IsMatrix};
 ghost use Rattle.wf_model.specs.Grammar.{body_of, inputs_of, outputs_of};
 ghost use Rattle.wf_model.specs.Linear.{IsLinear};
@@ -34,4 +34,136 @@ pub struct ViewLabel<'a> {
     bodies: Groups,
     squares: Groups,
     cuts: Vec<Option<u32>>,
+}
+
+impl<'a> Model for ViewLabel<'a> {
+    ghost use Rattle.wf_vlabel.specs.Seen.{ViewLabelSeen};
+    ghost use Rattle.wf_vlabel.specs.Held.{AreParts, seen_of};
+
+    ghost Value = { ViewLabelSeen };
+
+    ghost view = { λ l. seen_of l.g.now.core l.cycles.now l.expanded.items l.full l.bodies l.squares };
+
+    ghost invariant = { λ l. AreParts l.g.now.core l.cycles.now l.expanded.items l.full l.bodies l.squares l.cuts.items };
+}
+
+impl<'a> ViewLabel<'a> {
+    /// The label of a view of a proper, strictly linear grammar, from the cycles of the grammar and the full assignment of the view. Fails only for want of memory.
+    ///
+    /// Cost: for each position of each body that the view shows three passes through the body, and for each module of a cycle 52 products of matrices at most.
+    pub fn build(
+        alloc: Global,
+        g: &'a Grammar,
+        cycles: &'a Cycles,
+        view: &View,
+        full: &FullDeps,
+    ) -> Result<ViewLabel<'a>, AllocError>
+        requires proper { IsProper g.now.core }
+        requires linear { IsLinear g.now.core }
+        requires cycles { AreCyclesOf g.now.core cycles.now }
+        requires view { IsHeldFor g.now.core view.now }
+        requires full { AreFullRows g.now.core view.now.core full.now }
+        ensures label { IfOk result (λ l. IsLabelOfView l view.now.core) }
+        ensures grammar { IfOk result (λ l. l.grammar ≡ g.now.core) }
+        ensures cycles { IfOk result (λ l. l.cycles ≡ cycles.now) }
+    {
+        Err(AllocError)
+    }
+
+    /// The grammar that `build` was given.
+    pub fn grammar(&self) -> &'a Grammar
+        ensures grammar { result.now.core ≡ self.now.grammar }
+        ensures label { IsViewLabel self.now }
+    {
+        self.g
+    }
+
+    /// The cycles that `build` was given.
+    pub fn cycles(&self) -> &'a Cycles
+        ensures cycles { result.now ≡ self.now.cycles }
+        ensures label { IsViewLabel self.now }
+    {
+        self.cycles
+    }
+
+    /// Whether the view expands a module.
+    pub fn expanded(&self, m: ModNo) -> bool
+        ensures { result ≡ self.now.expanded m.0 }
+    {
+        let m = m.0 as usize;
+        m < self.expanded.len() && self.expanded[m]
+    }
+
+    /// The pairs that every expansion of a seen module joins: input `i` and output `o` for row `i` and column `o`.
+    pub fn full(&self, m: ModNo) -> MatRef<'_>
+        requires { Sees self.now m.0 }
+        ensures { result ≡ self.now.matrices.full m.0 }
+    {
+        self.full.matrix(m.0 as usize, 0)
+    }
+
+    /// The matrix from the head of a production to a position of it, for a head that is seen and expanded: it joins input `i` of the head to input `j` of the position exactly if a path in the body does.
+    pub fn into_position(&self, s: Step) -> MatRef<'_>
+        requires { Opens self.now (step_of s) }
+        ensures { result ≡ self.now.matrices.into (step_of s) }
+    {
+        self.bodies.matrix(s.production.0 as usize, self.begins(s))
+    }
+
+    /// The matrix from a position to the head of its production, for a head that is seen and expanded: it joins output `j` of the position to output `o` of the head exactly if a path in the body does.
+    pub fn out_of_position(&self, s: Step) -> MatRef<'_>
+        requires { Opens self.now (step_of s) }
+        ensures { result ≡ self.now.matrices.out_of (step_of s) }
+    {
+        self.bodies.matrix(s.production.0 as usize, self.begins(s) + 1)
+    }
+
+    /// The matrix from a position to another of the same body, for a head that is seen and expanded: it joins output `j` of the first to input `i` of the second exactly if a path in the body does.
+    pub fn between(&self, s: Step, to: PosNo) -> MatRef<'_>
+        requires open { Opens self.now (step_of s) }
+        requires to { to.0 < length (body_of self.now.grammar s.production.0) }
+        ensures { result ≡ self.now.matrices.between (step_of s) to.0 }
+    {
+        let at = self.begins(s) + 2 + to.0 as usize;
+        self.bodies.matrix(s.production.0 as usize, at)
+    }
+
+    /// How many continuing steps lead from the module at a place of a cycle to the first module that the view does not expand; `None` where the view expands the whole cycle.
+    pub fn cut(&self, c: CycleNo, place: u16) -> Option<u32>
+        requires cycle { c.0 < length self.now.cycles.rounds }
+        requires place { place < length (round_at self.now.cycles c.0) }
+        ensures { IsCut self.now.grammar self.now.expanded (get_or (round_at self.now.cycles c.0) place 0) result }
+    {
+        self.cuts[self.cycles.at(c, place).0 as usize]
+    }
+
+    /// The matrix of `2^k` rounds down from the module at a place of a cycle that is seen and expanded whole, from its inputs to its inputs. `k` is below 24.
+    pub fn square_in(&self, c: CycleNo, place: u16, k: u8) -> MatRef<'_>
+        requires cycle { c.0 < length self.now.cycles.rounds }
+        requires place { place < length (round_at self.now.cycles c.0) }
+        requires round { OpensRound self.now (get_or (round_at self.now.cycles c.0) place 0) }
+        requires k { k < 24 }
+        ensures { result ≡ self.now.matrices.square_in (get_or (round_at self.now.cycles c.0) place 0) k }
+    {
+        self.squares.matrix(self.cycles.at(c, place).0 as usize, k as usize)
+    }
+
+    /// The matrix of `2^k` rounds up to the module at a place of a cycle that is seen and expanded whole, from its outputs to its outputs. `k` is below 24.
+    pub fn square_out(&self, c: CycleNo, place: u16, k: u8) -> MatRef<'_>
+        requires cycle { c.0 < length self.now.cycles.rounds }
+        requires place { place < length (round_at self.now.cycles c.0) }
+        requires round { OpensRound self.now (get_or (round_at self.now.cycles c.0) place 0) }
+        requires k { k < 24 }
+        ensures { result ≡ self.now.matrices.square_out (get_or (round_at self.now.cycles c.0) place 0) k }
+    {
+        self.squares.matrix(self.cycles.at(c, place).0 as usize, 24 + k as usize)
+    }
+
+    // Where the matrices of a position begin within those of its body.
+    fn begins(&self, s: Step) -> usize
+        requires { Opens self.now (step_of s) }
+        ensures { result ≡ Rattle.wf_vlabel.specs.Tables.begins self.now.grammar (step_of s) }
+    {
+        s.position.0 as usize * (self.g.production(s.production).positions().len() + 2)
+    }
 }
