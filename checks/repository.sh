@@ -23,9 +23,9 @@ has_edits() {
     [ -n "$(find "crates/$1/must-fail" -name '*.edit' -print -quit 2>/dev/null)" ]
 }
 
-# The functions of wf_laws and label_model do nothing, so no edit of a body can change what they mean.
+# The functions of wf_laws, label_model and decode_model do nothing, so no edit of a body can change what they mean.
 has_edits_or_no_code() {
-    [ "$1" = wf_laws ] || [ "$1" = label_model ] || has_edits "$1"
+    [ "$1" = wf_laws ] || [ "$1" = label_model ] || [ "$1" = decode_model ] || has_edits "$1"
 }
 
 is_named_in() {

@@ -1,5 +1,6 @@
--- How many row products a way takes at most.
-use Rattle.std.specs.Prelude.{ℕ, ◌+◌, ◌<◌, ◌≤◌, List, [], ◌∷◌, length}
+-- How many row products a way takes at most, and what is left of a way.
+use Rattle.std.specs.Prelude.{◌≡◌, ℕ, ◌+◌, ◌<◌, ◌≤◌, List, [], ◌∷◌, ◌++◌, length}
+use Rattle.wf_model.specs.Reach.{Step}
 use Rattle.decode_model.specs.Legs.{Leg, One, Chain, Part}
 
 -- the most row products of a leg, where no cycle is longer than l
@@ -23,3 +24,10 @@ IsShortLeg l (Part m steps) = length steps ≤ l
 abbrev pub AreShort : ℕ → List Leg → Type 0
 AreShort l [] = Unit {0}
 AreShort l (leg ∷ legs) = IsShortLeg l leg × AreShort l legs
+
+-- What is left of legs after their beginning: all of them, or what is left of the later ones; or the first is a chain of which a chain with as long a round and no more steps is left, or steps one by one of which the later ones are left
+pub data IsLeft : List Leg → List Leg → Type 0 where
+  all : {legs : List Leg} → IsLeft legs legs
+  later : {leg : Leg} {rest legs : List Leg} → IsLeft rest legs → IsLeft rest (leg ∷ legs)
+  of_chain : {m n c k : ℕ} {round turned : List Step} {legs : List Leg} → length turned ≡ length round → k ≤ c → IsLeft (Chain n turned k ∷ legs) (Chain m round c ∷ legs)
+  of_part : {m n : ℕ} {steps : List Step} {legs : List Leg} (gone : List Step) → IsLeft (Part n steps ∷ legs) (Part m (gone ++ steps) ∷ legs)

@@ -7,4 +7,6 @@ pub mod Costs
 pub mod Counts
 pub mod WayLaws
 pub mod RowLaws
+pub mod DecidedLaws
 pub mod CostLaws
+pub mod Examples

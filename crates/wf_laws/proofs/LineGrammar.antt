@@ -100,7 +100,7 @@ line_well_formed = record {
 }
 
 -- each module joins its input to its output, and S does so by its body
-line_induced : IsInduced line whole_view all_pairs
+pub line_induced : IsInduced line whole_view all_pairs
 line_induced = record {
   shown = λ m s ex i o hi ho. shown m i o ex hi ho;
   induced = λ p hp s ex i o hi ho. subst (λ z. i < inputs_of line (head_of line z) → o < outputs_of line (head_of line z) → IsTrue (all_pairs (head_of line z) i o) ↔ BodyJoins line all_pairs z i o) (sym (only_production p hp)) (λ hi ho. joins i o hi ho) hi ho;

@@ -16,7 +16,7 @@ use Rattle.wf_laws.specs.Order.{OrderLaw}
 use Rattle.wf_laws.proofs.Address.{seen_law}
 
 -- what tells how an instance is expanded is an event
-expanded_from : (a : List Event) (n : List ℕ) (x : Expanded) → expanded_by a n ≡ Some x → IsIn (Expand n x.production x.names) a
+pub expanded_from : (a : List Event) (n : List ℕ) (x : Expanded) → expanded_by a n ≡ Some x → IsIn (Expand n x.production x.names) a
 expanded_from [] n x h = absurd (cc)
 expanded_from (Start r ∷ a) n x h = inr (expanded_from a n x h)
 expanded_from (Expand i p names ∷ a) n x h = go (λ q. expanded_from a n x q) (bytes_eq i n) refl h

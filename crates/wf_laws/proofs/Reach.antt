@@ -387,7 +387,7 @@ same_root g m [] more ne _ = absurd (ne refl)
 same_root g m (Start r ∷ e) more ne _ = refl
 same_root g m (Expand i p names ∷ e) more ne _ = refl
 
-more_started : (e more : List Event) → e ≢ [] → e ++ more ≢ []
+pub more_started : (e more : List Event) → e ≢ [] → e ++ more ≢ []
 more_started [] more ne = absurd (ne refl)
 more_started (x ∷ e) more ne = λ q. (cc)
 

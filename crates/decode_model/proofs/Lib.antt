@@ -1,0 +1,15 @@
+pub mod Crossing
+pub mod Meanings
+pub mod Rounds
+pub mod ChainLegs
+pub mod RowProducts
+pub mod Squares
+pub mod SeenLegs
+pub mod LegRows
+pub mod LastRows
+pub mod Decided
+pub mod LegCosts
+pub mod ComponentNumbers
+pub mod LegCounts
+pub mod QueryCosts
+pub mod WorkedOrders

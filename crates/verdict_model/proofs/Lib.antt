@@ -1,0 +1,11 @@
+pub mod LabelsTold
+pub mod Naming
+pub mod Hiding
+pub mod RootPorts
+pub mod Keeping
+pub mod Clashing
+pub mod ListedItems
+pub mod BothLabels
+pub mod ToldPorts
+pub mod Answering
+pub mod WorkedVerdicts

@@ -1,0 +1,4 @@
+pub mod Telling
+pub mod Verdicts
+pub mod Laws
+pub mod Examples
