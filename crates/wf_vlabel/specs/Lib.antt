@@ -1,5 +1,5 @@
 pub mod Groups
 pub mod Cuts
-pub mod Seen
 pub mod Tables
+pub mod Seen
 pub mod Held

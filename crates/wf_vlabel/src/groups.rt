@@ -1,7 +1,6 @@
 // Matrices in groups.
-ghost use Rattle.std.specs.Prelude.{◌≡◌, ◌<◌, ℕ, length};
-ghost use Rattle.bool_mat.specs.Matrix.{IsMatrix};
-ghost use Rattle.wf_vlabel.specs.Groups.{GroupsSeen, HasGroup, matrix_of};
+ghost use Rattle.std.specs.Prelude.{◌≡◌, ◌<◌, ℕ, map, option_map};
+ghost use Rattle.wf_vlabel.specs.Groups.{HasGroup, matrix_of};
 
 use bool_mat::{MatNo, MatPool, MatRef};
 use std::marker::Model;
@@ -15,6 +14,7 @@ pub(crate) struct Groups {
 
 impl Model for Groups {
     ghost use Rattle.std.specs.Prelude.{map, option_map};
+    ghost use Rattle.wf_vlabel.specs.Groups.{GroupsSeen};
 
     ghost Value = { GroupsSeen };
 
@@ -38,7 +38,10 @@ impl Groups {
         ensures same { result ≡ matrix_of self.now key at }
     {
         match self.first[key] {
-            Some(n) => self.pool.get(MatNo(n.0 + at)),
+            Some(n) => {
+                let _count = self.pool.len();
+                self.pool.get(MatNo(n.0 + at))
+            }
             None => MatRef {
                 rows: &[],
                 columns: 0,

@@ -9,7 +9,8 @@ ghost use Rattle.wf_body.specs.Matrices.{step_of};
 ghost use Rattle.wf_view.specs.Held.{IsHeldFor};
 ghost use Rattle.wf_safe.specs.Full.{AreFullRows};
 ghost use Rattle.wf_vlabel.specs.Cuts.{IsCut};
-ghost use Rattle.wf_vlabel.specs.Seen.{IsLabelOfView, IsViewLabel, Opens, OpensRound, Sees};
+ghost use Rattle.wf_vlabel.specs.Tables.{begins};
+ghost use Rattle.wf_vlabel.specs.Seen.{IsLabelOfView, IsViewLabel, Opens, OpensRound, Sees, is_expanded, matrices_of};
 
 use crate::groups::Groups;
 use bool_mat::MatRef;
@@ -38,13 +39,13 @@ pub struct ViewLabel<'a> {
 
 impl<'a> Model for ViewLabel<'a> {
     ghost use Rattle.wf_vlabel.specs.Seen.{ViewLabelSeen};
-    ghost use Rattle.wf_vlabel.specs.Held.{AreParts, seen_of};
+    ghost use Rattle.wf_vlabel.specs.Held.{IsKept};
 
     ghost Value = { ViewLabelSeen };
 
-    ghost view = { λ l. seen_of l.g.now.core l.cycles.now l.expanded.items l.full l.bodies l.squares };
+    ghost view = { λ l. record { grammar = l.g.now.core; cycles = l.cycles.now; flags = l.expanded.items; full = l.full; bodies = l.bodies; squares = l.squares } };
 
-    ghost invariant = { λ l. AreParts l.g.now.core l.cycles.now l.expanded.items l.full l.bodies l.squares l.cuts.items };
+    ghost invariant = { λ l. IsKept (record { grammar = l.g.now.core; cycles = l.cycles.now; flags = l.expanded.items; full = l.full; bodies = l.bodies; squares = l.squares }) l.cuts.items };
 }
 
 impl<'a> ViewLabel<'a> {
@@ -88,7 +89,7 @@ impl<'a> ViewLabel<'a> {
 
     /// Whether the view expands a module.
     pub fn expanded(&self, m: ModNo) -> bool
-        ensures { result ≡ self.now.expanded m.0 }
+        ensures { result ≡ is_expanded self.now m.0 }
     {
         let m = m.0 as usize;
         m < self.expanded.len() && self.expanded[m]
@@ -97,7 +98,7 @@ impl<'a> ViewLabel<'a> {
     /// The pairs that every expansion of a seen module joins: input `i` and output `o` for row `i` and column `o`.
     pub fn full(&self, m: ModNo) -> MatRef<'_>
         requires { Sees self.now m.0 }
-        ensures { result ≡ self.now.matrices.full m.0 }
+        ensures { result ≡ (matrices_of self.now).full m.0 }
     {
         self.full.matrix(m.0 as usize, 0)
     }
@@ -105,7 +106,7 @@ impl<'a> ViewLabel<'a> {
     /// The matrix from the head of a production to a position of it, for a head that is seen and expanded: it joins input `i` of the head to input `j` of the position exactly if a path in the body does.
     pub fn into_position(&self, s: Step) -> MatRef<'_>
         requires { Opens self.now (step_of s) }
-        ensures { result ≡ self.now.matrices.into (step_of s) }
+        ensures { result ≡ (matrices_of self.now).into (step_of s) }
     {
         self.bodies.matrix(s.production.0 as usize, self.begins(s))
     }
@@ -113,7 +114,7 @@ impl<'a> ViewLabel<'a> {
     /// The matrix from a position to the head of its production, for a head that is seen and expanded: it joins output `j` of the position to output `o` of the head exactly if a path in the body does.
     pub fn out_of_position(&self, s: Step) -> MatRef<'_>
         requires { Opens self.now (step_of s) }
-        ensures { result ≡ self.now.matrices.out_of (step_of s) }
+        ensures { result ≡ (matrices_of self.now).out_of (step_of s) }
     {
         self.bodies.matrix(s.production.0 as usize, self.begins(s) + 1)
     }
@@ -122,7 +123,7 @@ impl<'a> ViewLabel<'a> {
     pub fn between(&self, s: Step, to: PosNo) -> MatRef<'_>
         requires open { Opens self.now (step_of s) }
         requires to { to.0 < length (body_of self.now.grammar s.production.0) }
-        ensures { result ≡ self.now.matrices.between (step_of s) to.0 }
+        ensures { result ≡ (matrices_of self.now).between (step_of s) to.0 }
     {
         let at = self.begins(s) + 2 + to.0 as usize;
         self.bodies.matrix(s.production.0 as usize, at)
@@ -132,7 +133,7 @@ impl<'a> ViewLabel<'a> {
     pub fn cut(&self, c: CycleNo, place: u16) -> Option<u32>
         requires cycle { c.0 < length self.now.cycles.rounds }
         requires place { place < length (round_at self.now.cycles c.0) }
-        ensures { IsCut self.now.grammar self.now.expanded (get_or (round_at self.now.cycles c.0) place 0) result }
+        ensures { IsCut self.now.grammar (is_expanded self.now) (get_or (round_at self.now.cycles c.0) place 0) result }
     {
         self.cuts[self.cycles.at(c, place).0 as usize]
     }
@@ -143,7 +144,7 @@ impl<'a> ViewLabel<'a> {
         requires place { place < length (round_at self.now.cycles c.0) }
         requires round { OpensRound self.now (get_or (round_at self.now.cycles c.0) place 0) }
         requires k { k < 24 }
-        ensures { result ≡ self.now.matrices.square_in (get_or (round_at self.now.cycles c.0) place 0) k }
+        ensures { result ≡ (matrices_of self.now).square_in (get_or (round_at self.now.cycles c.0) place 0) k }
     {
         self.squares.matrix(self.cycles.at(c, place).0 as usize, k as usize)
     }
@@ -154,7 +155,7 @@ impl<'a> ViewLabel<'a> {
         requires place { place < length (round_at self.now.cycles c.0) }
         requires round { OpensRound self.now (get_or (round_at self.now.cycles c.0) place 0) }
         requires k { k < 24 }
-        ensures { result ≡ self.now.matrices.square_out (get_or (round_at self.now.cycles c.0) place 0) k }
+        ensures { result ≡ (matrices_of self.now).square_out (get_or (round_at self.now.cycles c.0) place 0) k }
     {
         self.squares.matrix(self.cycles.at(c, place).0 as usize, 24 + k as usize)
     }
@@ -162,7 +163,7 @@ impl<'a> ViewLabel<'a> {
     // Where the matrices of a position begin within those of its body.
     fn begins(&self, s: Step) -> usize
         requires { Opens self.now (step_of s) }
-        ensures { result ≡ Rattle.wf_vlabel.specs.Tables.begins self.now.grammar (step_of s) }
+        ensures { result ≡ begins self.now.grammar (step_of s) }
     {
         s.position.0 as usize * (self.g.production(s.production).positions().len() + 2)
     }
