@@ -163,7 +163,8 @@ impl<'a> ViewLabel<'a> {
     // Where the matrices of a position begin within those of its body.
     fn begins(&self, s: Step) -> usize
         requires { Opens self.now (step_of s) }
-        ensures { result ≡ begins self.now.grammar (step_of s) }
+        ensures begins { result ≡ begins self.now.grammar (step_of s) }
+        ensures few { result < 4224 }
     {
         s.position.0 as usize * (self.g.production(s.production).positions().len() + 2)
     }

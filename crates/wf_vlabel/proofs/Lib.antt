@@ -1,0 +1,3 @@
+mod OpenSteps
+mod OnRounds
+mod LabelKept
