@@ -12,7 +12,11 @@ ghost use Rattle.wf_vlabel.specs.Cuts.{IsCut};
 ghost use Rattle.wf_vlabel.specs.Tables.{begins};
 ghost use Rattle.wf_vlabel.specs.Seen.{IsLabelOfView, IsViewLabel, Opens, OpensRound, Sees, is_expanded, matrices_of};
 
+use crate::bodies::body_groups;
+use crate::cuts::cuts_of;
+use crate::full::full_groups;
 use crate::groups::Groups;
+use crate::rounds::square_groups;
 use bool_mat::MatRef;
 use std::alloc::{AllocError, Global};
 use std::marker::Model;
@@ -68,7 +72,21 @@ impl<'a> ViewLabel<'a> {
         ensures grammar { IfOk result (λ l. l.grammar ≡ g.now.core) }
         ensures cycles { IfOk result (λ l. l.cycles ≡ cycles.now) }
     {
-        Err(AllocError)
+        let _modules = g.modules();
+        let expanded = Vec::from_slice(alloc, view.marks())?;
+        let pairs = full_groups(alloc, g, full)?;
+        let bodies = body_groups(alloc, g, view, full)?;
+        let cuts = cuts_of(alloc, g, cycles, view)?;
+        let squares = square_groups(alloc, g, cycles, view, full, cuts.as_slice(), &bodies)?;
+        Ok(ViewLabel {
+            g,
+            cycles,
+            expanded,
+            full: pairs,
+            bodies,
+            squares,
+            cuts,
+        })
     }
 
     /// The grammar that `build` was given.
