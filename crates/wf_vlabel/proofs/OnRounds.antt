@@ -1,8 +1,8 @@
 -- The modules at the places of a cycle are on it.
-use Rattle.std.proofs.Common.{◌≡◌, ◌≢◌, ℕ, zero, suc, ◌<◌, List, [], ◌∷◌, length, get_or, refl, Some, None, sym, ap, ◌∙◌, subst, arith}
+use Rattle.std.proofs.Common.{◌≡◌, ◌≢◌, ℕ, zero, suc, ◌<◌, List, [], ◌∷◌, length, get_or, refl, Some, None, sym, ◌∙◌, subst, arith}
 use Rattle.wf_model.specs.Grammar.{Grammar}
 use Rattle.wf_model.specs.WellFormed.{IsWellFormed}
-use Rattle.wf_model.specs.Reach.{Step, target_of}
+use Rattle.wf_model.specs.Reach.{target_of}
 use Rattle.wf_model.specs.Linear.{IsLinear, Continues, IsOnCycle, GoesOnBy}
 use Rattle.label_model.specs.Continuing.{continuing}
 use Rattle.label_model.proofs.ContinuingSteps.{continuing_is, continuing_law, target_continues}

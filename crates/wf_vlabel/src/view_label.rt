@@ -1,7 +1,6 @@
 // Labels of views.
-ghost use Rattle.std.specs.Prelude.{◌≡◌, ◌≢◌, ◌+◌, ◌<◌, ℕ, [], None, length, get_or, IfOk};
-ghost use Rattle.bool_mat.specs.Matrix.{IsMatrix};
-ghost use Rattle.wf_model.specs.Grammar.{body_of, inputs_of, outputs_of};
+ghost use Rattle.std.specs.Prelude.{◌≡◌, ◌<◌, length, get_or, IfOk};
+ghost use Rattle.wf_model.specs.Grammar.{body_of};
 ghost use Rattle.wf_model.specs.Linear.{IsLinear};
 ghost use Rattle.wf_model.specs.Proper.{IsProper};
 ghost use Rattle.wf_recur.specs.Cycles.{AreCyclesOf, round_at};
@@ -134,7 +133,8 @@ impl<'a> ViewLabel<'a> {
         requires { Opens self.now (step_of s) }
         ensures { result ≡ (matrices_of self.now).out_of (step_of s) }
     {
-        self.bodies.matrix(s.production.0 as usize, self.begins(s) + 1)
+        self.bodies
+            .matrix(s.production.0 as usize, self.begins(s) + 1)
     }
 
     /// The matrix from a position to another of the same body, for a head that is seen and expanded: it joins output `j` of the first to input `i` of the second exactly if a path in the body does.
@@ -164,7 +164,8 @@ impl<'a> ViewLabel<'a> {
         requires k { k < 24 }
         ensures { result ≡ (matrices_of self.now).square_in (get_or (round_at self.now.cycles c.0) place 0) k }
     {
-        self.squares.matrix(self.cycles.at(c, place).0 as usize, k as usize)
+        self.squares
+            .matrix(self.cycles.at(c, place).0 as usize, k as usize)
     }
 
     /// The matrix of `2^k` rounds up to the module at a place of a cycle that is seen and expanded whole, from its outputs to its outputs. `k` is below 24.
@@ -175,10 +176,11 @@ impl<'a> ViewLabel<'a> {
         requires k { k < 24 }
         ensures { result ≡ (matrices_of self.now).square_out (get_or (round_at self.now.cycles c.0) place 0) k }
     {
-        self.squares.matrix(self.cycles.at(c, place).0 as usize, 24 + k as usize)
+        self.squares
+            .matrix(self.cycles.at(c, place).0 as usize, 24 + k as usize)
     }
 
-    // Where the matrices of a position begin within those of its body.
+    // Where the matrices of a position begin within those of its body: of 64 positions at most, with 66 matrices each.
     fn begins(&self, s: Step) -> usize
         requires { Opens self.now (step_of s) }
         ensures begins { result ≡ begins self.now.grammar (step_of s) }

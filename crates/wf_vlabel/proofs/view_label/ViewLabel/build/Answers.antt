@@ -1,4 +1,4 @@
-use Rattle.std.proofs.Common.{◌≡◌, ℕ, false, get_or, ap, sym, ◌∙◌}
+use Rattle.std.proofs.Common.{false, get_or, ap, sym, ◌∙◌}
 use Rattle.wf_model.specs.Meaning.{pairs_of}
 use Rattle.wf_vlabel.specs.Seen.{ViewLabelSeen}
 use Rattle.wf_vlabel.proofs.LabelKept.{AreMade, label_of_view, label_kept}
@@ -27,7 +27,6 @@ made c =
       cuts_are = c.in_ok-cuts.ensures.cuts;
     }
 
--- src/view_label.rt
 pub invariant_of-result : goal.invariant_of-result
 invariant_of-result c = label_kept (label c) c.in_ok-cuts.cuts.items c.args.view.now.core (pairs_of c.args.full.now) (made c)
 
