@@ -15,7 +15,7 @@ returns-clause-groups c u rows =
     let g = c.args.g.now.core in
     let last = c.loop-m.auto.m-end in
     let test = c.loop-m-test.false in
-    let whole : c.loop-m.m ≡ length c.modules-modules.result.now = ?whole in
+    let whole : c.loop-m.m ≡ length c.modules-modules.result.now = omega arith in
     let all = groups_same (IsRowsGroup g c.args.full.now) c.loop-m.m (length g.modules) c.loop-m.pool c.of_pool.result.pool (numbers_in c.loop-m.first.items) c.of_pool.result.first
         (whole ∙ ap (λ (ms : List Module). length ms) c.modules-modules.ensures.modules) c.of_pool.ensures.pool c.of_pool.ensures.first c.loop-m.invariant in
     full_are g c.args.full.now c.of_pool.result rows.places all u c.modules-modules.ensures.formed rows
@@ -25,7 +25,7 @@ returns-clause-pairs c =
     let g = c.args.g.now.core in
     let last = c.loop-m.auto.m-end in
     let test = c.loop-m-test.false in
-    let whole : c.loop-m.m ≡ length c.modules-modules.result.now = ?whole' in
+    let whole : c.loop-m.m ≡ length c.modules-modules.result.now = omega arith in
     let all = groups_same (IsRowsGroup g c.args.full.now) c.loop-m.m (length g.modules) c.loop-m.pool c.of_pool.result.pool (numbers_in c.loop-m.first.items) c.of_pool.result.first
         (whole ∙ ap (λ (ms : List Module). length ms) c.modules-modules.ensures.modules) c.of_pool.ensures.pool c.of_pool.ensures.first c.loop-m.invariant in
     pairs_are g c.args.full.now c.of_pool.result c.requires.1.places all
