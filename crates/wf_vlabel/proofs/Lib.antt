@@ -1,3 +1,5 @@
 pub mod Grouping
 pub mod SameSeen
 pub mod RowsGroups
+pub mod StepGroups
+pub mod BodyGroups
