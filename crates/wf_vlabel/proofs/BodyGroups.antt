@@ -1,5 +1,5 @@
 -- Matrices of bodies.
-use Rattle.std.proofs.Common.{◌≡◌, ℕ, ◌+◌, ◌<◌, ◌≤◌, IsTrue, List, length, get_or, Option, Some, None, refl, sym, ap, ◌∙◌, subst, arith}
+use Rattle.std.proofs.Common.{◌≡◌, ℕ, ◌+◌, ◌*◌, ◌<◌, ◌≤◌, IsTrue, List, length, get_or, Option, Some, None, refl, sym, ap, ◌∙◌, subst, arith}
 use Rattle.bool_mat.specs.Matrix.{Matrix, matrix_at}
 use Rattle.wf_model.specs.Grammar.{Grammar, Assignment, body_of, head_of, inputs_of, outputs_of}
 use Rattle.wf_model.specs.View.{View, expands}
@@ -34,14 +34,14 @@ module _ (g : Grammar) (u : View) (d : Assignment) (t : GroupsSeen) (groups : Ar
     step : IsStepGroup g d s t.pool (number + begins g s)
 
   of_open : (v : View) (s : Step) → Expands v (expands u) → IsOpenStep g v s → HasStep s
-  of_open v s same open = by_group (get_or t.first s.production None) refl (groups.each s.production open.in_range)
+  of_open v s same opens = by_group (get_or t.first s.production None) refl (groups.each s.production opens.in_range)
     where
       known : IsSeenExpanded g u (head_of g s.production)
-      known = (same_seen g v u same (head_of g s.production) open.seen, sym (same (head_of g s.production)) ∙ open.expanded)
+      known = (same_seen g v u same (head_of g s.production) opens.seen, sym (same (head_of g s.production)) ∙ opens.expanded)
 
       by_group : (n : Option ℕ) → get_or t.first s.production None ≡ n → IsBodyGroup g u d s.production t.pool n → HasStep s
       by_group None is h = absurd (h known)
-      by_group (Some n) is h = record { number = n; has = is; inside = h.0; step = h.1 s.position open.position }
+      by_group (Some n) is h = record { number = n; has = is; inside = h.0; step = h.1 s.position opens.position }
 
   -- the matrix at a place of the group
   at_place : (s : Step) (x : HasStep s) (place k : ℕ) (rows columns : ℕ) (R : ℕ → ℕ → Type 0) → x.number + place ≡ k → IsMatrixOf rows columns R (matrix_at t.pool k) → IsMatrixOf rows columns R (matrix_of t s.production place)
@@ -51,11 +51,11 @@ module _ (g : Grammar) (u : View) (d : Assignment) (t : GroupsSeen) (groups : Ar
   pub bodies_are : AreBodyGroups g (expands u) d t
   bodies_are =
       record {
-        has = λ v s same open. let x = of_open v s same open in record { number = x.number; has = x.has; inside = x.inside };
-        into = λ v s same open. let x = of_open v s same open in
+        has = λ v s same opens. let x = of_open v s same opens in record { number = x.number; has = x.has; inside = x.inside };
+        into = λ v s same opens. let x = of_open v s same opens in
             at_place s x (begins g s) (x.number + begins g s) (inputs_of g (head_of g s.production)) (inputs_of g (target_of g s)) (Into g d s) refl x.step.into;
-        out_of = λ v s same open. let x = of_open v s same open in
+        out_of = λ v s same opens. let x = of_open v s same opens in
             at_place s x (begins g s + 1) (x.number + begins g s + 1) (outputs_of g (target_of g s)) (outputs_of g (head_of g s.production)) (OutOf g d s) (omega arith) x.step.out_of;
-        between = λ v s to same open l. let x = of_open v s same open in
+        between = λ v s to same opens l. let x = of_open v s same opens in
             at_place s x (begins g s + (2 + to)) (x.number + begins g s + (2 + to)) (outputs_of g (target_of g s)) (inputs_of g (target_of g (beside s to))) (Between g d s to) (omega arith) (x.step.between to l);
       }

@@ -20,7 +20,7 @@ step_kept g d s old new n grows room h = record {
 }
 
 -- those of position j end where those of the next begin
-ends_within : (j k size : ℕ) → j < k → j * size + size ≤ k * size
+pub ends_within : (j k size : ℕ) → j < k → j * size + size ≤ k * size
 ends_within j k size h =
     let next = mul-le-mul_right {m = j + 1} {n = k} size (omega (arith, h)) in
     let one = add-mul j 1 size in

@@ -2,6 +2,7 @@ use Rattle.std.proofs.Common.{◌≡◌, ◌∙◌, ap, sym, length, List, arith
 use Rattle.std.proofs.lemmas.List.{length-map}
 use Rattle.wf_model.specs.Grammar.{Production}
 use Rattle.wf_model.specs.Meaning.{pairs_of}
+use Rattle.wf_spec.specs.Held.{HeldProduction}
 use Rattle.wf_vlabel.specs.Growing.{IsBodyGroup}
 use Rattle.wf_vlabel.proofs.BodyGroups.{bodies_are, bodies_stay}
 use Rattle.wf_vlabel.proofs.Grouping.{groups_push, groups_same, numbers_in}
@@ -16,4 +17,14 @@ loop-k-preserved c =
     (bodies_stay g u d) c.loop-k.invariant c.in_ok-number.ensures.grown c.in_ok-number.ensures.group c.in_ok-push.ensures.items
 
 pub returns : goal.returns
-returns c = ?
+returns c =
+    let g = c.args.g.now.core in
+    let u = c.args.view.now.core in
+    let d = pairs_of c.args.full.now in
+    let last = c.loop-k.auto.k-end in
+    let test = c.loop-k-test.false in
+    let whole : c.loop-k.k ≡ length c.productions-k-end.result.now = omega (arith, last, test) in
+    let count = whole ∙ (sym (length-map c.productions-k-end.result.now (λ (p : HeldProduction). p.core)) ∙ ap (λ (ps : List Production). length ps) c.productions-k-end.ensures.productions) in
+    bodies_are g u d c.of_pool.result
+    (groups_same (IsBodyGroup g u d) c.loop-k.k (length g.productions) c.loop-k.pool c.of_pool.result.pool (numbers_in c.loop-k.first.items) c.of_pool.result.first
+    count c.of_pool.ensures.pool c.of_pool.ensures.first c.loop-k.invariant)
