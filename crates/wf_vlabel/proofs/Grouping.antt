@@ -6,6 +6,7 @@ use Rattle.bool_mat.specs.Matrix.{Matrix, Adds, matrix_at}
 use Rattle.bool_mat.specs.declared.pool.MatNo.{MatNo}
 use Rattle.bool_mat.proofs.Pools.{adds_more, adds_none}
 use Rattle.bool_mat.proofs.Rows.{same_or_not}
+use Rattle.wf_vlabel.specs.Groups.{GroupsSeen}
 use Rattle.wf_vlabel.specs.Growing.{Grows, AreGroupsOf}
 
 pub grows_not : (pool : List Matrix) → Grows pool pool
@@ -53,7 +54,8 @@ groups_push P count old new first longer n stays h grows last e =
     subst (AreGroupsOf P (count + 1) new) (sym (ap numbers_in e ∙ map-append (option_map (λ (k : MatNo). k.0)) first (n ∷ [])))
     (groups_more P count old new (numbers_in first) (option_map (λ (k : MatNo). k.0) n) stays h grows last)
 
--- the same groups, by equal parts
-pub groups_same : (P : ℕ → List Matrix → Option ℕ → Type 0) (n count : ℕ) (pool pool' : List Matrix) (first first' : List (Option ℕ)) → n ≡ count → pool' ≡ pool → first' ≡ first → AreGroupsOf P n pool first → AreGroupsOf P count pool' first'
-groups_same P n count pool pool' first first' e f h groups =
-    subst (λ k. AreGroupsOf P k pool' first') e (subst (λ (ms : List Matrix). AreGroupsOf P n ms first') (sym f) (subst (AreGroupsOf P n pool) (sym h) groups))
+-- the groups of all keys, as the table of them has them
+pub groups_end : (P : ℕ → List Matrix → Option ℕ → Type 0) (n last count : ℕ) (pool : List Matrix) (first : List (Option ℕ)) (t : GroupsSeen) → n ≤ last → last ≤ n → last ≡ count → t.pool ≡ pool → t.first ≡ first → AreGroupsOf P n pool first → AreGroupsOf P count t.pool t.first
+groups_end P n last count pool first t l m c e f groups =
+    let same : n ≡ count = omega arith in
+    subst (λ k. AreGroupsOf P k t.pool t.first) same (subst (λ (ms : List Matrix). AreGroupsOf P n ms t.first) (sym e) (subst (AreGroupsOf P n pool) (sym f) groups))

@@ -26,23 +26,28 @@ abbrev pub of_rows : Grammar → ℕ → List ℕ → Matrix
 of_rows g m rows = record { rows = rows; columns = outputs_of g m }
 
 -- rows that are set are those that a module has
-pub fit_rows : (g : Grammar) (deps : List (Option (List ℕ))) (m : ℕ) (rows : List ℕ) → AreFit g deps → get_or deps m None ≡ Some rows → (held : HasRows g deps m) × (held.rows ≡ rows)
+fit_rows : (g : Grammar) (deps : List (Option (List ℕ))) (m : ℕ) (rows : List ℕ) → AreFit g deps → get_or deps m None ≡ Some rows → (held : HasRows g deps m) × (held.rows ≡ rows)
 fit_rows g deps m rows fit e =
     ⊎_elim
     (λ held. let q : Some held.rows ≡ Some rows = sym held.held ∙ e in let same : held.rows ≡ rows = cc in (held, same))
     (λ none. absurd (let q : None ≡ Some rows = sym none ∙ e in cc))
     (fit m)
 
-pub matrix_is : (g : Grammar) (m : ℕ) (one other : List ℕ) (columns : ℕ) → one ≡ other → columns ≡ outputs_of g m → record { rows = one; columns = columns } ≡ of_rows g m other
-matrix_is g m one other columns e f = ap (λ (rows : List ℕ). let x : Matrix = record { rows = rows; columns = columns } in x) e ∙ ap (λ (n : ℕ). let x : Matrix = record { rows = other; columns = n } in x) f
-
--- they make a matrix
-pub rows_matrix : (g : Grammar) (deps : List (Option (List ℕ))) (m : ℕ) → IsWellFormed g → m < length g.modules → (held : HasRows g deps m) → IsMatrix (of_rows g m held.rows)
+-- the rows of a module make a matrix
+rows_matrix : (g : Grammar) (deps : List (Option (List ℕ))) (m : ℕ) → IsWellFormed g → m < length g.modules → (held : HasRows g deps m) → IsMatrix (of_rows g m held.rows)
 rows_matrix g deps m wf h held =
     let w = wf.modules (module_at g m) (at_in (module_at g m) m g.modules (is_at m g.modules _ h)) in
     let few = w.few_inputs in
     let one = held.one_each in
     record { few_rows = omega arith; few_columns = w.few_outputs; within = held.no_more }
+
+-- the matrix that is pushed for rows that are set
+pub pushed_rows : (g : Grammar) (deps : List (Option (List ℕ))) (m columns : ℕ) (rows : List ℕ) → IsWellFormed g → m < length g.modules → AreFit g deps → Some rows ≡ get_or deps m None → columns ≡ outputs_of g m →
+    IsMatrix (record { rows = rows; columns = columns }) × ((held : HasRows g deps m) × (record { rows = rows; columns = columns } ≡ of_rows g m held.rows))
+pushed_rows g deps m columns rows wf h fit e c =
+    let told = fit_rows g deps m rows fit (sym e) in
+    let same : record { rows = rows; columns = columns } ≡ of_rows g m told.0.rows = ap (λ (n : ℕ). let x : Matrix = record { rows = rows; columns = n } in x) c ∙ ap (of_rows g m) (sym told.1) in
+    (subst IsMatrix (sym same) (rows_matrix g deps m wf h told.0), (told.0, same))
 
 -- whose pairs are those of the rows
 rows_mean : (g : Grammar) (deps : List (Option (List ℕ))) (m : ℕ) → IsWellFormed g → m < length g.modules → (held : HasRows g deps m) → IsMatrixOf (inputs_of g m) (outputs_of g m) (Within g (pairs_of deps) m) (of_rows g m held.rows)

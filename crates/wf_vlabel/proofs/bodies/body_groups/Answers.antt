@@ -5,7 +5,7 @@ use Rattle.wf_model.specs.Meaning.{pairs_of}
 use Rattle.wf_spec.specs.Held.{HeldProduction}
 use Rattle.wf_vlabel.specs.Growing.{IsBodyGroup}
 use Rattle.wf_vlabel.proofs.BodyGroups.{bodies_are, bodies_stay}
-use Rattle.wf_vlabel.proofs.Grouping.{groups_push, groups_same, numbers_in}
+use Rattle.wf_vlabel.proofs.Grouping.{groups_push, groups_end, numbers_in}
 use Rattle.wf_vlabel.proofs.bodies.body_groups.Goals as goal
 
 pub loop-k-preserved : goal.loop-k-preserved
@@ -21,10 +21,7 @@ returns c =
     let g = c.args.g.now.core in
     let u = c.args.view.now.core in
     let d = pairs_of c.args.full.now in
-    let last = c.loop-k.auto.k-end in
-    let test = c.loop-k-test.false in
-    let whole : c.loop-k.k ≡ length c.productions-k-end.result.now = omega (arith, last, test) in
-    let count = whole ∙ (sym (length-map c.productions-k-end.result.now (λ (p : HeldProduction). p.core)) ∙ ap (λ (ps : List Production). length ps) c.productions-k-end.ensures.productions) in
+    let count = sym (length-map c.productions-k-end.result.now (λ (p : HeldProduction). p.core)) ∙ ap (λ (ps : List Production). length ps) c.productions-k-end.ensures.productions in
     bodies_are g u d c.of_pool.result
-    (groups_same (IsBodyGroup g u d) c.loop-k.k (length g.productions) c.loop-k.pool c.of_pool.result.pool (numbers_in c.loop-k.first.items) c.of_pool.result.first
-    count c.of_pool.ensures.pool c.of_pool.ensures.first c.loop-k.invariant)
+    (groups_end (IsBodyGroup g u d) c.loop-k.k (length c.productions-k-end.result.now) (length g.productions) c.loop-k.pool (numbers_in c.loop-k.first.items) c.of_pool.result
+    c.loop-k.auto.k-end c.loop-k-test.false count c.of_pool.ensures.pool c.of_pool.ensures.first c.loop-k.invariant)

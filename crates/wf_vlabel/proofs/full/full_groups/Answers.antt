@@ -1,7 +1,7 @@
 use Rattle.std.proofs.Common.{◌≡◌, ◌∙◌, ◌≤◌, ap, length, List, arith}
 use Rattle.wf_model.specs.Grammar.{Module}
 use Rattle.wf_vlabel.specs.Growing.{IsRowsGroup}
-use Rattle.wf_vlabel.proofs.Grouping.{groups_push, groups_same, numbers_in}
+use Rattle.wf_vlabel.proofs.Grouping.{groups_push, groups_end, numbers_in}
 use Rattle.wf_vlabel.proofs.RowsGroups.{full_are, pairs_are, rows_stay}
 use Rattle.wf_vlabel.proofs.full.full_groups.Goals as goal
 
@@ -13,19 +13,13 @@ loop-m-preserved c =
 pub returns-clause-groups : goal.returns-clause-groups
 returns-clause-groups c u rows =
     let g = c.args.g.now.core in
-    let last = c.loop-m.auto.m-end in
-    let test = c.loop-m-test.false in
-    let whole : c.loop-m.m ≡ length c.modules-modules.result.now = omega arith in
-    let all = groups_same (IsRowsGroup g c.args.full.now) c.loop-m.m (length g.modules) c.loop-m.pool c.of_pool.result.pool (numbers_in c.loop-m.first.items) c.of_pool.result.first
-        (whole ∙ ap (λ (ms : List Module). length ms) c.modules-modules.ensures.modules) c.of_pool.ensures.pool c.of_pool.ensures.first c.loop-m.invariant in
+    let all = groups_end (IsRowsGroup g c.args.full.now) c.loop-m.m (length c.modules-modules.result.now) (length g.modules) c.loop-m.pool (numbers_in c.loop-m.first.items) c.of_pool.result
+        c.loop-m.auto.m-end c.loop-m-test.false (ap (λ (ms : List Module). length ms) c.modules-modules.ensures.modules) c.of_pool.ensures.pool c.of_pool.ensures.first c.loop-m.invariant in
     full_are g c.args.full.now c.of_pool.result rows.places all u c.modules-modules.ensures.formed rows
 
 pub returns-clause-pairs : goal.returns-clause-pairs
 returns-clause-pairs c =
     let g = c.args.g.now.core in
-    let last = c.loop-m.auto.m-end in
-    let test = c.loop-m-test.false in
-    let whole : c.loop-m.m ≡ length c.modules-modules.result.now = omega arith in
-    let all = groups_same (IsRowsGroup g c.args.full.now) c.loop-m.m (length g.modules) c.loop-m.pool c.of_pool.result.pool (numbers_in c.loop-m.first.items) c.of_pool.result.first
-        (whole ∙ ap (λ (ms : List Module). length ms) c.modules-modules.ensures.modules) c.of_pool.ensures.pool c.of_pool.ensures.first c.loop-m.invariant in
+    let all = groups_end (IsRowsGroup g c.args.full.now) c.loop-m.m (length c.modules-modules.result.now) (length g.modules) c.loop-m.pool (numbers_in c.loop-m.first.items) c.of_pool.result
+        c.loop-m.auto.m-end c.loop-m-test.false (ap (λ (ms : List Module). length ms) c.modules-modules.ensures.modules) c.of_pool.ensures.pool c.of_pool.ensures.first c.loop-m.invariant in
     pairs_are g c.args.full.now c.of_pool.result c.requires.1.places all

@@ -1,8 +1,7 @@
-use Rattle.std.proofs.Common.{◌≡◌, ◌∙◌, ◌≤◌, ap, sym, subst, length, get_or, Option, Some, None, List, ℕ, arith}
-use Rattle.wf_model.specs.Grammar.{Module, outputs_of}
-use Rattle.bool_mat.specs.Matrix.{Matrix, IsMatrix, matrix_at}
+use Rattle.std.proofs.Common.{◌≡◌, ◌∙◌, ap, length, get_or, Option, None, List, ℕ, arith}
+use Rattle.wf_model.specs.Grammar.{Module}
 use Rattle.wf_body.proofs.Rowing.{few_ports}
-use Rattle.wf_vlabel.proofs.RowsGroups.{fit_rows, matrix_is, rows_matrix}
+use Rattle.wf_vlabel.proofs.RowsGroups.{pushed_rows}
 use Rattle.wf_vlabel.proofs.full.push_rows.Goals as goal
 
 pub overflow_cast-outputs : goal.overflow_cast-outputs
@@ -14,25 +13,17 @@ overflow_cast-outputs c =
 
 pub push-requires : goal.push-requires
 push-requires c =
-    let g = c.args.g.now.core in
-    let m = c.args.m.0 in
-    let same = c.index-modules-m.is ∙ ap (λ (ms : List Module). get_or ms m c.index-modules-m.result) c.modules.ensures.modules in
-    let ports = few_ports g m c.index-modules-m.result c.modules.ensures.formed c.requires.module_no same in
-    let told = fit_rows g c.args.full.now m c.in-Some.rows.now c.requires.fit (sym (c.in-Some.ensures ∙ ap (λ (d : List (Option (List ℕ))). get_or d m None) c.deps.ensures)) in
-    subst IsMatrix (sym (matrix_is g m c.in-Some.rows.now told.0.rows (length c.outputs-outputs.result.now) (sym told.1) (ap length c.outputs-outputs.ensures ∙ ports.2)))
-    (rows_matrix g c.args.full.now m c.modules.ensures.formed c.requires.module_no told.0)
+    let same = c.index-modules-m.is ∙ ap (λ (ms : List Module). get_or ms c.args.m.0 c.index-modules-m.result) c.modules.ensures.modules in
+    let ports = few_ports c.args.g.now.core c.args.m.0 c.index-modules-m.result c.modules.ensures.formed c.requires.module_no same in
+    (pushed_rows c.args.g.now.core c.args.full.now c.args.m.0 (length c.outputs-outputs.result.now) c.in-Some.rows.now c.modules.ensures.formed c.requires.module_no c.requires.fit
+    (c.in-Some.ensures ∙ ap (λ (d : List (Option (List ℕ))). get_or d c.args.m.0 None) c.deps.ensures) (ap length c.outputs-outputs.ensures ∙ ports.2)).0
 
 pub returns-in_ok-number-in-Some-clause-group : goal.returns-in_ok-number-in-Some-clause-group
 returns-in_ok-number-in-Some-clause-group c =
-    let g = c.args.g.now.core in
-    let m = c.args.m.0 in
-    let same = c.index-modules-m.is ∙ ap (λ (ms : List Module). get_or ms m c.index-modules-m.result) c.modules.ensures.modules in
-    let ports = few_ports g m c.index-modules-m.result c.modules.ensures.formed c.requires.module_no same in
-    let told = fit_rows g c.args.full.now m c.in-Some.rows.now c.requires.fit (sym (c.in-Some.ensures ∙ ap (λ (d : List (Option (List ℕ))). get_or d m None) c.deps.ensures)) in
-    let added = c.in_ok-number-in-Some.ensures.added in
-    let number = added.number in
-    let total = added.total in (
-      omega arith,
-      told.0,
-      c.in_ok-number-in-Some.ensures.pushed ∙ matrix_is g m c.in-Some.rows.now told.0.rows (length c.outputs-outputs.result.now) (sym told.1) (ap length c.outputs-outputs.ensures ∙ ports.2),
-    )
+    let same = c.index-modules-m.is ∙ ap (λ (ms : List Module). get_or ms c.args.m.0 c.index-modules-m.result) c.modules.ensures.modules in
+    let ports = few_ports c.args.g.now.core c.args.m.0 c.index-modules-m.result c.modules.ensures.formed c.requires.module_no same in
+    let pushed = (pushed_rows c.args.g.now.core c.args.full.now c.args.m.0 (length c.outputs-outputs.result.now) c.in-Some.rows.now c.modules.ensures.formed c.requires.module_no c.requires.fit
+        (c.in-Some.ensures ∙ ap (λ (d : List (Option (List ℕ))). get_or d c.args.m.0 None) c.deps.ensures) (ap length c.outputs-outputs.ensures ∙ ports.2)).1 in
+    let number = c.in_ok-number-in-Some.ensures.added.number in
+    let total = c.in_ok-number-in-Some.ensures.added.total in
+    (omega (arith, number, total), pushed.0, c.in_ok-number-in-Some.ensures.pushed ∙ pushed.1)
