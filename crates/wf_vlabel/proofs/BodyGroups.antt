@@ -1,13 +1,13 @@
 -- Matrices of bodies.
-use Rattle.std.proofs.Common.{◌≡◌, ℕ, ◌+◌, ◌*◌, ◌<◌, ◌≤◌, IsTrue, List, length, get_or, Option, Some, None, refl, sym, ap, ◌∙◌, subst, arith}
-use Rattle.bool_mat.specs.Matrix.{Matrix, matrix_at}
+use Rattle.std.proofs.Common.{◌≡◌, ℕ, ◌+◌, ◌*◌, ◌≤◌, length, get_or, Option, Some, None, refl, sym, ◌∙◌, subst, arith}
+use Rattle.bool_mat.specs.Matrix.{matrix_at}
 use Rattle.wf_model.specs.Grammar.{Grammar, Assignment, body_of, head_of, inputs_of, outputs_of}
 use Rattle.wf_model.specs.View.{View, expands}
 use Rattle.wf_model.specs.Reach.{Step, Between, Into, OutOf, target_of}
 use Rattle.wf_body.specs.Matrices.{IsMatrixOf, beside}
 use Rattle.decode_model.specs.Matrices.{IsOpenStep}
 use Rattle.wf_safe.specs.Inducing.{IsSeenExpanded}
-use Rattle.wf_vlabel.specs.Groups.{GroupsSeen, HasGroup, matrix_of, nth_from}
+use Rattle.wf_vlabel.specs.Groups.{GroupsSeen, matrix_of, nth_from}
 use Rattle.wf_vlabel.specs.Growing.{AreGroupsOf, IsBodyGroup}
 use Rattle.wf_vlabel.specs.Tables.{AreBodyGroups, Expands, IsStepGroup, begins, of_body, of_position}
 use Rattle.wf_vlabel.proofs.Grouping.{Stays, room_kept}

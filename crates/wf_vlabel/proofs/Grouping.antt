@@ -1,10 +1,10 @@
 -- Groups of the first keys, as their pool grows.
-use Rattle.std.proofs.Common.{◌≡◌, ℕ, ◌+◌, ◌<◌, ◌≤◌, ◌⊎◌, List, [], ◌∷◌, ◌++◌, map, length, get_or, Option, None, option_map, refl, sym, ap, ◌∙◌, subst, inl, inr, arith, length-append}
+use Rattle.std.proofs.Common.{◌≡◌, ℕ, ◌+◌, ◌<◌, ◌≤◌, List, [], ◌∷◌, ◌++◌, map, length, get_or, Option, None, option_map, refl, sym, ap, ◌∙◌, subst, inl, inr, arith, length-append}
 use Rattle.std.proofs.lemmas.List.{map-append, get_or_append_left}
 use Rattle.std.proofs.Math.Seq.{get_or-append_seam}
 use Rattle.bool_mat.specs.Matrix.{Matrix, Adds, matrix_at}
 use Rattle.bool_mat.specs.declared.pool.MatNo.{MatNo}
-use Rattle.bool_mat.proofs.Pools.{adds_more, adds_none}
+use Rattle.bool_mat.proofs.Pools.{adds_none}
 use Rattle.bool_mat.proofs.Rows.{same_or_not}
 use Rattle.wf_vlabel.specs.Groups.{GroupsSeen}
 use Rattle.wf_vlabel.specs.Growing.{Grows, AreGroupsOf}

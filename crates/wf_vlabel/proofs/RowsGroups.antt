@@ -1,12 +1,12 @@
 -- Matrices of the rows of modules.
-use Rattle.std.proofs.Common.{◌≡◌, ◌↔◌, ℕ, ◌+◌, ◌<◌, ◌≤◌, ◌⊎◌, Bool, false, IsTrue, List, [], length, get_or, Option, Some, None, refl, sym, ap, ◌∙◌, subst, inl, inr, ⊎_elim, arith}
+use Rattle.std.proofs.Common.{◌≡◌, ℕ, ◌+◌, ◌<◌, ◌≤◌, false, IsTrue, List, length, get_or, Option, Some, None, refl, sym, ap, ◌∙◌, subst, inl, inr, ⊎_elim, arith}
 use Rattle.std.proofs.lemmas.Bool.{cases_lt}
 use Rattle.std.proofs.lemmas.List.{get_or_past}
 use Rattle.std.proofs.lemmas.Nat.Bits.{bit_at-zero}
 use Rattle.bool_mat.specs.Matrix.{Matrix, IsMatrix, Joined, has, joins, matrix_at}
 use Rattle.bool_mat.proofs.Rows.{has_none}
 use Rattle.bool_mat.proofs.Products.{joined_below}
-use Rattle.wf_model.specs.Grammar.{Grammar, Module, inputs_of, outputs_of, module_at}
+use Rattle.wf_model.specs.Grammar.{Grammar, inputs_of, outputs_of, module_at}
 use Rattle.wf_model.specs.WellFormed.{IsWellFormed}
 use Rattle.wf_model.specs.View.{View, expands, IsSeenModule}
 use Rattle.wf_model.specs.Meaning.{bit_of, pairs_of}

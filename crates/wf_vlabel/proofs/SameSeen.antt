@@ -1,5 +1,5 @@
 -- Views that expand the same modules see the same modules.
-use Rattle.std.proofs.Common.{◌≡◌, ℕ, Bool, IsTrue, sym, ◌∙◌}
+use Rattle.std.proofs.Common.{ℕ, sym, ◌∙◌}
 use Rattle.wf_model.specs.Grammar.{Grammar, head_of}
 use Rattle.wf_model.specs.View.{View, expands, IsSeenModule, at_start, in_body}
 use Rattle.wf_vlabel.specs.Tables.{Expands}

@@ -1,14 +1,14 @@
 -- Matrices of the positions of a body, position after position.
-use Rattle.std.proofs.Common.{◌≡◌, ℕ, suc, ◌+◌, ◌*◌, ◌<◌, ◌≤◌, List, length, refl, sym, ap, ◌∙◌, subst, inl, inr, arith}
+use Rattle.std.proofs.Common.{◌≡◌, ℕ, ◌+◌, ◌*◌, ◌<◌, ◌≤◌, List, length, sym, subst, inl, inr, arith}
 use Rattle.std.proofs.Math.Nat.{add-mul, mul-le-mul_right}
-use Rattle.bool_mat.specs.Matrix.{Matrix, Adds, matrix_at}
+use Rattle.bool_mat.specs.Matrix.{Matrix, Adds}
 use Rattle.bool_mat.proofs.Pools.{adds_more}
 use Rattle.bool_mat.proofs.Rows.{same_or_not}
-use Rattle.wf_model.specs.Grammar.{Grammar, Assignment, body_of, head_of, inputs_of, outputs_of}
+use Rattle.wf_model.specs.Grammar.{Grammar, Assignment, head_of, inputs_of, outputs_of}
 use Rattle.wf_model.specs.Reach.{Step, Between, Into, OutOf, target_of}
 use Rattle.wf_body.specs.Matrices.{IsMatrixOf, beside}
 use Rattle.wf_vlabel.specs.Growing.{Grows}
-use Rattle.wf_vlabel.specs.Tables.{AreStepGroups, IsStepGroup, begins, of_position}
+use Rattle.wf_vlabel.specs.Tables.{AreStepGroups, IsStepGroup, of_position}
 use Rattle.wf_vlabel.proofs.Grouping.{grows_by, matrix_kept}
 
 -- the matrices of a position keep their numbers

@@ -1,4 +1,4 @@
-use Rattle.std.proofs.Common.{◌≡◌, ◌∙◌, ap, sym, length, List, arith}
+use Rattle.std.proofs.Common.{◌∙◌, ap, sym, length, List}
 use Rattle.std.proofs.lemmas.List.{length-map}
 use Rattle.wf_model.specs.Grammar.{Production}
 use Rattle.wf_model.specs.Meaning.{pairs_of}

@@ -1,4 +1,4 @@
-use Rattle.std.proofs.Common.{◌≡◌, ◌∙◌, ◌≤◌, ap, length, List, arith}
+use Rattle.std.proofs.Common.{ap, length, List}
 use Rattle.wf_model.specs.Grammar.{Module}
 use Rattle.wf_vlabel.specs.Growing.{IsRowsGroup}
 use Rattle.wf_vlabel.proofs.Grouping.{groups_push, groups_end, numbers_in}
