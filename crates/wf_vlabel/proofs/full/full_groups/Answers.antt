@@ -14,12 +14,12 @@ pub returns-clause-groups : goal.returns-clause-groups
 returns-clause-groups c u rows =
     let g = c.args.g.now.core in
     let all = groups_end (IsRowsGroup g c.args.full.now) c.loop-m.m (length c.modules-modules.result.now) (length g.modules) c.loop-m.pool (numbers_in c.loop-m.first.items) c.of_pool.result
-        c.loop-m.auto.m-end c.loop-m-test.false (ap (λ (ms : List Module). length ms) c.modules-modules.ensures.modules) c.of_pool.ensures.pool c.of_pool.ensures.first c.loop-m.invariant in
+    c.loop-m.auto.m-end c.loop-m-test.false (ap (λ (ms : List Module). length ms) c.modules-modules.ensures.modules) c.of_pool.ensures.pool c.of_pool.ensures.first c.loop-m.invariant in
     full_are g c.args.full.now c.of_pool.result rows.places all u c.modules-modules.ensures.formed rows
 
 pub returns-clause-pairs : goal.returns-clause-pairs
 returns-clause-pairs c =
     let g = c.args.g.now.core in
     let all = groups_end (IsRowsGroup g c.args.full.now) c.loop-m.m (length c.modules-modules.result.now) (length g.modules) c.loop-m.pool (numbers_in c.loop-m.first.items) c.of_pool.result
-        c.loop-m.auto.m-end c.loop-m-test.false (ap (λ (ms : List Module). length ms) c.modules-modules.ensures.modules) c.of_pool.ensures.pool c.of_pool.ensures.first c.loop-m.invariant in
+    c.loop-m.auto.m-end c.loop-m-test.false (ap (λ (ms : List Module). length ms) c.modules-modules.ensures.modules) c.of_pool.ensures.pool c.of_pool.ensures.first c.loop-m.invariant in
     pairs_are g c.args.full.now c.of_pool.result c.requires.1.places all
