@@ -1,5 +1,6 @@
 pub mod Groups
 pub mod Cuts
 pub mod Tables
+pub mod Growing
 pub mod Seen
 pub mod Held
