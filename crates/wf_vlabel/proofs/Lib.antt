@@ -1,0 +1,2 @@
+pub mod CyclePlaces
+pub mod Cutting
