@@ -1,6 +1,7 @@
 -- Where chains leave what is expanded, place by place.
-use Rattle.std.proofs.Common.{◌≡◌, ◌≢◌, ℕ, zero, suc, ◌+◌, ◌%◌, ◌<◌, ◌≤◌, Bool, true, false, IsTrue, List, length, get_or, set, ◌-◌, IfSome, Option, Some, None, refl, sym, ap, ◌∙◌, subst, inl, inr, ⊎_elim, arith, true≢false}
+use Rattle.std.proofs.Common.{◌≡◌, ◌≢◌, ℕ, zero, suc, ◌+◌, ◌%◌, ◌<◌, ◌≤◌, Bool, true, false, IsTrue, List, length, get_or, set, ◌-◌, ◌++◌, take, IfSome, Option, Some, None, refl, sym, ap, ◌∙◌, subst, inl, inr, ⊎_elim, arith, true≢false}
 use Rattle.std.proofs.Math.Nat.{add-mod-mod}
+use Rattle.std.proofs.Math.Seq.{take-append_seam}
 use Rattle.std.proofs.lemmas.List.{get_or-set_same, get_or-set_other}
 use Rattle.bool_mat.proofs.Rows.{same_or_not}
 use Rattle.wf_model.specs.Grammar.{Grammar}
@@ -10,7 +11,7 @@ use Rattle.label_model.specs.Continuing.{continuing, next_by, after}
 use Rattle.label_model.proofs.Periods.{after-add}
 use Rattle.wf_recur.specs.Cycles.{CyclesSeen, round_at, least_of, AreCyclesOf}
 use Rattle.wf_vlabel.specs.Cuts.{IsCut, IsCutWithin, cut_before}
-use Rattle.wf_vlabel.proofs.CyclePlaces.{place_after, rest_of}
+use Rattle.wf_vlabel.proofs.CyclePlaces.{place_after, rest_of, stands_somewhere}
 
 -- no steps lead to fewer modules than none
 pub cut_none : (g : Grammar) (e : ℕ → Bool) (m : ℕ) → IsCutWithin g e m 0 None
@@ -89,3 +90,28 @@ cut_told g e round cuts place size o h l told j low high =
       | inl is ↦ subst (λ z. IsCut g e (get_or round z 0) (get_or (set cuts (get_or round place 0) o) (get_or round z 0) None)) (sym is) (subst (IsCut g e (get_or round place 0)) (sym (get_or-set_same cuts (get_or round place 0) o None l)) h)
       | inr not ↦ cut_kept g e cuts (get_or round place 0) (get_or round j 0) o h l (told j (omega arith) high)
     ]
+
+-- the modules of one cycle more are told
+pub cuts_more : (g : Grammar) (t : CyclesSeen) (e : ℕ → Bool) (c : ℕ) (old new : List (Option ℕ)) →
+    ((m : ℕ) → IsCut g e m (get_or old m None) → IsCut g e m (get_or new m None)) →
+    ((j : ℕ) → j < length (round_at t c) → IsCut g e (get_or (round_at t c) j 0) (get_or new (get_or (round_at t c) j 0) None)) →
+    ((k j : ℕ) → k < c → j < length (round_at t k) → IsCut g e (get_or (round_at t k) j 0) (get_or old (get_or (round_at t k) j 0) None)) →
+    (k j : ℕ) → k < c + 1 → j < length (round_at t k) → IsCut g e (get_or (round_at t k) j 0) (get_or new (get_or (round_at t k) j 0) None)
+cuts_more g t e c old new kept told before k j l h =
+    elim (same_or_not k c) [
+      | inl is ↦ subst (λ z. (i : ℕ) → i < length (round_at t z) → IsCut g e (get_or (round_at t z) i 0) (get_or new (get_or (round_at t z) i 0) None)) (sym is) told j h
+      | inr not ↦ kept (get_or (round_at t k) j 0) (before k j (omega arith) h)
+    ]
+
+-- they are all the modules that continue
+pub cuts_all : (g : Grammar) (t : CyclesSeen) (e : ℕ → Bool) (cuts : List (Option ℕ)) → AreCyclesOf g t →
+    ((k j : ℕ) → k < length t.rounds → j < length (round_at t k) → IsCut g e (get_or (round_at t k) j 0) (get_or cuts (get_or (round_at t k) j 0) None)) →
+    (m : ℕ) → m < length g.modules → continuing g m ≢ None → IsCut g e m (get_or cuts m None)
+cuts_all g t e cuts h told m i n =
+    let o = stands_somewhere g t m h i n in
+    let s = h.on_one m o.0 o.1 in
+    subst (λ z. IsCut g e z (get_or cuts z None)) s.is (told o.0.cycle o.0.place s.cycle s.place)
+
+-- a front of so many elements is the whole first list
+pub front_whole : {A : Type 0} (n : ℕ) (xs ys : List A) → length xs ≡ n → take n (xs ++ ys) ≡ xs
+front_whole n xs ys e = ap (λ k. take k (xs ++ ys)) (sym e) ∙ take-append_seam xs ys
