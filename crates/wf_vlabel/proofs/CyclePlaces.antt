@@ -4,12 +4,12 @@ use Rattle.std.proofs.lemmas.List.{get_or-map, length-map}
 use Rattle.wf_model.specs.Lists.{IsAt}
 use Rattle.wf_model.specs.Grammar.{Grammar}
 use Rattle.wf_model.specs.WellFormed.{IsWellFormed}
-use Rattle.wf_model.specs.Reach.{Step}
+use Rattle.wf_model.specs.Reach.{Step, target_of}
 use Rattle.wf_model.specs.Linear.{IsLinear, IsOnCycle, GoesOn, GoesOnBy}
 use Rattle.wf_model.proofs.Lists.{is_at, at_in}
 use Rattle.label_model.specs.Continuing.{continuing, next_by, after}
 use Rattle.label_model.proofs.Finding.{cases_option}
-use Rattle.label_model.proofs.ContinuingSteps.{continuing_is}
+use Rattle.label_model.proofs.ContinuingSteps.{continuing_is, continuing_found, continuing_law, target_continues}
 use Rattle.label_model.proofs.Periods.{period_law}
 use Rattle.wf_recur.specs.Cycles.{OnSeen, CyclesSeen, round_at, least_of, IsRound, StandsAt, AreCyclesOf}
 use Rattle.wf_recur.proofs.Stepping.{target_below}
@@ -62,3 +62,16 @@ stands_told g t m h i n e = ⊎_elim n (λ q. h.on_none m i e (q.0, continuing_i
 -- it stands at a place of a cycle
 pub stands_somewhere : (g : Grammar) (t : CyclesSeen) (m : ℕ) → AreCyclesOf g t → m < length g.modules → continuing g m ≢ None → (o : OnSeen) × (get_or t.on m None ≡ Some o)
 stands_somewhere g t m h i n = ⊎_elim (λ e. absurd (stands_told g t m h i n e)) (λ q. q) (cases_option (get_or t.on m None))
+
+-- where a module has a continuing step, the modules to which steps lead have one
+pub goes_on : (g : Grammar) → IsWellFormed g → (k m : ℕ) → (s : Step) × (continuing g m ≡ Some s) → (s : Step) × (continuing g (after g k m) ≡ Some s)
+goes_on g wf zero m s = s
+goes_on g wf (suc k) m s = subst (λ o. (t : Step) × (continuing g (after g k (next_by g m o)) ≡ Some t)) (sym s.1) (goes_on g wf k (target_of g s.0) (target_continues g wf m s.0 s.1))
+
+-- each module of a cycle has a continuing step
+pub continues_on : (g : Grammar) (t : CyclesSeen) (c k : ℕ) → IsWellFormed g → AreCyclesOf g t → c < length t.rounds → (s : Step) × (continuing g (after g k (least_of (round_at t c))) ≡ Some s)
+continues_on g t c k wf h i = let f = first_on_cycle g t c h i in goes_on g wf k (least_of (round_at t c)) (continuing_found g wf (least_of (round_at t c)) f.0 f.1)
+
+-- what the table tells of the module at a place is its continuing step
+pub step_told : (g : Grammar) (t : CyclesSeen) (m : ℕ) (o : OnSeen) → IsWellFormed g → IsLinear g → AreCyclesOf g t → get_or t.on m None ≡ Some o → continuing g m ≡ Some o.step
+step_told g t m o wf lin h e = (continuing_law g wf lin m o.step).1 (h.on_one m o e).step

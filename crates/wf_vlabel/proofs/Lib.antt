@@ -1,2 +1,3 @@
 pub mod CyclePlaces
 pub mod Cutting
+pub mod Chains

@@ -3,3 +3,5 @@ pub mod Cuts
 pub mod Tables
 pub mod Seen
 pub mod Held
+pub mod RoundSteps
+pub mod ChainMatrices

@@ -10,6 +10,9 @@ ghost use Rattle.wf_safe.specs.Full.{AreFullRows};
 ghost use Rattle.wf_vlabel.specs.Cuts.{IsCut};
 ghost use Rattle.wf_vlabel.specs.Tables.{AreBodyGroups, AreSquareGroups};
 
+mod steps;
+mod way;
+
 use crate::groups::Groups;
 use std::alloc::{AllocError, Global};
 use wf_recur::Cycles;
