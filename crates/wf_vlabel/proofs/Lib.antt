@@ -1,3 +1,4 @@
 pub mod CyclePlaces
 pub mod Cutting
 pub mod Chains
+pub mod Parts

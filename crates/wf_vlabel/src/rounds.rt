@@ -10,6 +10,7 @@ ghost use Rattle.wf_safe.specs.Full.{AreFullRows};
 ghost use Rattle.wf_vlabel.specs.Cuts.{IsCut};
 ghost use Rattle.wf_vlabel.specs.Tables.{AreBodyGroups, AreSquareGroups};
 
+mod parts;
 mod steps;
 mod way;
 
