@@ -1,5 +1,6 @@
 -- The steps once round a cycle, and the matrices of many rounds.
-use Rattle.std.specs.Prelude.{◌≡◌, ◌≢◌, ℕ, zero, suc, ◌+◌, ◌^◌, ◌<◌, ◌≤◌, IsTrue, List, [], ◌∷◌, ◌++◌, length, take, get_or, Option, Some, None}
+use Rattle.std.specs.Prelude.{◌≡◌, ◌≢◌, ℕ, zero, suc, ◌+◌, ◌^◌, ◌<◌, ◌≤◌, IsTrue, List, [], ◌∷◌, ◌++◌, length, take, get_or, map, option_map, Option, Some, None}
+use Rattle.bool_mat.specs.declared.pool.MatNo.{MatNo}
 use Rattle.bool_mat.specs.Matrix.{Matrix, Power, matrix_at}
 use Rattle.wf_model.specs.Grammar.{Grammar, Assignment, inputs_of, outputs_of}
 use Rattle.wf_model.specs.View.{View, expands, IsSeenModule}
@@ -31,11 +32,15 @@ pub record IsOpenCycle (g : Grammar) (u : View) (first : ℕ) : Type 0 where
   pub whole : (k : ℕ) → IsTrue (expands u (after g k first))
 
 -- from this number on a pool has the matrices of 1, 2, 4 and so on rounds down from the module m, 24 of them, and then as many of rounds up to it
-pub record IsRoundGroup (g : Grammar) (d : Assignment) (m : ℕ) (pool : List Matrix) (n : ℕ) : Type 0 where
+pub record IsSquareGroup (g : Grammar) (d : Assignment) (m : ℕ) (round : List Step) (pool : List Matrix) (n : ℕ) : Type 0 where
   pub inside : n + 48 ≤ length pool
-  pub down : (round : List Step) → IsOnce g m round → (k : ℕ) → k < 24 → IsMatrixOf (inputs_of g m) (inputs_of g m) (Power (IntoAll g d round) (2 ^ k)) (matrix_at pool (n + k))
-  pub up : (round : List Step) → IsOnce g m round → (k : ℕ) → k < 24 → IsMatrixOf (outputs_of g m) (outputs_of g m) (Power (OutAll g d round) (2 ^ k)) (matrix_at pool (n + (24 + k)))
+  pub down : (k : ℕ) → k < 24 → IsMatrixOf (inputs_of g m) (inputs_of g m) (Power (IntoAll g d round) (2 ^ k)) (matrix_at pool (n + k))
+  pub up : (k : ℕ) → k < 24 → IsMatrixOf (outputs_of g m) (outputs_of g m) (Power (OutAll g d round) (2 ^ k)) (matrix_at pool (n + (24 + k)))
 
--- the module m has them, from the number that is told of it
+-- the module m has them, from the number that is told of it, whatever list is once round
 abbrev pub HasRounds : Grammar → Assignment → ℕ → List Matrix → List (Option ℕ) → Type 0
-HasRounds g d m pool first = (n : ℕ) × (get_or first m None ≡ Some n) × IsRoundGroup g d m pool n
+HasRounds g d m pool first = (n : ℕ) × (get_or first m None ≡ Some n) × ((round : List Step) → IsOnce g m round → IsSquareGroup g d m round pool n)
+
+-- the numbers of matrices, where there are some
+abbrev pub numbers_in : List (Option MatNo) → List (Option ℕ)
+numbers_in = map (option_map (λ n. n.0))
