@@ -1,6 +1,5 @@
 -- Where chains leave what is expanded, place by place.
 use Rattle.std.proofs.Common.{◌≡◌, ◌≢◌, ℕ, zero, suc, ◌+◌, ◌%◌, ◌<◌, ◌≤◌, Bool, true, false, IsTrue, List, length, get_or, set, ◌-◌, ◌++◌, take, IfSome, Option, Some, None, refl, sym, ap, ◌∙◌, subst, inl, inr, ⊎_elim, arith, true≢false}
-use Rattle.std.proofs.Math.Nat.{add-mod-mod}
 use Rattle.std.proofs.Math.Seq.{take-append_seam}
 use Rattle.std.proofs.lemmas.List.{get_or-set_same, get_or-set_other}
 use Rattle.bool_mat.proofs.Rows.{same_or_not}
@@ -11,7 +10,7 @@ use Rattle.label_model.specs.Continuing.{continuing, next_by, after}
 use Rattle.label_model.proofs.Periods.{after-add}
 use Rattle.wf_recur.specs.Cycles.{CyclesSeen, round_at, least_of, AreCyclesOf}
 use Rattle.wf_vlabel.specs.Cuts.{IsCut, IsCutWithin, cut_before}
-use Rattle.wf_vlabel.proofs.CyclePlaces.{place_after, rest_of, stands_somewhere}
+use Rattle.wf_vlabel.proofs.CyclePlaces.{place_after, within_round, stands_somewhere}
 
 -- no steps lead to fewer modules than none
 pub cut_none : (g : Grammar) (e : ℕ → Bool) (m : ℕ) → IsCutWithin g e m 0 None
@@ -42,11 +41,8 @@ pub cut_whole : (g : Grammar) (t : CyclesSeen) (c j : ℕ) (e : ℕ → Bool) (b
     IsCutWithin g e (get_or (round_at t c) j 0) bound o → IsCut g e (get_or (round_at t c) j 0) o
 cut_whole g t c j e bound (Some n) wf lin h i l b w = (w.1, w.2)
 cut_whole g t c j e bound None wf lin h i l b w = λ k.
-    let size = length (round_at t c) in
-    let m = get_or (round_at t c) j 0 in
-    let r : k % size < bound = omega arith in
-    let same : (j + k) % size ≡ (j + k % size) % size = sym (add-mod-mod j k size) in
-    subst (λ z. IsTrue (e z)) (rest_of g t c (k % size) wf lin h i j m l refl ∙ ap (λ z. get_or (round_at t c) z 0) (sym same) ∙ sym (rest_of g t c k wf lin h i j m l refl)) (w (k % size) r)
+    let r : k % length (round_at t c) < bound = omega arith in
+    subst (λ z. IsTrue (e z)) (sym (within_round g t c j k wf lin h i l)) (w (k % length (round_at t c)) r)
 
 -- one place earlier on a cycle
 pub cut_place : (g : Grammar) (t : CyclesSeen) (c j : ℕ) (e : ℕ → Bool) (bound : ℕ) (o : Option ℕ) → IsWellFormed g → IsLinear g → AreCyclesOf g t → c < length t.rounds → j < length (round_at t c) →

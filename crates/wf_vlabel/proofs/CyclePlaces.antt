@@ -1,5 +1,6 @@
 -- Where continuing steps lead, by the table of cycles.
 use Rattle.std.proofs.Common.{◌≡◌, ◌≢◌, ℕ, zero, suc, ◌+◌, ◌%◌, ◌<◌, ◌≤◌, List, [], length, get_or, map, Option, Some, None, refl, sym, ap, ◌∙◌, subst, ⊎_elim, arith}
+use Rattle.std.proofs.Math.Nat.{add-mod-mod}
 use Rattle.std.proofs.lemmas.List.{get_or-map, length-map}
 use Rattle.wf_model.specs.Lists.{IsAt}
 use Rattle.wf_model.specs.Grammar.{Grammar}
@@ -37,6 +38,15 @@ rest_of g t c k wf lin h i j m l e =
     let r : IsRound g round = h.rounds c i in
     let b : (j + k) % length round < length round = omega arith in
     (period_law g wf lin).rest (least_of round) (length round) j m k r.whole (subst (GoesOnBy g j (least_of round)) e (r.places j l).0) ∙ place_after g t c ((j + k) % length round) wf lin h i b
+
+-- whole rounds can be left out
+pub within_round : (g : Grammar) (t : CyclesSeen) (c j k : ℕ) → IsWellFormed g → IsLinear g → AreCyclesOf g t → c < length t.rounds → j < length (round_at t c) →
+    after g k (get_or (round_at t c) j 0) ≡ after g (k % length (round_at t c)) (get_or (round_at t c) j 0)
+within_round g t c j k wf lin h i l =
+    let size = length (round_at t c) in
+    let m = get_or (round_at t c) j 0 in
+    let same : (j + k) % size ≡ (j + k % size) % size = sym (add-mod-mod j k size) in
+    rest_of g t c k wf lin h i j m l refl ∙ (ap (λ z. get_or (round_at t c) z 0) same ∙ sym (rest_of g t c (k % size) wf lin h i j m l refl))
 
 next_below : (g : Grammar) → IsWellFormed g → (m : ℕ) → m < length g.modules → (o : Option Step) → continuing g m ≡ o → next_by g m o < length g.modules
 next_below g wf m i None e = i

@@ -5,3 +5,5 @@ pub mod Parts
 pub mod OnceRound
 pub mod Squares
 pub mod SquaredCycle
+pub mod OpenCycles
+pub mod SquareGroups

@@ -34,7 +34,7 @@ module _ (g : Grammar) (t : CyclesSeen) (c p : ℕ) (wf : IsWellFormed g) (lin :
       ap (after g (length (round_at t c))) (sym at) ∙ (round_back g (least_of (round_at t c)) (length (round_at t c)) p (back_to_first g t c wf lin h i) ∙ at)
 
   -- the steps up to the last place lead to place 0
-  to_first : after g (length (round_at t c) - p) (get_or (round_at t c) p 0) ≡ least_of (round_at t c)
+  pub to_first : after g (length (round_at t c) - p) (get_or (round_at t c) p 0) ≡ least_of (round_at t c)
   to_first =
       let n : p + (length (round_at t c) - p) ≡ length (round_at t c) = omega arith in
       ap (after g (length (round_at t c) - p)) (sym (place_after g t c p wf lin h i l)) ∙ (sym (after-add g p (length (round_at t c) - p) (least_of (round_at t c))) ∙ (ap (λ z. after g z (least_of (round_at t c))) n ∙ back_to_first g t c wf lin h i))
@@ -45,7 +45,8 @@ module _ (g : Grammar) (t : CyclesSeen) (c p : ℕ) (wf : IsWellFormed g) (lin :
       let b : after g n first ≡ first = subst (λ z. after g n z ≡ z) to_first (round_back g (get_or (round_at t c) p 0) n (length (round_at t c) - p) e) in
       (h.rounds c i).whole.2 n some (subst (GoesOnBy g n first) b (goes_by g wf n first (continues_on g t c 0 wf h i)))
 
-  once_length : (round : List Step) → IsOnce g (get_or (round_at t c) p 0) round → length round ≡ length (round_at t c)
+  -- steps once round are as many as the cycle has modules
+  pub once_length : (round : List Step) → IsOnce g (get_or (round_at t c) p 0) round → length round ≡ length (round_at t c)
   once_length round o =
       let m = get_or (round_at t c) p 0 in
       let size = length (round_at t c) in
@@ -57,6 +58,6 @@ module _ (g : Grammar) (t : CyclesSeen) (c p : ℕ) (wf : IsWellFormed g) (lin :
         | inr not ↦ absurd (high (omega arith))
       ]
 
-  -- the steps once round are as many as the cycle has modules
+  -- so they are these
   pub once_told : (round : List Step) → IsOnce g (get_or (round_at t c) p 0) round → round ≡ steps_on g (length (round_at t c)) (get_or (round_at t c) p 0)
   once_told round o = steps_told g wf lin (get_or (round_at t c) p 0) round o.goes_round.continuing ∙ ap (λ n. steps_on g n (get_or (round_at t c) p 0)) (once_length round o)
