@@ -1,12 +1,12 @@
 -- Where chains leave what is expanded, place by place.
-use Rattle.std.proofs.Common.{◌≡◌, ◌≢◌, ℕ, zero, suc, ◌+◌, ◌%◌, ◌<◌, ◌≤◌, Bool, true, false, IsTrue, List, length, get_or, set, ◌-◌, ◌++◌, take, IfSome, Option, Some, None, refl, sym, ap, ◌∙◌, subst, inl, inr, ⊎_elim, arith, true≢false}
+use Rattle.std.proofs.Common.{◌≡◌, ◌≢◌, ℕ, zero, suc, ◌+◌, ◌%◌, ◌<◌, ◌≤◌, Bool, true, false, IsTrue, List, length, get_or, set, ◌++◌, take, IfSome, Option, Some, None, refl, sym, ap, ◌∙◌, subst, inl, inr, arith}
 use Rattle.std.proofs.Math.Seq.{take-append_seam}
 use Rattle.std.proofs.lemmas.List.{get_or-set_same, get_or-set_other}
 use Rattle.bool_mat.proofs.Rows.{same_or_not}
 use Rattle.wf_model.specs.Grammar.{Grammar}
 use Rattle.wf_model.specs.WellFormed.{IsWellFormed}
 use Rattle.wf_model.specs.Linear.{IsLinear}
-use Rattle.label_model.specs.Continuing.{continuing, next_by, after}
+use Rattle.label_model.specs.Continuing.{continuing, after}
 use Rattle.label_model.proofs.Periods.{after-add}
 use Rattle.wf_recur.specs.Cycles.{CyclesSeen, round_at, least_of, AreCyclesOf}
 use Rattle.wf_vlabel.specs.Cuts.{IsCut, IsCutWithin, cut_before}

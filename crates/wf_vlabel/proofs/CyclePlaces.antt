@@ -1,18 +1,17 @@
 -- Where continuing steps lead, by the table of cycles.
-use Rattle.std.proofs.Common.{◌≡◌, ◌≢◌, ℕ, zero, suc, ◌+◌, ◌%◌, ◌<◌, ◌≤◌, List, [], length, get_or, map, Option, Some, None, refl, sym, ap, ◌∙◌, subst, ⊎_elim, arith}
+use Rattle.std.proofs.Common.{◌≡◌, ◌≢◌, ℕ, zero, suc, ◌+◌, ◌%◌, ◌<◌, [], length, get_or, map, Option, Some, None, refl, sym, ap, ◌∙◌, subst, ⊎_elim, arith}
 use Rattle.std.proofs.Math.Nat.{add-mod-mod}
 use Rattle.std.proofs.lemmas.List.{get_or-map, length-map}
-use Rattle.wf_model.specs.Lists.{IsAt}
 use Rattle.wf_model.specs.Grammar.{Grammar}
 use Rattle.wf_model.specs.WellFormed.{IsWellFormed}
 use Rattle.wf_model.specs.Reach.{Step, target_of}
-use Rattle.wf_model.specs.Linear.{IsLinear, IsOnCycle, GoesOn, GoesOnBy}
+use Rattle.wf_model.specs.Linear.{IsLinear, IsOnCycle, GoesOnBy}
 use Rattle.wf_model.proofs.Lists.{is_at, at_in}
 use Rattle.label_model.specs.Continuing.{continuing, next_by, after}
 use Rattle.label_model.proofs.Finding.{cases_option}
 use Rattle.label_model.proofs.ContinuingSteps.{continuing_is, continuing_found, continuing_law, target_continues}
 use Rattle.label_model.proofs.Periods.{period_law}
-use Rattle.wf_recur.specs.Cycles.{OnSeen, CyclesSeen, round_at, least_of, IsRound, StandsAt, AreCyclesOf}
+use Rattle.wf_recur.specs.Cycles.{OnSeen, CyclesSeen, round_at, least_of, IsRound, AreCyclesOf}
 use Rattle.wf_recur.proofs.Stepping.{target_below}
 
 -- the least module of a cycle has a continuing step

@@ -1,10 +1,10 @@
 -- There is one list of steps once round a cycle from a module of it.
-use Rattle.std.proofs.Common.{◌≡◌, ◌≢◌, ℕ, zero, suc, ◌+◌, ◌-◌, ◌<◌, ◌≤◌, List, [], ◌∷◌, length, get_or, take, Some, refl, sym, ap, ◌∙◌, subst, inl, inr, arith, length-take}
+use Rattle.std.proofs.Common.{◌≡◌, ℕ, zero, suc, ◌+◌, ◌-◌, ◌<◌, ◌≤◌, List, length, get_or, take, Some, refl, sym, ap, ◌∙◌, subst, inl, inr, arith, length-take}
 use Rattle.bool_mat.proofs.Rows.{same_or_not}
 use Rattle.wf_model.specs.Grammar.{Grammar}
 use Rattle.wf_model.specs.WellFormed.{IsWellFormed}
 use Rattle.wf_model.specs.Linear.{IsLinear, GoesOnBy}
-use Rattle.wf_model.specs.Reach.{Step, target_of, module_along}
+use Rattle.wf_model.specs.Reach.{Step, target_of}
 use Rattle.label_model.specs.Continuing.{continuing, next_by, after}
 use Rattle.label_model.proofs.ContinuingSteps.{continuing_is, target_continues}
 use Rattle.label_model.proofs.Periods.{after-add}
@@ -19,8 +19,7 @@ use Rattle.wf_vlabel.proofs.Squares.{round_back}
 goes_by : (g : Grammar) → IsWellFormed g → (k m : ℕ) → (s : Step) × (continuing g m ≡ Some s) → GoesOnBy g k m (after g k m)
 goes_by g wf zero m s = refl
 goes_by g wf (suc k) m s =
-    let next = target_of g s.0 in
-    (
+    let next = target_of g s.0 in (
       next,
       (s.0, continuing_is g m s.0 s.1, refl),
       subst (λ o. GoesOnBy g k next (after g k (next_by g m o))) (sym s.1) (goes_by g wf k next (target_continues g wf m s.0 s.1)),
@@ -52,7 +51,7 @@ module _ (g : Grammar) (t : CyclesSeen) (c p : ℕ) (wf : IsWellFormed g) (lin :
       let size = length (round_at t c) in
       let low = not_fewer (length round) o.some (sym (along_told g wf lin m round o.goes_round.continuing) ∙ o.goes_round.back) in
       let high : size < length round → ⊥ = λ few. o.least size (omega arith) few
-          (along_told g wf lin m (take size round) (continuing_take g m size round o.goes_round.continuing) ∙ (ap (λ z. after g z m) (let e = length-take size round in let w : length (take size round) ≡ size = omega arith in w) ∙ whole_back)) in
+      (along_told g wf lin m (take size round) (continuing_take g m size round o.goes_round.continuing) ∙ (ap (λ z. after g z m) (let e = length-take size round in let w : length (take size round) ≡ size = omega arith in w) ∙ whole_back)) in
       elim (same_or_not (length round) size) [
         | inl same ↦ same
         | inr not ↦ absurd (high (omega arith))

@@ -1,5 +1,5 @@
 -- The matrices of the first steps and of the last steps of a cycle, one by one.
-use Rattle.std.proofs.Common.{◌≡◌, ◌≢◌, ℕ, zero, suc, ◌+◌, ◌-◌, ◌*◌, ◌<◌, ◌≤◌, List, length, refl, sym, ap, ◌∙◌, subst, inl, inr, arith}
+use Rattle.std.proofs.Common.{◌≡◌, ℕ, zero, suc, ◌+◌, ◌-◌, ◌*◌, ◌<◌, List, length, sym, ap, ◌∙◌, subst, inl, inr, arith}
 use Rattle.bool_mat.specs.Matrix.{Matrix, Adds, matrix_at}
 use Rattle.bool_mat.proofs.Rows.{same_or_not}
 use Rattle.bool_mat.proofs.Pools.{adds_more}
@@ -159,8 +159,7 @@ parts_from : (way : Way) (g : Grammar) (d : Assignment) (first size : ℕ) (pool
 parts_from way g d first size pool place count before p c b back =
     let n : 2 * size - 1 + 1 ≡ 2 * size = omega arith in
     let z : 0 + 2 * before ≡ 2 * before = omega arith in
-    let there : after g (suc count) (after g place first) ≡ first = sym (after-add g place (suc count) first) ∙ (ap (λ k. after g k first) c ∙ back) in
-    (
+    let there : after g (suc count) (after g place first) ≡ first = sym (after-add g place (suc count) first) ∙ (ap (λ k. after g k first) c ∙ back) in (
       p.lasts (2 * size - 1) n count place (omega arith) c,
       subst (λ m. IsChain way g d m (suc before) (matrix_at pool (2 * before))) (sym there) (subst (λ k. IsChain way g d first (suc before) (matrix_at pool k)) z (p.firsts before (omega arith))),
     )

@@ -1,5 +1,5 @@
 -- The matrices of many rounds of all cycles that are open.
-use Rattle.std.proofs.Common.{◌≡◌, ◌≢◌, ℕ, ◌+◌, ◌^◌, ◌<◌, List, [], ◌∷◌, length, get_or, Option, Some, None, sym, ap, ◌∙◌, subst, inl, inr, arith}
+use Rattle.std.proofs.Common.{◌≡◌, ◌≢◌, ℕ, ◌+◌, ◌^◌, ◌<◌, List, [], ◌∷◌, length, get_or, Option, Some, None, sym, ◌∙◌, subst, inl, inr, arith}
 use Rattle.bool_mat.specs.Matrix.{Matrix, Power}
 use Rattle.bool_mat.proofs.Rows.{same_or_not}
 use Rattle.wf_model.specs.Grammar.{Grammar, Assignment, inputs_of, outputs_of}
@@ -15,7 +15,7 @@ use Rattle.decode_model.specs.Matrices.{IsOnceRound}
 use Rattle.wf_recur.specs.Cycles.{CyclesSeen, round_at, least_of, AreCyclesOf}
 use Rattle.wf_vlabel.specs.Groups.{GroupsSeen, nth_from}
 use Rattle.wf_vlabel.specs.Tables.{Expands, AreSquareGroups}
-use Rattle.wf_vlabel.specs.RoundSteps.{IsOpenCycle, IsSquareGroup, HasRounds}
+use Rattle.wf_vlabel.specs.RoundSteps.{IsOpenCycle, HasRounds}
 use Rattle.wf_vlabel.proofs.CyclePlaces.{stands_somewhere}
 use Rattle.wf_vlabel.proofs.OpenCycles.{cycle_open, once_of}
 

@@ -1,5 +1,5 @@
 -- The matrices of many rounds for the modules of a cycle, place by place.
-use Rattle.std.proofs.Common.{◌≡◌, ◌≢◌, ℕ, ◌+◌, ◌<◌, List, length, get_or, set, Option, Some, None, refl, sym, ap, ◌∙◌, subst, inl, inr, arith}
+use Rattle.std.proofs.Common.{◌≡◌, ℕ, ◌+◌, ◌<◌, List, length, get_or, set, Option, Some, sym, ap, ◌∙◌, subst, inl, inr, arith}
 use Rattle.bool_mat.specs.Matrix.{Matrix, Adds}
 use Rattle.bool_mat.proofs.Rows.{same_or_not}
 use Rattle.wf_model.specs.Grammar.{Grammar, Assignment}
@@ -48,11 +48,11 @@ squared_more g t bodies c place size at n start none down up squares down' up' s
     let back : after g size m ≡ m = ap (λ z. after g z m) e ∙ back_to_first g t c wf lin h i in
     let there : after g place m ≡ at = place_after g t c place wf lin h i inside ∙ sym is in
     let own : (d : Assignment) → HasSteps g d bodies m → (list : _) → IsOnce g at list → IsSquareGroup g d at list squares' n =
-        λ d q list o.
-            let lists : list ≡ steps_on g size at = subst (λ z. IsOnce g z list → list ≡ steps_on g size z) (sym is) (λ w. once_told g t c place wf lin h i inside list w ∙ ap (λ z. steps_on g z (get_or round place 0)) (sym e)) o in
-            subst (λ z. IsSquareGroup g d at z squares' n) (sym lists)
-            (subst (λ z. IsSquareGroup g d z (steps_on g size z) squares' n) there
-            (made g d m back (subst (λ z. AreParts Down g d m z down) (sym e) (s.downs d q)) (subst (λ z. AreParts Up g d m z up) (sym e) (s.ups d q)))) in
+    λ d q list o.
+    let lists : list ≡ steps_on g size at = subst (λ z. IsOnce g z list → list ≡ steps_on g size z) (sym is) (λ w. once_told g t c place wf lin h i inside list w ∙ ap (λ z. steps_on g z (get_or round place 0)) (sym e)) o in
+    subst (λ z. IsSquareGroup g d at z squares' n) (sym lists)
+    (subst (λ z. IsSquareGroup g d z (steps_on g size z) squares' n) there
+    (made g d m back (subst (λ z. AreParts Down g d m z down) (sym e) (s.downs d q)) (subst (λ z. AreParts Up g d m z up) (sym e) (s.ups d q)))) in
     record {
       downs = λ d q. subst (λ z. AreParts Down g d m z down') e (keeps g d m (subst (λ z. AreParts Down g d m z down) (sym e) (s.downs d q)));
       ups = λ d q. subst (λ z. AreParts Up g d m z up') e (keeps' g d m (subst (λ z. AreParts Up g d m z up) (sym e) (s.ups d q)));

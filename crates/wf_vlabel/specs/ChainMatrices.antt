@@ -1,7 +1,7 @@
 -- The matrices of continuing steps, one after another, on the way down and on the way up.
 use Rattle.std.specs.Prelude.{◌≡◌, ℕ, suc, ◌+◌, ◌*◌, ◌<◌, ◌≤◌, List, length, Some}
 use Rattle.bool_mat.specs.Matrix.{Matrix, IsProduct, matrix_at}
-use Rattle.wf_model.specs.Grammar.{Grammar, Assignment, inputs_of, outputs_of, head_of, body_of}
+use Rattle.wf_model.specs.Grammar.{Grammar, Assignment, inputs_of, outputs_of, head_of}
 use Rattle.wf_model.specs.Reach.{Step, target_of, Into, OutOf}
 use Rattle.wf_laws.specs.Splits.{IntoAll, OutAll}
 use Rattle.label_model.specs.Continuing.{continuing, after}

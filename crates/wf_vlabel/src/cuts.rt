@@ -58,7 +58,12 @@ fn cut_cycle(g: &Grammar, cycles: &Cycles, view: &View, c: CycleNo, cuts: &mut [
 /// For each module on a cycle, how many continuing steps lead from it to the first module that is not expanded; none where the whole cycle is expanded.
 ///
 /// Cost: two looks at each module of a cycle. Fails only for want of memory.
-pub(crate) fn cuts_of(alloc: Global, g: &Grammar, cycles: &Cycles, view: &View) -> Result<Vec<Option<u32>>, AllocError>
+pub(crate) fn cuts_of(
+    alloc: Global,
+    g: &Grammar,
+    cycles: &Cycles,
+    view: &View,
+) -> Result<Vec<Option<u32>>, AllocError>
     requires linear { IsLinear g.now.core }
     requires cycles { AreCyclesOf g.now.core cycles.now }
     requires view { IsHeldFor g.now.core view.now }

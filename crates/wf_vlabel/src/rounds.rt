@@ -1,6 +1,5 @@
 // The matrices of rounds of cycles.
-ghost use Rattle.std.specs.Prelude.{◌≡◌, ◌≢◌, ◌<◌, ◌↔◌, ℕ, IsTrue, length, get_or, IfOk, OnOk, None};
-ghost use Rattle.wf_model.specs.Grammar.{Assignment};
+ghost use Rattle.std.specs.Prelude.{◌≡◌, ◌≢◌, ◌<◌, ◌↔◌, ℕ, IsTrue, length, get_or, IfOk, None};
 ghost use Rattle.wf_model.specs.Linear.{IsLinear};
 ghost use Rattle.wf_model.specs.Meaning.{pairs_of};
 ghost use Rattle.wf_model.specs.View.{expands};
@@ -9,7 +8,7 @@ ghost use Rattle.wf_recur.specs.Cycles.{AreCyclesOf, round_at, least_of};
 ghost use Rattle.wf_view.specs.Held.{IsHeldFor};
 ghost use Rattle.wf_safe.specs.Full.{AreFullRows};
 ghost use Rattle.wf_vlabel.specs.Cuts.{IsCut};
-ghost use Rattle.wf_vlabel.specs.RoundSteps.{HasRounds, IsOpenCycle, numbers_in};
+ghost use Rattle.wf_vlabel.specs.RoundSteps.{IsOpenCycle};
 ghost use Rattle.wf_vlabel.specs.Tables.{AreBodyGroups, AreSquareGroups};
 
 mod parts;
@@ -41,40 +40,9 @@ fn is_open(g: &Grammar, cycles: &Cycles, view: &View, cuts: &[Option<u32>], c: C
     view.seen(first) && cuts[first.0 as usize].is_none()
 }
 
-/// Makes the matrices of many rounds for the modules of a cycle, if it is seen and expanded whole. What other modules have they keep.
-fn add_cycle(
-    alloc: Global,
-    g: &Grammar,
-    cycles: &Cycles,
-    view: &View,
-    cuts: &[Option<u32>],
-    bodies: &Groups,
-    c: CycleNo,
-    squares: &mut MatPool,
-    first: &mut [Option<MatNo>],
-) -> Result<(), AllocError>
-    requires linear { IsLinear g.now.core }
-    requires cycles { AreCyclesOf g.now.core cycles.now }
-    requires view { IsHeldFor g.now.core view.now }
-    requires count { length cuts.now ≡ length g.now.core.modules }
-    requires cuts { (m : ℕ) → m < length g.now.core.modules → continuing g.now.core m ≢ None → IsCut g.now.core (expands view.now.core) m (get_or cuts.now m None) }
-    requires bodies { (d : Assignment) × AreBodyGroups g.now.core (expands view.now.core) d bodies.now }
-    requires cycle { c.0 < length cycles.now.rounds }
-    requires numbers { length first.old ≡ length g.now.core.modules }
-    ensures numbers { length first.new ≡ length first.old }
-    ensures kept { OnOk result ((d : Assignment) → AreBodyGroups g.now.core (expands view.now.core) d bodies.now → (m : ℕ) → HasRounds g.now.core d m squares.old (numbers_in first.old) → HasRounds g.now.core d m squares.new (numbers_in first.new)) }
-    ensures told { OnOk result ((d : Assignment) → AreBodyGroups g.now.core (expands view.now.core) d bodies.now → IsOpenCycle g.now.core view.now.core (least_of (round_at cycles.now c.0)) → (j : ℕ) → j < length (round_at cycles.now c.0) → HasRounds g.now.core d (get_or (round_at cycles.now c.0) j 0) squares.new (numbers_in first.new)) }
-{
-    let _modules = g.modules();
-    if !is_open(g, cycles, view, cuts, c) {
-        return Ok(());
-    }
-    square_cycle(alloc, g, cycles, bodies, c, squares, first)
-}
-
 /// For each module of a cycle that is seen and expanded whole, the matrices of 1, 2, 4 and so on rounds of the cycle down from the module, 24 of them, and then as many of rounds up to it. Fails only for want of memory.
 ///
-/// Room for all of them is made at once. The rounds of one cycle are products of the matrices of its first places and those of its last places. Cost: for each module three products in each direction, and 23 squares.
+/// The rounds of one cycle are products of the matrices of its first places and those of its last places. Cost: for each module three products in each direction, and 23 squares.
 pub(crate) fn square_groups(
     alloc: Global,
     g: &Grammar,
@@ -97,7 +65,9 @@ pub(crate) fn square_groups(
     let mut first = vec![in alloc; None; g.modules().len()]?;
     for c in 0..cycles.count() {
         let c = CycleNo(c);
-        add_cycle(alloc, g, cycles, view, cuts, bodies, c, &mut squares, &mut first)?;
+        if is_open(g, cycles, view, cuts, c) {
+            square_cycle(alloc, g, cycles, bodies, c, &mut squares, &mut first)?;
+        }
     }
     Ok(Groups::of_pool(squares, first))
 }

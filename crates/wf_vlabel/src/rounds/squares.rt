@@ -55,7 +55,7 @@ fn push_squares(
 
 /// Pushes the matrices of many rounds for each module of a cycle, and tells their numbers. What other modules have they keep.
 ///
-/// Cost: for each module four products and 46 squares.
+/// Cost: for each module six products and 46 squares.
 pub(crate) fn square_cycle(
     alloc: Global,
     g: &Grammar,

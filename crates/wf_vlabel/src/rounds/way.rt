@@ -7,7 +7,7 @@ use bool_mat::{MatNo, MatPool, product};
 use std::alloc::AllocError;
 
 /// Down from a module, from its inputs on, or up to it, to its outputs.
-#[derive(Clone, Copy, PartialEq, Eq)]
+#[derive(Clone, Copy)]
 pub(crate) enum Way {
     Down,
     Up,

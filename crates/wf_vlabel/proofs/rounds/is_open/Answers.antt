@@ -1,7 +1,5 @@
 use Rattle.std.proofs.Common.{◌≡◌, ◌≢◌, ◌↔◌, ◌<◌, ◌∙◌, IsTrue, None, Some, get_or, length, sym, ap, subst, arith}
-use Rattle.wf_model.specs.View.{expands}
 use Rattle.label_model.specs.Continuing.{continuing}
-use Rattle.wf_recur.specs.Cycles.{round_at, least_of}
 use Rattle.wf_vlabel.specs.RoundSteps.{IsOpenCycle}
 use Rattle.wf_vlabel.proofs.CyclePlaces.{place_below, continues_on}
 use Rattle.wf_vlabel.proofs.OpenCycles.{open_told}

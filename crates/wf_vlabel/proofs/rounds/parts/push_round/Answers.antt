@@ -1,4 +1,4 @@
-use Rattle.std.proofs.Common.{◌-◌, arith}
+use Rattle.std.proofs.Common.{arith}
 use Rattle.std.proofs.lemmas.Result.{IfOk-weaker}
 use Rattle.bool_mat.specs.Matrix.{matrix_at}
 use Rattle.wf_vlabel.proofs.Parts.{parts_fit, parts_round}

@@ -1,10 +1,7 @@
-use Rattle.std.proofs.Common.{◌≡◌, ◌<◌, sym, ap, ◌∙◌, subst, arith, length}
-use Rattle.bool_mat.specs.Matrix.{Matrix, matrix_at}
-use Rattle.wf_model.specs.Grammar.{Grammar, Assignment}
+use Rattle.std.proofs.Common.{sym, ◌∙◌, subst, arith}
 use Rattle.label_model.specs.Continuing.{after}
 use Rattle.wf_vlabel.specs.declared.rounds.way.Way.TheVariants.{Down, Up}
-use Rattle.wf_vlabel.specs.ChainMatrices.{AreParts, IsChain}
-use Rattle.wf_vlabel.proofs.OnceRound.{once_told}
+use Rattle.wf_vlabel.specs.ChainMatrices.{IsChain}
 use Rattle.wf_vlabel.proofs.Squares.{square_down, square_up, squares_made, copied, round_back}
 use Rattle.wf_vlabel.proofs.rounds.squares.push_squares.Goals as goal
 

@@ -1,4 +1,4 @@
-use Rattle.std.proofs.Common.{◌≡◌, ◌<◌, ◌+◌, sym, ap, ◌∙◌, subst, refl, arith, length, Some, length-set}
+use Rattle.std.proofs.Common.{◌<◌, ◌+◌, sym, ap, ◌∙◌, subst, refl, arith, length, Some, length-set}
 use Rattle.std.proofs.lemmas.List.{map-set, length-map}
 use Rattle.std.specs.Prelude.{option_map}
 use Rattle.label_model.specs.Continuing.{after}
@@ -21,8 +21,7 @@ push_squares-requires-clause-parts c =
     let m = least_of (round_at t c.args.c.0) in
     let d = c.requires.steps.0 in
     let v = c.loop-place.invariant.1 in
-    let e = sym c.length-size.ensures in
-    (
+    let e = sym c.length-size.ensures in (
       g,
       d,
       m,
@@ -42,10 +41,9 @@ loop-place-preserved c =
     let t = c.args.cycles.now in
     let v = c.loop-place.invariant in
     let l = length-map c.loop-place.first (option_map (λ (n : MatNo). n.0)) in
-    let inside : c.at.result.0 < length (numbers_in c.loop-place.first) = omega (arith, bounds-first-at c, l) in
-    (
+    let inside : c.at.result.0 < length (numbers_in c.loop-place.first) = omega (arith, bounds-first-at c, l) in (
       length-set c.loop-place.first c.at.result.0 _ ∙ v.0,
       subst (λ z. SquaredSoFar g t c.args.bodies.now c.args.c.0 (c.loop-place.place + 1) c.args.squares.now (numbers_in c.args.first.now) c.push_squares.new.down c.push_squares.new.up c.push_squares.new.squares z)
-      (sym (map-set (option_map (λ (n : MatNo). n.0)) c.loop-place.first c.at.result.0 (Some c.in_ok-n.n)))
-      (squared_more g t c.args.bodies.now c.args.c.0 c.loop-place.place c.length-size.result c.at.result.0 c.in_ok-n.n.0 _ _ _ _ _ _ _ _ (numbers_in c.loop-place.first) c.modules-modules.ensures.formed c.requires.linear c.requires.cycles c.requires.cycle c.length-size.ensures c.loop-place-test.true c.at.ensures inside c.in_ok-n.ensures.down c.in_ok-n.ensures.up c.in_ok-n.ensures.added c.in_ok-n.ensures.squares v.1),
+          (sym (map-set (option_map (λ (n : MatNo). n.0)) c.loop-place.first c.at.result.0 (Some c.in_ok-n.n)))
+          (squared_more g t c.args.bodies.now c.args.c.0 c.loop-place.place c.length-size.result c.at.result.0 c.in_ok-n.n.0 _ _ _ _ _ _ _ _ (numbers_in c.loop-place.first) c.modules-modules.ensures.formed c.requires.linear c.requires.cycles c.requires.cycle c.length-size.ensures c.loop-place-test.true c.at.ensures inside c.in_ok-n.ensures.down c.in_ok-n.ensures.up c.in_ok-n.ensures.added c.in_ok-n.ensures.squares v.1),
     )

@@ -1,11 +1,11 @@
-use Rattle.std.proofs.Common.{◌≡◌, ◌<◌, ◌+◌, ◌*◌, ◌∙◌, None, Some, length, get_or, sym, ap, subst, arith}
-use Rattle.label_model.specs.Continuing.{continuing, after}
+use Rattle.std.proofs.Common.{◌∙◌, arith}
+use Rattle.label_model.specs.Continuing.{after}
 use Rattle.label_model.proofs.ContinuingSteps.{continuing_is}
 use Rattle.wf_recur.specs.Cycles.{round_at, least_of, step_of}
 use Rattle.bool_mat.specs.Matrix.{matrix_at}
 use Rattle.std.proofs.lemmas.Result.{IfOk-weaker}
 use Rattle.wf_vlabel.proofs.Chains.{step_inside, chain_one}
-use Rattle.wf_vlabel.specs.Tables.{of_body, begins}
+use Rattle.wf_vlabel.specs.Tables.{of_body}
 use Rattle.wf_vlabel.proofs.rounds.steps.push_step.Goals as goal
 
 pub place_of-at-requires-clause-production : goal.place_of-at-requires-clause-production

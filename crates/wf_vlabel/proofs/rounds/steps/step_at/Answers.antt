@@ -1,7 +1,7 @@
-use Rattle.std.proofs.Common.{◌≡◌, ◌<◌, ◌∙◌, None, Some, length, get_or, sym, ap, subst, arith}
-use Rattle.label_model.specs.Continuing.{continuing, after}
+use Rattle.std.proofs.Common.{◌≡◌, ◌∙◌, Some, sym, ap, arith}
+use Rattle.label_model.specs.Continuing.{continuing}
 use Rattle.label_model.proofs.ContinuingSteps.{continuing_is}
-use Rattle.wf_recur.specs.Cycles.{on_of, round_at, least_of}
+use Rattle.wf_recur.specs.Cycles.{on_of}
 use Rattle.wf_vlabel.proofs.CyclePlaces.{place_after, place_below, continues_on, step_told}
 use Rattle.wf_vlabel.proofs.rounds.steps.step_at.Goals as goal
 use Rattle.wf_vlabel.proofs.rounds.steps.step_at.Goals.{After-at}
