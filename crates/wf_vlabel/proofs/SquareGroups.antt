@@ -1,5 +1,6 @@
 -- The matrices of many rounds of all cycles that are open.
 use Rattle.std.proofs.Common.{◌≡◌, ◌≢◌, ℕ, ◌+◌, ◌^◌, ◌<◌, List, [], ◌∷◌, length, get_or, Option, Some, None, sym, ◌∙◌, subst, inl, inr, arith}
+use Rattle.std.proofs.lemmas.Option.{none-some}
 use Rattle.bool_mat.specs.Matrix.{Matrix, Power}
 use Rattle.bool_mat.proofs.Rows.{same_or_not}
 use Rattle.wf_model.specs.Grammar.{Grammar, Assignment, inputs_of, outputs_of}
@@ -40,10 +41,7 @@ round_starts g wf lin u m [] o = let s = o.some in absurd (omega arith)
 round_starts g wf lin u m (s ∷ round) o =
     let c = o.goes_round.continuing.0 in
     let e : continuing g m ≡ Some s = (continuing_law g wf lin m s).1 c in
-    (subst (λ k. k < length g.modules) c.0.head (wf.heads s.production c.0.in_range), λ none. some_not_none s (sym e ∙ none))
-  where
-    some_not_none : {A : Type 0} (x : A) → Some x ≡ None → ⊥
-    some_not_none x e = absurd (cc)
+    (subst (λ k. k < length g.modules) c.0.head (wf.heads s.production c.0.in_range), λ none. none-some s (sym none ∙ e))
 
 -- it has the matrices
 rounds_found : (g : Grammar) (t : CyclesSeen) (v : View) (d : Assignment) (pool : List Matrix) (first : List (Option ℕ)) → IsWellFormed g → IsLinear g → AreCyclesOf g t → HaveRoundsBelow g t v d (length t.rounds) pool first →

@@ -1,9 +1,9 @@
 use Rattle.std.proofs.Common.{◌≡◌, ◌+◌, ◌<◌, ◌∙◌, ℕ, None, length, get_or, sym, ap, subst, arith, rules}
-use Rattle.std.proofs.lemmas.List.{length-replicate}
+use Rattle.std.proofs.lemmas.List.{length-replicate, with_items_is}
 use Rattle.wf_model.specs.View.{expands}
 use Rattle.wf_recur.specs.Cycles.{round_at}
 use Rattle.wf_vlabel.specs.Cuts.{IsCut}
-use Rattle.wf_vlabel.proofs.Cutting.{cuts_more, cuts_all, front_whole}
+use Rattle.wf_vlabel.proofs.Cutting.{cuts_more, cuts_all}
 use Rattle.wf_vlabel.proofs.cuts.cuts_of.Goals as goal
 
 pub loop-c-init : goal.loop-c-init
@@ -21,7 +21,7 @@ loop-c-preserved c =
     let v = c.loop-c.invariant in
     let kept = subst (λ old. (m : ℕ) → IsCut g (expands c.args.view.now.core) m (get_or old m None) → IsCut g (expands c.args.view.now.core) m (get_or c.cut_cycle.new.cuts m None)) e c.cut_cycle.ensures.kept in
     subst (λ cuts. (length cuts ≡ length g.modules) × ((k j : ℕ) → k < c.loop-c.c + 1 → j < length (round_at t k) → IsCut g (expands c.args.view.now.core) (get_or (round_at t k) j 0) (get_or cuts (get_or (round_at t k) j 0) None)))
-    (sym (front_whole c.loop-c.cuts.len c.cut_cycle.new.cuts _ (k ∙ n))) (
+    (sym (with_items_is c.loop-c.cuts c.cut_cycle.new.cuts (k ∙ n))) (
       k ∙ ap length e ∙ v.0,
       cuts_more g t (expands c.args.view.now.core) c.loop-c.c c.loop-c.cuts.items c.cut_cycle.new.cuts kept c.cut_cycle.ensures.told v.1,
     )

@@ -1,11 +1,10 @@
 use Rattle.std.proofs.Common.{◌≡◌, ◌+◌, ◌∙◌, ℕ, List, Option, Vec, Global, length, sym, ap, subst, arith, rules, true≢false}
-use Rattle.std.proofs.lemmas.List.{length-replicate}
+use Rattle.std.proofs.lemmas.List.{length-replicate, with_items_is}
 use Rattle.bool_mat.specs.declared.pool.MatNo.{MatNo}
 use Rattle.bool_mat.specs.Matrix.{Matrix}
 use Rattle.wf_model.specs.Meaning.{pairs_of}
 use Rattle.wf_recur.specs.Cycles.{round_at, least_of}
 use Rattle.wf_vlabel.specs.RoundSteps.{HasRounds, numbers_in}
-use Rattle.wf_vlabel.proofs.Cutting.{front_whole}
 use Rattle.wf_vlabel.proofs.OpenCycles.{steps_held}
 use Rattle.wf_vlabel.proofs.SquareGroups.{HaveRoundsBelow, rounds_more, squares_told}
 use Rattle.wf_vlabel.proofs.rounds.square_groups.Goals as goal
@@ -33,7 +32,7 @@ loop-c-preserved c =
           let steps = steps_held g v d c.args.bodies.now (least_of (round_at t c.loop-c.c)) c.requires.bodies (c.is_open.ensures.0 w.if-is_open.true) in
           let count = w.in_ok-square_cycle.ensures.count in
           let later = w.square_cycle.new.first in
-          let is = ap (λ (z : Vec (Option MatNo) Global). z.items) w.first-is ∙ front_whole c.loop-c.first.len later _ (count ∙ w.deref_mut.ensures.len) in
+          let is = ap (λ (z : Vec (Option MatNo) Global). z.items) w.first-is ∙ with_items_is c.loop-c.first later (count ∙ w.deref_mut.ensures.len) in
           let kept = subst (λ old. (m : ℕ) → HasRounds g d m c.loop-c.squares (numbers_in old) → HasRounds g d m w.square_cycle.new.squares (numbers_in later)) w.deref_mut.ensures.value (w.in_ok-square_cycle.ensures.kept d steps) in
           subst (λ first. (length first ≡ length g.modules) × HaveRoundsBelow g t v d (c.loop-c.c + 1) c.if-is_open.squares (numbers_in first)) (sym is) (
             count ∙ ap length w.deref_mut.ensures.value ∙ so_far.0,
