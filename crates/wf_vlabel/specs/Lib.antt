@@ -4,3 +4,5 @@ pub mod Tables
 pub mod Growing
 pub mod Seen
 pub mod Held
+pub mod RoundSteps
+pub mod ChainMatrices
