@@ -1,6 +1,6 @@
-mod OpenSteps
-mod OnRounds
-mod LabelKept
+pub mod OpenSteps
+pub mod OnRounds
+pub mod LabelKept
 pub mod Grouping
 pub mod SameSeen
 pub mod RowsGroups

@@ -22,7 +22,7 @@ use bool_mat::{MatNo, MatPool};
 use std::alloc::{AllocError, Global};
 use wf_recur::{CycleNo, Cycles};
 use wf_safe::FullDeps;
-use wf_spec::Grammar;
+use wf_spec::{Grammar, ModNo};
 use wf_view::View;
 
 /// Whether a cycle is seen and expanded whole.
@@ -40,9 +40,36 @@ fn is_open(g: &Grammar, cycles: &Cycles, view: &View, cuts: &[Option<u32>], c: C
     view.seen(first) && cuts[first.0 as usize].is_none()
 }
 
+/// Makes room for the matrices of the cycles that are seen and expanded whole: 50 for each module, half of them with its inputs as rows and half with its outputs.
+fn reserve_room(
+    g: &Grammar,
+    cycles: &Cycles,
+    view: &View,
+    cuts: &[Option<u32>],
+    pool: &mut MatPool,
+) -> Result<(), AllocError>
+    requires cycles { AreCyclesOf g.now.core cycles.now }
+    requires view { IsHeldFor g.now.core view.now }
+    requires count { length cuts.now ≡ length g.now.core.modules }
+    ensures { pool.new ≡ pool.old }
+{
+    let mut matrices = 0usize;
+    let mut rows = 0usize;
+    for k in 0..g.modules().len() {
+        let m = ModNo(k as u16);
+        if cycles.on(m).is_some() && view.seen(m) && cuts[k].is_none() {
+            let ports = &g.modules()[k];
+            let sides = ports.inputs().len().saturating_add(ports.outputs().len());
+            matrices = matrices.saturating_add(50);
+            rows = rows.saturating_add(sides.saturating_mul(25));
+        }
+    }
+    pool.reserve(matrices, rows)
+}
+
 /// For each module of a cycle that is seen and expanded whole, the matrices of 1, 2, 4 and so on rounds of the cycle down from the module, 24 of them, and then as many of rounds up to it. Fails only for want of memory.
 ///
-/// The rounds of one cycle are products of the matrices of its first places and those of its last places. Cost: for each module three products in each direction, and 23 squares.
+/// Room for all of them is made at once. The rounds of one cycle are products of the matrices of its first places and those of its last places. Cost: for each module three products in each direction, and 23 squares.
 pub(crate) fn square_groups(
     alloc: Global,
     g: &Grammar,
@@ -62,6 +89,7 @@ pub(crate) fn square_groups(
     ensures { IfOk result (λ t. AreSquareGroups g.now.core (expands view.now.core) (pairs_of full.now) t) }
 {
     let mut squares = MatPool::new(alloc);
+    reserve_room(g, cycles, view, cuts, &mut squares)?;
     let mut first = vec![in alloc; None; g.modules().len()]?;
     for c in 0..cycles.count() {
         let c = CycleNo(c);
