@@ -94,8 +94,10 @@ impl MatPool {
         self.shapes.len()
     }
 
-    // Makes room for so many matrices more, with so many rows in all.
-    pub(crate) fn reserve(&mut self, matrices: usize, rows: usize) -> Result<(), AllocError>
+    /// Makes room for so many matrices more, with so many rows in all: until there are as many, pushing them asks for no memory. If memory is refused, the pool is as before.
+    ///
+    /// Time linear in what the pool holds, since this may move.
+    pub fn reserve(&mut self, matrices: usize, rows: usize) -> Result<(), AllocError>
         ensures { self.new ≡ self.old }
     {
         self.shapes.reserve(matrices)?;

@@ -1,0 +1,61 @@
+-- Groups of the first keys, as their pool grows.
+use Rattle.std.proofs.Common.{◌≡◌, ℕ, ◌+◌, ◌<◌, ◌≤◌, List, [], ◌∷◌, ◌++◌, map, length, get_or, Option, None, option_map, refl, sym, ap, ◌∙◌, subst, inl, inr, arith, length-append}
+use Rattle.std.proofs.lemmas.List.{map-append, get_or_append_left}
+use Rattle.std.proofs.Math.Seq.{get_or-append_seam}
+use Rattle.bool_mat.specs.Matrix.{Matrix, Adds, matrix_at}
+use Rattle.bool_mat.specs.declared.pool.MatNo.{MatNo}
+use Rattle.bool_mat.proofs.Pools.{adds_none}
+use Rattle.bool_mat.proofs.Rows.{same_or_not}
+use Rattle.wf_vlabel.specs.Groups.{GroupsSeen}
+use Rattle.wf_vlabel.specs.Growing.{Grows, AreGroupsOf}
+
+pub grows_not : (pool : List Matrix) → Grows pool pool
+grows_not pool = (0, adds_none pool)
+
+pub grows_by : (old new : List Matrix) (n count : ℕ) → Adds old new n count → Grows old new
+grows_by old new n count a = (count, subst (λ k. Adds old new k count) a.number a)
+
+pub room_kept : (old new : List Matrix) → Grows old new → length old ≤ length new
+room_kept old new w = let t = w.1.total in omega arith
+
+pub matrix_kept : (old new : List Matrix) (k : ℕ) → Grows old new → k < length old → matrix_at new k ≡ matrix_at old k
+matrix_kept old new k w h = w.1.kept k h
+
+-- the numbers of first matrices, as they are held
+abbrev pub numbers_in : List (Option MatNo) → List (Option ℕ)
+numbers_in = map (option_map (λ (n : MatNo). n.0))
+
+-- what holds of a group stays so in a pool that grows
+abbrev pub Stays : (ℕ → List Matrix → Option ℕ → Type 0) → Type 0
+Stays P = (key : ℕ) (old new : List Matrix) (n : Option ℕ) → Grows old new → P key old n → P key new n
+
+pub groups_none : (P : ℕ → List Matrix → Option ℕ → Type 0) (pool : List Matrix) → AreGroupsOf P 0 pool []
+groups_none P pool = record { one_each = refl; each = λ key h. absurd (omega arith) }
+
+groups_more : (P : ℕ → List Matrix → Option ℕ → Type 0) (count : ℕ) (old new : List Matrix) (first : List (Option ℕ)) (n : Option ℕ) → Stays P → AreGroupsOf P count old first → Grows old new → P count new n → AreGroupsOf P (count + 1) new (first ++ n ∷ [])
+groups_more P count old new first n stays h grows last =
+    let l = h.one_each in
+    let a = length-append first (n ∷ []) in
+    record {
+      one_each = omega arith;
+      each = λ key b. elim (same_or_not key count) [
+        | inl e ↦ subst (λ k. P k new (get_or (first ++ n ∷ []) k None)) (sym e)
+            (subst (λ k. P count new (get_or (first ++ n ∷ []) k None)) l (subst (P count new) (sym (get_or-append_seam first n [] None)) last))
+        | inr e ↦ let there : key < count = omega arith in
+            let there' : key < length first = omega arith in
+            subst (P key new) (sym (get_or_append_left first (n ∷ []) None key there')) (stays key old new (get_or first key None) grows (h.each key there))
+      ];
+    }
+
+-- one group more
+pub groups_push : (P : ℕ → List Matrix → Option ℕ → Type 0) (count : ℕ) (old new : List Matrix) (first longer : List (Option MatNo)) (n : Option MatNo) → Stays P → AreGroupsOf P count old (numbers_in first) → Grows old new → P count new (option_map (λ (k : MatNo). k.0) n) → longer ≡ first ++ n ∷ [] →
+    AreGroupsOf P (count + 1) new (numbers_in longer)
+groups_push P count old new first longer n stays h grows last e =
+    subst (AreGroupsOf P (count + 1) new) (sym (ap numbers_in e ∙ map-append (option_map (λ (k : MatNo). k.0)) first (n ∷ [])))
+    (groups_more P count old new (numbers_in first) (option_map (λ (k : MatNo). k.0) n) stays h grows last)
+
+-- the groups of all keys, as the table of them has them
+pub groups_end : (P : ℕ → List Matrix → Option ℕ → Type 0) (n last count : ℕ) (pool : List Matrix) (first : List (Option ℕ)) (t : GroupsSeen) → n ≤ last → last ≤ n → last ≡ count → t.pool ≡ pool → t.first ≡ first → AreGroupsOf P n pool first → AreGroupsOf P count t.pool t.first
+groups_end P n last count pool first t l m c e f groups =
+    let same : n ≡ count = omega arith in
+    subst (λ k. AreGroupsOf P k t.pool t.first) same (subst (λ (ms : List Matrix). AreGroupsOf P n ms t.first) (sym e) (subst (AreGroupsOf P n pool) (sym f) groups))

@@ -1,0 +1,11 @@
+use Rattle.std.proofs.Common.{◌≡◌, ◌+◌, arith}
+use Rattle.wf_body.specs.Matrices.{step_of}
+use Rattle.wf_vlabel.specs.Tables.{begins}
+use Rattle.wf_vlabel.proofs.OpenSteps.{reads}
+use Rattle.wf_vlabel.proofs.view_label.ViewLabel.between.Goals as goal
+
+pub matrix-requires : goal.matrix-requires
+matrix-requires c =
+    let low = c.requires.to in
+    let e : c.begins.result + 2 + c.args.to.0 ≡ begins c.args.self.now.grammar (step_of c.args.s) + (2 + c.args.to.0) = omega (arith, c.begins.ensures.begins) in
+    reads _ c.args.self.now _ (step_of c.args.s) (2 + c.args.to.0) _ c.self.invariant c.self.view_is c.requires.open (omega arith) e

@@ -1,0 +1,78 @@
+// Where chains leave what a view expands.
+ghost use Rattle.std.specs.Prelude.{◌≡◌, ◌≢◌, ◌<◌, ℕ, length, get_or, IfOk, IfSome, None};
+ghost use Rattle.wf_model.specs.Linear.{IsLinear};
+ghost use Rattle.wf_model.specs.View.{expands};
+ghost use Rattle.label_model.specs.Continuing.{continuing};
+ghost use Rattle.wf_recur.specs.Cycles.{AreCyclesOf, round_at};
+ghost use Rattle.wf_view.specs.Held.{IsHeldFor};
+ghost use Rattle.wf_vlabel.specs.Cuts.{IsCut, cut_before};
+
+use std::alloc::{AllocError, Global};
+use wf_recur::{CycleNo, Cycles};
+use wf_spec::{Grammar, ModNo};
+use wf_view::View;
+
+/// How many continuing steps lead from a module to the first that is not expanded, from what this is for the next module.
+fn one_before(view: &View, m: ModNo, next: Option<u32>) -> Option<u32>
+    requires few { IfSome next (λ n. n < 4096) }
+    ensures { result ≡ cut_before (expands view.now.core m.0) next }
+{
+    if !view.expanded(m) {
+        return Some(0);
+    }
+    match next {
+        Some(n) => Some(n + 1),
+        None => None,
+    }
+}
+
+/// Tells where chains from the modules of a cycle leave what the view expands. What was right of other modules stays right.
+///
+/// It goes backwards twice: once to find what holds at place 0, and once more to tell it at each place.
+fn cut_cycle(g: &Grammar, cycles: &Cycles, view: &View, c: CycleNo, cuts: &mut [Option<u32>])
+    requires linear { IsLinear g.now.core }
+    requires cycles { AreCyclesOf g.now.core cycles.now }
+    requires cycle { c.0 < length cycles.now.rounds }
+    requires count { length cuts.old ≡ length g.now.core.modules }
+    ensures count { length cuts.new ≡ length cuts.old }
+    ensures kept { (m : ℕ) → IsCut g.now.core (expands view.now.core) m (get_or cuts.old m None) → IsCut g.now.core (expands view.now.core) m (get_or cuts.new m None) }
+    ensures told { (j : ℕ) → j < length (round_at cycles.now c.0) → IsCut g.now.core (expands view.now.core) (get_or (round_at cycles.now c.0) j 0) (get_or cuts.new (get_or (round_at cycles.now c.0) j 0) None) }
+{
+    let _modules = g.modules();
+    let length = cycles.length(c);
+    let mut next = None;
+    let mut ahead = length;
+    while ahead > 0 {
+        ahead -= 1;
+        next = one_before(view, cycles.at(c, ahead), next);
+    }
+    let mut place = length;
+    while place > 0 {
+        place -= 1;
+        let m = cycles.at(c, place);
+        next = one_before(view, m, next);
+        cuts[m.0 as usize] = next;
+    }
+}
+
+/// For each module on a cycle, how many continuing steps lead from it to the first module that is not expanded; none where the whole cycle is expanded.
+///
+/// Cost: two looks at each module of a cycle. Fails only for want of memory.
+pub(crate) fn cuts_of(
+    alloc: Global,
+    g: &Grammar,
+    cycles: &Cycles,
+    view: &View,
+) -> Result<Vec<Option<u32>>, AllocError>
+    requires linear { IsLinear g.now.core }
+    requires cycles { AreCyclesOf g.now.core cycles.now }
+    requires view { IsHeldFor g.now.core view.now }
+    ensures count { IfOk result (λ cuts. length cuts.items ≡ length g.now.core.modules) }
+    ensures cuts { IfOk result (λ cuts. (m : ℕ) → m < length g.now.core.modules → continuing g.now.core m ≢ None → IsCut g.now.core (expands view.now.core) m (get_or cuts.items m None)) }
+{
+    let mut cuts = vec![in alloc; None; g.modules().len()]?;
+    for c in 0..cycles.count() {
+        cut_cycle(g, cycles, view, CycleNo(c), &mut cuts);
+    }
+    Ok(cuts)
+}

@@ -1,0 +1,86 @@
+// The matrices of many rounds of a cycle.
+ghost use Rattle.std.specs.Prelude.{◌≡◌, ℕ, ◌<◌, length, get_or, IfOk, OnOk};
+ghost use Rattle.bool_mat.specs.Matrix.{Adds, matrix_at};
+ghost use Rattle.wf_model.specs.Grammar.{Grammar as GrammarSeen, Assignment};
+ghost use Rattle.wf_model.specs.Linear.{IsLinear};
+ghost use Rattle.label_model.specs.Continuing.{after};
+ghost use Rattle.wf_recur.specs.Cycles.{AreCyclesOf, round_at, least_of};
+ghost use Rattle.wf_vlabel.specs.declared.rounds.way.Way.TheVariants.{Down, Up};
+ghost use Rattle.wf_vlabel.specs.ChainMatrices.{AreParts, HasSteps};
+ghost use Rattle.wf_vlabel.specs.RoundSteps.{HasRounds, IsSquareGroup, numbers_in, steps_on};
+
+use crate::groups::Groups;
+use crate::rounds::parts::{parts_of, push_round};
+use crate::rounds::way::Way;
+use bool_mat::{MatNo, MatPool, power_table};
+use std::alloc::{AllocError, Global};
+use wf_recur::{CycleNo, Cycles};
+use wf_spec::Grammar;
+
+/// Pushes a matrix of another pool.
+fn push_copy(from: &MatPool, m: MatNo, to: &mut MatPool) -> Result<MatNo, AllocError>
+    requires { m.0 < length from.now }
+    ensures added { IfOk result (λ n. Adds to.old to.new n.0 1) }
+    ensures same { IfOk result (λ n. matrix_at to.new n.0 ≡ matrix_at from.now m.0) }
+{
+    let m = from.get(m);
+    to.push(m.rows, m.columns)
+}
+
+/// Pushes the matrices of one round down from a place of a cycle and of one round up to it, and then those of 1, 2, 4 and so on rounds down, 24 of them, and as many up. It gives the number of the first of these.
+///
+/// Cost: two products at most, and 46 squares.
+fn push_squares(
+    down: &mut MatPool,
+    up: &mut MatPool,
+    size: u16,
+    place: u16,
+    squares: &mut MatPool,
+) -> Result<MatNo, AllocError>
+    requires place { place < size }
+    requires parts { (g : GrammarSeen) × (d : Assignment) × (first : ℕ) × (after g size first ≡ first) × AreParts Down g d first size down.old × AreParts Up g d first size up.old }
+    ensures down { IfOk result (λ n. (g : GrammarSeen) (d : Assignment) (first : ℕ) → AreParts Down g d first size down.old → AreParts Down g d first size down.new) }
+    ensures up { IfOk result (λ n. (g : GrammarSeen) (d : Assignment) (first : ℕ) → AreParts Up g d first size up.old → AreParts Up g d first size up.new) }
+    ensures added { IfOk result (λ n. Adds squares.old squares.new (length squares.old) 50) }
+    ensures squares { IfOk result (λ n. (g : GrammarSeen) (d : Assignment) (first : ℕ) → after g size first ≡ first → AreParts Down g d first size down.old → AreParts Up g d first size up.old → IsSquareGroup g d (after g place first) (steps_on g size (after g place first)) squares.new n.0) }
+{
+    let round = push_round(down, Way::Down, size, place)?;
+    let into = push_copy(down, round, squares)?;
+    let turned = push_round(up, Way::Up, size, place)?;
+    let out = push_copy(up, turned, squares)?;
+    let first = power_table(squares, into, 24)?;
+    power_table(squares, out, 24)?;
+    Ok(first)
+}
+
+/// Pushes the matrices of many rounds for each module of a cycle, and tells their numbers. What other modules have they keep.
+///
+/// Cost: for each module six products and 46 squares.
+pub(crate) fn square_cycle(
+    alloc: Global,
+    g: &Grammar,
+    cycles: &Cycles,
+    bodies: &Groups,
+    c: CycleNo,
+    squares: &mut MatPool,
+    first: &mut [Option<MatNo>],
+) -> Result<(), AllocError>
+    requires linear { IsLinear g.now.core }
+    requires cycles { AreCyclesOf g.now.core cycles.now }
+    requires cycle { c.0 < length cycles.now.rounds }
+    requires steps { (d : Assignment) × HasSteps g.now.core d bodies.now (least_of (round_at cycles.now c.0)) }
+    requires count { length first.old ≡ length g.now.core.modules }
+    ensures count { length first.new ≡ length first.old }
+    ensures kept { OnOk result ((d : Assignment) → HasSteps g.now.core d bodies.now (least_of (round_at cycles.now c.0)) → (m : ℕ) → HasRounds g.now.core d m squares.old (numbers_in first.old) → HasRounds g.now.core d m squares.new (numbers_in first.new)) }
+    ensures told { OnOk result ((d : Assignment) → HasSteps g.now.core d bodies.now (least_of (round_at cycles.now c.0)) → (j : ℕ) → j < length (round_at cycles.now c.0) → HasRounds g.now.core d (get_or (round_at cycles.now c.0) j 0) squares.new (numbers_in first.new)) }
+{
+    let _modules = g.modules();
+    let size = cycles.length(c);
+    let mut down = parts_of(alloc, g, cycles, bodies, c, Way::Down)?;
+    let mut up = parts_of(alloc, g, cycles, bodies, c, Way::Up)?;
+    for place in 0..size {
+        let n = push_squares(&mut down, &mut up, size, place, squares)?;
+        first[cycles.at(c, place).0 as usize] = Some(n);
+    }
+    Ok(())
+}

@@ -1,0 +1,191 @@
+// Labels of views.
+ghost use Rattle.std.specs.Prelude.{◌≡◌, ◌<◌, length, get_or, IfOk};
+ghost use Rattle.wf_model.specs.Grammar.{body_of};
+ghost use Rattle.wf_model.specs.Linear.{IsLinear};
+ghost use Rattle.wf_model.specs.Proper.{IsProper};
+ghost use Rattle.wf_recur.specs.Cycles.{AreCyclesOf, round_at};
+ghost use Rattle.wf_body.specs.Matrices.{step_of};
+ghost use Rattle.wf_view.specs.Held.{IsHeldFor};
+ghost use Rattle.wf_safe.specs.Full.{AreFullRows};
+ghost use Rattle.wf_vlabel.specs.Cuts.{IsCut};
+ghost use Rattle.wf_vlabel.specs.Tables.{begins};
+ghost use Rattle.wf_vlabel.specs.Seen.{IsLabelOfView, IsViewLabel, Opens, OpensRound, Sees, is_expanded, matrices_of};
+
+use crate::bodies::body_groups;
+use crate::cuts::cuts_of;
+use crate::full::full_groups;
+use crate::groups::Groups;
+use crate::rounds::square_groups;
+use bool_mat::MatRef;
+use std::alloc::{AllocError, Global};
+use std::marker::Model;
+use wf_recur::{CycleNo, Cycles};
+use wf_safe::FullDeps;
+use wf_spec::{Grammar, ModNo, PosNo, Step};
+use wf_view::View;
+
+/// The label of a safe view: for each seen module the pairs that every expansion of it joins, for each body that the view shows the matrices of its paths, and for each cycle that the view shows whole those of many rounds.
+///
+/// It rests on the grammar and the view alone, and on no run. Below the limits of a grammar its matrices take less than 100 MB.
+///
+/// Source of the idea: Bao, Davidson, Milo, "Labeling Workflow Views with Fine-Grained Dependencies", VLDB 2012 (view labels).
+#[derive(Drop)]
+pub struct ViewLabel<'a> {
+    g: &'a Grammar,
+    cycles: &'a Cycles,
+    expanded: Vec<bool>,
+    full: Groups,
+    bodies: Groups,
+    squares: Groups,
+    cuts: Vec<Option<u32>>,
+}
+
+impl<'a> Model for ViewLabel<'a> {
+    ghost use Rattle.wf_vlabel.specs.Seen.{ViewLabelSeen};
+    ghost use Rattle.wf_vlabel.specs.Held.{IsKept};
+
+    ghost Value = { ViewLabelSeen };
+
+    ghost view = { λ l. record { grammar = l.g.now.core; cycles = l.cycles.now; flags = l.expanded.items; full = l.full; bodies = l.bodies; squares = l.squares } };
+
+    ghost invariant = { λ l. IsKept (record { grammar = l.g.now.core; cycles = l.cycles.now; flags = l.expanded.items; full = l.full; bodies = l.bodies; squares = l.squares }) l.cuts.items };
+}
+
+impl<'a> ViewLabel<'a> {
+    /// The label of a view of a proper, strictly linear grammar, from the cycles of the grammar and the full assignment of the view. Fails only for want of memory.
+    ///
+    /// Cost: for each position of each body that the view shows three passes through the body, and for each module of a cycle 52 products of matrices at most.
+    pub fn build(
+        alloc: Global,
+        g: &'a Grammar,
+        cycles: &'a Cycles,
+        view: &View,
+        full: &FullDeps,
+    ) -> Result<ViewLabel<'a>, AllocError>
+        requires proper { IsProper g.now.core }
+        requires linear { IsLinear g.now.core }
+        requires cycles { AreCyclesOf g.now.core cycles.now }
+        requires view { IsHeldFor g.now.core view.now }
+        requires full { AreFullRows g.now.core view.now.core full.now }
+        ensures label { IfOk result (λ l. IsLabelOfView l view.now.core) }
+        ensures grammar { IfOk result (λ l. l.grammar ≡ g.now.core) }
+        ensures cycles { IfOk result (λ l. l.cycles ≡ cycles.now) }
+    {
+        let _modules = g.modules();
+        let expanded = Vec::from_slice(alloc, view.marks())?;
+        let pairs = full_groups(alloc, g, full)?;
+        let bodies = body_groups(alloc, g, view, full)?;
+        let cuts = cuts_of(alloc, g, cycles, view)?;
+        let squares = square_groups(alloc, g, cycles, view, full, cuts.as_slice(), &bodies)?;
+        Ok(ViewLabel {
+            g,
+            cycles,
+            expanded,
+            full: pairs,
+            bodies,
+            squares,
+            cuts,
+        })
+    }
+
+    /// The grammar that `build` was given.
+    pub fn grammar(&self) -> &'a Grammar
+        ensures grammar { result.now.core ≡ self.now.grammar }
+        ensures label { IsViewLabel self.now }
+    {
+        self.g
+    }
+
+    /// The cycles that `build` was given.
+    pub fn cycles(&self) -> &'a Cycles
+        ensures cycles { result.now ≡ self.now.cycles }
+        ensures label { IsViewLabel self.now }
+    {
+        self.cycles
+    }
+
+    /// Whether the view expands a module.
+    pub fn expanded(&self, m: ModNo) -> bool
+        ensures { result ≡ is_expanded self.now m.0 }
+    {
+        let m = m.0 as usize;
+        m < self.expanded.len() && self.expanded[m]
+    }
+
+    /// The pairs that every expansion of a seen module joins: input `i` and output `o` for row `i` and column `o`.
+    pub fn full(&self, m: ModNo) -> MatRef<'_>
+        requires { Sees self.now m.0 }
+        ensures { result ≡ (matrices_of self.now).full m.0 }
+    {
+        self.full.matrix(m.0 as usize, 0)
+    }
+
+    /// The matrix from the head of a production to a position of it, for a head that is seen and expanded: it joins input `i` of the head to input `j` of the position exactly if a path in the body does.
+    pub fn into_position(&self, s: Step) -> MatRef<'_>
+        requires { Opens self.now (step_of s) }
+        ensures { result ≡ (matrices_of self.now).into (step_of s) }
+    {
+        self.bodies.matrix(s.production.0 as usize, self.begins(s))
+    }
+
+    /// The matrix from a position to the head of its production, for a head that is seen and expanded: it joins output `j` of the position to output `o` of the head exactly if a path in the body does.
+    pub fn out_of_position(&self, s: Step) -> MatRef<'_>
+        requires { Opens self.now (step_of s) }
+        ensures { result ≡ (matrices_of self.now).out_of (step_of s) }
+    {
+        self.bodies
+            .matrix(s.production.0 as usize, self.begins(s) + 1)
+    }
+
+    /// The matrix from a position to another of the same body, for a head that is seen and expanded: it joins output `j` of the first to input `i` of the second exactly if a path in the body does.
+    pub fn between(&self, s: Step, to: PosNo) -> MatRef<'_>
+        requires open { Opens self.now (step_of s) }
+        requires to { to.0 < length (body_of self.now.grammar s.production.0) }
+        ensures { result ≡ (matrices_of self.now).between (step_of s) to.0 }
+    {
+        let at = self.begins(s) + 2 + to.0 as usize;
+        self.bodies.matrix(s.production.0 as usize, at)
+    }
+
+    /// How many continuing steps lead from the module at a place of a cycle to the first module that the view does not expand; `None` where the view expands the whole cycle.
+    pub fn cut(&self, c: CycleNo, place: u16) -> Option<u32>
+        requires cycle { c.0 < length self.now.cycles.rounds }
+        requires place { place < length (round_at self.now.cycles c.0) }
+        ensures { IsCut self.now.grammar (is_expanded self.now) (get_or (round_at self.now.cycles c.0) place 0) result }
+    {
+        self.cuts[self.cycles.at(c, place).0 as usize]
+    }
+
+    /// The matrix of `2^k` rounds down from the module at a place of a cycle that is seen and expanded whole, from its inputs to its inputs. `k` is below 24.
+    pub fn square_in(&self, c: CycleNo, place: u16, k: u8) -> MatRef<'_>
+        requires cycle { c.0 < length self.now.cycles.rounds }
+        requires place { place < length (round_at self.now.cycles c.0) }
+        requires round { OpensRound self.now (get_or (round_at self.now.cycles c.0) place 0) }
+        requires k { k < 24 }
+        ensures { result ≡ (matrices_of self.now).square_in (get_or (round_at self.now.cycles c.0) place 0) k }
+    {
+        self.squares
+            .matrix(self.cycles.at(c, place).0 as usize, k as usize)
+    }
+
+    /// The matrix of `2^k` rounds up to the module at a place of a cycle that is seen and expanded whole, from its outputs to its outputs. `k` is below 24.
+    pub fn square_out(&self, c: CycleNo, place: u16, k: u8) -> MatRef<'_>
+        requires cycle { c.0 < length self.now.cycles.rounds }
+        requires place { place < length (round_at self.now.cycles c.0) }
+        requires round { OpensRound self.now (get_or (round_at self.now.cycles c.0) place 0) }
+        requires k { k < 24 }
+        ensures { result ≡ (matrices_of self.now).square_out (get_or (round_at self.now.cycles c.0) place 0) k }
+    {
+        self.squares
+            .matrix(self.cycles.at(c, place).0 as usize, 24 + k as usize)
+    }
+
+    // Where the matrices of a position begin within those of its body: of 64 positions at most, with 66 matrices each.
+    fn begins(&self, s: Step) -> usize
+        requires { Opens self.now (step_of s) }
+        ensures begins { result ≡ begins self.now.grammar (step_of s) }
+        ensures few { result < 4224 }
+    {
+        s.position.0 as usize * (self.g.production(s.production).positions().len() + 2)
+    }
+}
