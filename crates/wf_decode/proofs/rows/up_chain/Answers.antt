@@ -1,0 +1,31 @@
+use Rattle.std.proofs.Common.{◌≡◌, ◌∙◌, ◌/◌, ◌%◌, Bool, true, false, length, not, sym, ap}
+use Rattle.wf_recur.specs.Cycles.{CyclesSeen, round_at}
+use Rattle.wf_decode.specs.HeldLegs.{is_whole}
+use Rattle.wf_decode.proofs.WholeCycles.{whole_told}
+use Rattle.wf_decode.proofs.OpenLegs.{opens_part, opens_round, opens_rest}
+use Rattle.wf_decode.proofs.ChainRows.{part_up, whole_up}
+use Rattle.wf_decode.proofs.rows.up_chain.Given.{Over}
+use Rattle.wf_decode.proofs.rows.up_chain.Goals as goal
+use Rattle.wf_decode.proofs.rows.up_chain.Goals.{After-is_some}
+
+-- what the test for a cut tells
+told : (g : Over) (c : After-is_some g) → (b : Bool) → c.is_some.result ≡ b → is_whole c.args.vl.now c.args.cycle.0 ≡ not b
+told g c b e = whole_told c.args.vl.now c.cycles-cycles.ensures.label c.args.cycle.0 c.args.place c.requires.0.0 c.requires.0.1 c.cut.result c.cut.ensures b (sym c.is_some.ensures ∙ e)
+
+pub continuing_up-requires-clause-open : goal.continuing_up-requires-clause-open
+continuing_up-requires-clause-open g c = opens_part c.args.vl.now c.args.cycle c.args.place c.args.count c.requires (told g (goal.at.continuing_up-requires-clause-open g c).After-is_some true c.if-is_some.true)
+
+pub returns-then-is_some : goal.returns-then-is_some
+returns-then-is_some g c = part_up c.args.vl.now c.args.cycle c.args.place c.args.count c.args.row c.continuing_up.result c.args.steps.now c.continuing_up.new.steps (told g (goal.at.returns-then-is_some g c).After-is_some true c.if-is_some.true) c.continuing_up.ensures
+
+pub continuing_up-row-requires-clause-open : goal.continuing_up-row-requires-clause-open
+continuing_up-row-requires-clause-open g c = opens_rest c.args.vl.now c.args.cycle c.args.place c.args.count c.requires (told g (goal.at.continuing_up-row-requires-clause-open g c).After-is_some false c.if-is_some.false) _ (ap (λ n. c.args.count % n) (c.length-length.ensures ∙ ap (λ (t : CyclesSeen). length (round_at t c.args.cycle.0)) c.cycles-cycles.ensures.cycles))
+
+pub rounds_up-requires-clause-round : goal.rounds_up-requires-clause-round
+rounds_up-requires-clause-round g c = opens_round c.args.vl.now c.args.cycle c.args.place c.args.count c.requires (told g (goal.at.rounds_up-requires-clause-round g c).After-is_some false c.if-is_some.false)
+
+pub returns : goal.returns
+returns g c =
+    let size = (c.length-length.ensures ∙ ap (λ (t : CyclesSeen). length (round_at t c.args.cycle.0)) c.cycles-cycles.ensures.cycles) in
+    whole_up c.args.vl.now c.args.cycle c.args.place c.args.count c.args.row (c.args.count / c.length-length.result) (c.args.count % c.length-length.result) c.continuing_up-row.result c.rounds_up.result c.args.steps.now c.continuing_up-row.new.steps c.rounds_up.new.steps
+    c.requires.0.1 (ap (λ n. c.args.count / n) size) (ap (λ n. c.args.count % n) size) (told g (goal.at.returns g c).After-is_some false c.if-is_some.false) c.continuing_up-row.ensures c.rounds_up.ensures

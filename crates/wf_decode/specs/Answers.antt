@@ -1,0 +1,34 @@
+-- The answer of two ports, from their addresses.
+use Rattle.std.specs.Prelude.{◌≡◌, ℕ, ◌<◌, List}
+use Rattle.wf_model.specs.Grammar.{Grammar, Assignment, inputs_of, outputs_of}
+use Rattle.wf_model.specs.View.{View}
+use Rattle.wf_model.specs.Reach.{Step, Reaches}
+use Rattle.wf_model.specs.Routes.{Agree}
+use Rattle.label_model.specs.Labels.{Label}
+use Rattle.verdict_model.specs.declared.verdict.Verdict.{Verdict}
+use Rattle.verdict_model.specs.declared.verdict.Verdict.TheVariants.{Hidden1, Hidden2, Clash, Yes, No}
+use Rattle.verdict_model.specs.Verdicts.{IsVerdict, NeverDepends}
+use Rattle.wf_vlabel.specs.Seen.{ViewLabelSeen}
+use Rattle.wf_decode.specs.declared.leg.Leg.{Leg as LegHeld}
+use Rattle.wf_decode.specs.Ends.{AreLegsAt}
+use Rattle.wf_decode.specs.Parting.{AreClashingSteps}
+
+-- the legs x and y are those of the addresses a and b, of an instance of the module m that has input i, and of an instance of the module n that has output o
+pub record AreEnds (l : ViewLabelSeen) (u : View) (a b : List Step) (x : List LegHeld) (m i : ℕ) (y : List LegHeld) (n o : ℕ) : Type 0 where
+  pub first : AreLegsAt l u a m x
+  pub input : i < inputs_of l.grammar m
+  pub second : AreLegsAt l u b n y
+  pub output : o < outputs_of l.grammar n
+
+-- the addresses clash, or they agree and the pairs of the modules tell whether output o of the second is reached from input i of the first
+abbrev pub IsAnswer : Grammar → Assignment → List Step → List Step → ℕ → ℕ → Verdict → Type 0
+IsAnswer g d a b i o Hidden1 = ⊥
+IsAnswer g d a b i o Hidden2 = ⊥
+IsAnswer g d a b i o Clash = AreClashingSteps a b
+IsAnswer g d a b i o Yes = Agree a b × Reaches g d g.start a b i o
+IsAnswer g d a b i o No = Agree a b × (Reaches g d g.start a b i o → ⊥)
+
+-- the verdict on two labels; where it is no, the second item never depends on the first
+pub record IsDecision (g : Grammar) (u : View) (x y : Label) (v : Verdict) : Type 0 where
+  pub verdict : IsVerdict g u x y v
+  pub never : v ≡ No → NeverDepends g u x y

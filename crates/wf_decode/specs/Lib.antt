@@ -1,0 +1,9 @@
+pub mod HeldLegs
+pub mod LegsAfter
+pub mod OpenLegs
+pub mod Reading
+pub mod Marking
+pub mod Parting
+pub mod Ends
+pub mod Products
+pub mod Answers

@@ -1,0 +1,128 @@
+// The decision from two labels and the label of a view.
+ghost use Rattle.std.specs.Prelude.{◌≡◌, ◌+◌, ◌≤◌, ℕ, length};
+ghost use Rattle.wf_model.specs.View.{View};
+ghost use Rattle.label_model.specs.Labels.{Label, IsLabel, label_bits};
+ghost use Rattle.wf_recur.specs.Cycles.{round_at};
+ghost use Rattle.wf_label.specs.Values.{AreLabelBits};
+ghost use Rattle.decode_model.specs.Counts.{most_products};
+ghost use Rattle.verdict_model.specs.Verdicts.{IsVerdict, NeverDepends};
+ghost use Rattle.verdict_model.specs.declared.verdict.Verdict.TheVariants.{No};
+ghost use Rattle.wf_vlabel.specs.Seen.{IsLabelOfView};
+ghost use Rattle.wf_decode.specs.Answers.{IsDecision};
+ghost use Rattle.wf_decode.specs.Ends.{IsConsumingEnd, IsProducingEnd};
+ghost use Rattle.wf_decode.specs.Reading.{most_legs};
+
+mod answers;
+mod ends;
+mod products;
+
+use crate::decision::answers::answer;
+use crate::decision::ends::{End, consuming_end, producing_end};
+use crate::leg::Leg;
+use crate::scratch::Scratch;
+use bool_mat::Steps;
+use std::sync::ledger::Ledger;
+use verdict_model::Verdict;
+use wf_label::LabelRef;
+use wf_vlabel::ViewLabel;
+
+/// Whether the item of the second label depends on the item of the first, from the two labels and the label of a view alone, however a run that has both is finished.
+///
+/// It takes no memory and knows no run. Each of the two may be of any label of the grammar, of one run or not. `Hidden1` comes before `Hidden2`, and both before `Clash`.
+///
+/// Where no cycle is longer than `l`, it makes at most `2(h + 1) + 2q(24 + l)` row products, for `h` strong components of composite modules and `q` cycles, however long the run was.
+///
+/// Source of the idea: Bao, Davidson, Milo, "Labeling Workflow Views with Fine-Grained Dependencies", VLDB 2012 (decoding of two data labels by a view label).
+pub fn decide<L: Ledger>(
+    vl: &ViewLabel<'_>,
+    scratch: &mut Scratch,
+    first: LabelRef<'_>,
+    second: LabelRef<'_>,
+    steps: &mut Steps<L>,
+) -> Verdict
+    requires first { AreLabelBits vl.now.grammar first }
+    requires second { AreLabelBits vl.now.grammar second }
+    requires room { most_legs vl.now.grammar ≤ scratch.old }
+    ensures verdict { (u : View) (x y : Label) → IsLabelOfView vl.now u → IsLabel vl.now.grammar x → IsLabel vl.now.grammar y → first.entry ≡ label_bits x → second.entry ≡ label_bits y → IsVerdict vl.now.grammar u x y result }
+    ensures no { (u : View) (x y : Label) → IsLabelOfView vl.now u → IsLabel vl.now.grammar x → IsLabel vl.now.grammar y → first.entry ≡ label_bits x → second.entry ≡ label_bits y → result ≡ No → NeverDepends vl.now.grammar u x y }
+    ensures room { scratch.new ≡ scratch.old }
+    ensures cost { (l : ℕ) → ((k : ℕ) → length (round_at vl.now.cycles k) ≤ l) → steps.new ≤ steps.old + most_products vl.now.grammar l }
+{
+    decide_in(
+        vl,
+        &first,
+        scratch.first.as_mut_slice(),
+        &second,
+        scratch.second.as_mut_slice(),
+        steps,
+    )
+}
+
+/// The same, where the legs of the labels are held in these places.
+fn decide_in<L: Ledger>(
+    vl: &ViewLabel<'_>,
+    first: &LabelRef<'_>,
+    first_legs: &mut [Leg],
+    second: &LabelRef<'_>,
+    second_legs: &mut [Leg],
+    steps: &mut Steps<L>,
+) -> Verdict
+    requires first { AreLabelBits vl.now.grammar first.now }
+    requires first_room { most_legs vl.now.grammar ≤ length first_legs.old }
+    requires second { AreLabelBits vl.now.grammar second.now }
+    requires second_room { most_legs vl.now.grammar ≤ length second_legs.old }
+    ensures decision { (u : View) (x y : Label) → IsLabelOfView vl.now u → IsLabel vl.now.grammar x → IsLabel vl.now.grammar y → first.now ≡ label_bits x → second.now ≡ label_bits y → IsDecision vl.now.grammar u x y result }
+    ensures cost { (l : ℕ) → ((k : ℕ) → length (round_at vl.now.cycles k) ≤ l) → steps.new ≤ steps.old + most_products vl.now.grammar l }
+    ensures first_length { length first_legs.new ≡ length first_legs.old }
+    ensures second_length { length second_legs.new ≡ length second_legs.old }
+{
+    // The view label is one of a view.
+    let _label = vl.cycles();
+    let from = consuming_end(vl, first, first_legs);
+    if let End::Hidden = from {
+        return Verdict::Hidden1;
+    }
+    let to = producing_end(vl, second, second_legs);
+    decide_ends(vl, from, first_legs, to, second_legs, steps)
+}
+
+/// The verdict on two labels, from where the first item is consumed and where the second is produced.
+fn decide_ends<L: Ledger>(
+    vl: &ViewLabel<'_>,
+    from: End,
+    first_legs: &mut [Leg],
+    to: End,
+    second_legs: &mut [Leg],
+    steps: &mut Steps<L>,
+) -> Verdict
+    requires ends { (u : View) × (x : Label) × (y : Label) × IsLabelOfView vl.now u × IsConsumingEnd vl.now u x from first_legs.old × IsProducingEnd vl.now u y to second_legs.old }
+    ensures decision { (u : View) (x y : Label) → IsLabelOfView vl.now u → IsLabel vl.now.grammar x → IsLabel vl.now.grammar y → IsConsumingEnd vl.now u x from first_legs.old → IsProducingEnd vl.now u y to second_legs.old → IsDecision vl.now.grammar u x y result }
+    ensures cost { (l : ℕ) → ((k : ℕ) → length (round_at vl.now.cycles k) ≤ l) → steps.new ≤ steps.old + most_products vl.now.grammar l }
+    ensures first_length { length first_legs.new ≡ length first_legs.old }
+    ensures second_length { length second_legs.new ≡ length second_legs.old }
+{
+    // The view label is one of a view.
+    let _label = vl.cycles();
+    match from {
+        End::Hidden => Verdict::Hidden1,
+        End::Nowhere => match to {
+            End::Hidden => Verdict::Hidden2,
+            _ => Verdict::No,
+        },
+        End::At { legs: n, at: input } => match to {
+            End::Hidden => Verdict::Hidden2,
+            End::Nowhere => Verdict::No,
+            End::At {
+                legs: k,
+                at: output,
+            } => answer(
+                vl,
+                &mut first_legs[..n],
+                input,
+                &mut second_legs[..k],
+                output,
+                steps,
+            ),
+        },
+    }
+}

@@ -1,0 +1,67 @@
+// The answer of two ports.
+ghost use Rattle.std.specs.Prelude.{◌≡◌, ◌+◌, ◌≤◌, ℕ, List, cond, length};
+ghost use Rattle.wf_model.specs.View.{View};
+ghost use Rattle.wf_model.specs.Reach.{Step as StepSeen};
+ghost use Rattle.wf_recur.specs.Cycles.{round_at};
+ghost use Rattle.decode_model.specs.Counts.{most_products};
+ghost use Rattle.verdict_model.specs.declared.verdict.Verdict.TheVariants.{Yes, No};
+ghost use Rattle.wf_vlabel.specs.Seen.{IsLabelOfView, full_in, matrices_of};
+ghost use Rattle.wf_decode.specs.Answers.{AreEnds, IsAnswer};
+
+use crate::decision::ends::ModulePort;
+use crate::decision::products::{above, across, below};
+use crate::leg::Leg;
+use crate::parting::{Parted, part};
+use bool_mat::Steps;
+use std::sync::ledger::Ledger;
+use verdict_model::Verdict;
+use wf_vlabel::ViewLabel;
+
+fn verdict_by(bit: bool) -> Verdict
+    ensures { result ≡ cond bit Yes No }
+{
+    if bit { Verdict::Yes } else { Verdict::No }
+}
+
+/// Whether an output of the second instance is reached from an input of the first, from the legs of their addresses. What is left of the legs after the two part stands in their places.
+pub(crate) fn answer<L: Ledger>(
+    vl: &ViewLabel<'_>,
+    first: &mut [Leg],
+    from: ModulePort,
+    second: &mut [Leg],
+    to: ModulePort,
+    steps: &mut Steps<L>,
+) -> Verdict
+    requires ends { (u : View) × (a : List StepSeen) × (b : List StepSeen) × IsLabelOfView vl.now u × AreEnds vl.now u a b first.old from.module.0 from.port.0 second.old to.module.0 to.port.0 }
+    ensures answer { (u : View) (a b : List StepSeen) → IsLabelOfView vl.now u → AreEnds vl.now u a b first.old from.module.0 from.port.0 second.old to.module.0 to.port.0 → IsAnswer vl.now.grammar (full_in (matrices_of vl.now)) a b from.port.0 to.port.0 result }
+    ensures cost { (l : ℕ) → ((k : ℕ) → length (round_at vl.now.cycles k) ≤ l) → steps.new ≤ steps.old + most_products vl.now.grammar l }
+    ensures first_length { length first.new ≡ length first.old }
+    ensures second_length { length second.new ≡ length second.old }
+{
+    // The view label is one of a view.
+    let _label = vl.cycles();
+    match part(vl, first, second) {
+        Parted::Clash => Verdict::Clash,
+        Parted::Across {
+            first: first_step,
+            first_from,
+            second: second_step,
+            second_from,
+        } => verdict_by(across(
+            vl,
+            first_step,
+            &first[first_from..],
+            from,
+            second_step,
+            &second[second_from..],
+            to,
+            steps,
+        )),
+        Parted::Down { second_from } => {
+            verdict_by(below(vl, from.port, &second[second_from..], to, steps))
+        }
+        Parted::Up { first_from } => {
+            verdict_by(above(vl, &first[first_from..], from, to.port, steps))
+        }
+    }
+}

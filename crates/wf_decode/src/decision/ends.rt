@@ -1,0 +1,131 @@
+// The ends of the item of a label.
+ghost use Rattle.std.specs.Prelude.{◌≡◌, ◌+◌, ◌∷◌, ◌++◌, ◌<◌, ◌≤◌, [], length, take};
+ghost use Rattle.wf_model.specs.Grammar.{body_of};
+ghost use Rattle.wf_model.specs.Reach.{target_of};
+ghost use Rattle.wf_model.specs.View.{View};
+ghost use Rattle.label_model.specs.Labels.{Label, IsLabel, label_bits};
+ghost use Rattle.wf_label.specs.Values.{AreLabelBits};
+ghost use Rattle.wf_recur.specs.Cycles.{step_of};
+ghost use Rattle.wf_vlabel.specs.Seen.{IsLabelOfView};
+ghost use Rattle.wf_decode.specs.declared.leg.Leg.TheVariants.{Into};
+ghost use Rattle.wf_decode.specs.Ends.{IsConsumingEnd, IsProducingEnd};
+ghost use Rattle.wf_decode.specs.Reading.{most_legs};
+
+use crate::leg::Leg;
+use crate::read::{Told, read_label};
+use wf_label::LabelRef;
+use wf_spec::{ModNo, PortNo, Step};
+use wf_vlabel::ViewLabel;
+
+/// A port of a module, on the side that its use tells.
+#[derive(Clone, Copy)]
+pub(crate) struct ModulePort {
+    pub(crate) module: ModNo,
+    pub(crate) port: PortNo,
+}
+
+/// Where the item of a label is consumed, or where it is produced.
+#[derive(Clone, Copy)]
+pub(crate) enum End {
+    /// The label is hidden.
+    Hidden,
+    /// The item is an output of the root and is not consumed, or an input of the root and is not produced.
+    Nowhere,
+    /// At a port of an instance. Of the address of the instance so many legs are held.
+    At { legs: usize, at: ModulePort },
+}
+
+/// Holds a step after the first `n` legs, and gives the module where it leads.
+fn hold_step(vl: &ViewLabel<'_>, legs: &mut [Leg], n: usize, step: Step) -> ModNo
+    requires production { step.production.0 < length vl.now.grammar.productions }
+    requires position { step.position.0 < length (body_of vl.now.grammar step.production.0) }
+    requires room { n < length legs.old }
+    ensures module { result.0 ≡ target_of vl.now.grammar (step_of step) }
+    ensures held { take (n + 1) legs.new ≡ take n legs.old ++ Into step ∷ [] }
+    ensures length { length legs.new ≡ length legs.old }
+{
+    legs[n] = Leg::Into { step };
+    vl.grammar().production(step.production).positions()[step.position.0 as usize].module
+}
+
+/// Reads a label and holds the legs to the instance where its item is consumed.
+///
+/// Cost: linear in the bits of the label.
+pub(crate) fn consuming_end(vl: &ViewLabel<'_>, label: &LabelRef<'_>, legs: &mut [Leg]) -> End
+    requires label { AreLabelBits vl.now.grammar label.now }
+    requires room { most_legs vl.now.grammar ≤ length legs.old }
+    ensures end { (u : View) (x : Label) → IsLabelOfView vl.now u → IsLabel vl.now.grammar x → label.now ≡ label_bits x → IsConsumingEnd vl.now u x result legs.new }
+    ensures length { length legs.new ≡ length legs.old }
+{
+    match read_label(vl, label, legs) {
+        Told::Hidden => End::Hidden,
+        Told::Input { port } => End::At {
+            legs: 0,
+            at: ModulePort {
+                module: vl.grammar().start(),
+                port,
+            },
+        },
+        Told::Output { port: _port } => End::Nowhere,
+        Told::Edge {
+            legs: n,
+            production,
+            edge,
+        } => {
+            let to = vl.grammar().production(production).edges()[edge.0 as usize].to;
+            let step = Step {
+                production,
+                position: to.pos,
+            };
+            let module = hold_step(vl, legs, n, step);
+            End::At {
+                legs: n + 1,
+                at: ModulePort {
+                    module,
+                    port: to.port,
+                },
+            }
+        }
+    }
+}
+
+/// Reads a label and holds the legs to the instance where its item is produced.
+///
+/// Cost: linear in the bits of the label.
+pub(crate) fn producing_end(vl: &ViewLabel<'_>, label: &LabelRef<'_>, legs: &mut [Leg]) -> End
+    requires label { AreLabelBits vl.now.grammar label.now }
+    requires room { most_legs vl.now.grammar ≤ length legs.old }
+    ensures end { (u : View) (x : Label) → IsLabelOfView vl.now u → IsLabel vl.now.grammar x → label.now ≡ label_bits x → IsProducingEnd vl.now u x result legs.new }
+    ensures length { length legs.new ≡ length legs.old }
+{
+    match read_label(vl, label, legs) {
+        Told::Hidden => End::Hidden,
+        Told::Input { port: _port } => End::Nowhere,
+        Told::Output { port } => End::At {
+            legs: 0,
+            at: ModulePort {
+                module: vl.grammar().start(),
+                port,
+            },
+        },
+        Told::Edge {
+            legs: n,
+            production,
+            edge,
+        } => {
+            let from = vl.grammar().production(production).edges()[edge.0 as usize].from;
+            let step = Step {
+                production,
+                position: from.pos,
+            };
+            let module = hold_step(vl, legs, n, step);
+            End::At {
+                legs: n + 1,
+                at: ModulePort {
+                    module,
+                    port: from.port,
+                },
+            }
+        }
+    }
+}
