@@ -78,8 +78,9 @@ pub(crate) fn consuming_end(vl: &ViewLabel<'_>, label: &LabelRef<'_>, legs: &mut
                 position: to.pos,
             };
             let module = hold_step(vl, legs, n, step);
+            let consumed = n + 1;
             End::At {
-                legs: n + 1,
+                legs: consumed,
                 at: ModulePort {
                     module,
                     port: to.port,
@@ -119,8 +120,9 @@ pub(crate) fn producing_end(vl: &ViewLabel<'_>, label: &LabelRef<'_>, legs: &mut
                 position: from.pos,
             };
             let module = hold_step(vl, legs, n, step);
+            let produced = n + 1;
             End::At {
-                legs: n + 1,
+                legs: produced,
                 at: ModulePort {
                     module,
                     port: from.port,

@@ -25,9 +25,9 @@ bounds-edges-edge c =
     let a = goal.at.bounds-edges-edge c in
     edge_below c.args.vl.now c.grammar-in-Edge.ensures.label.of_view.0 c.requires.label.0 c.grammar-in-Edge.ensures.label c.in-Edge.n c.in-Edge.production.0 c.in-Edge.edge.0 c.read_label.new.legs (told a.After-grammar-in-Edge) c.edges.result.now (edges_are a.After-edges)
 
-pub overflow_add-result : goal.overflow_add-result
-overflow_add-result c =
-    let a = goal.at.overflow_add-result c in
+pub overflow_add-consumed : goal.overflow_add-consumed
+overflow_add-consumed c =
+    let a = goal.at.overflow_add-consumed c in
     let room = (told a.After-grammar-in-Edge).room in
     omega (arith, c.read_label.auto.legs)
 
