@@ -5,6 +5,7 @@ mod answer;
 mod check;
 mod check_text;
 mod command;
+mod deciding;
 mod ending;
 mod events;
 mod file;

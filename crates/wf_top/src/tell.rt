@@ -33,6 +33,8 @@ fn word_of(place: Place) -> &'static [u8]
         Place::View => b"view",
         Place::Events => b"events",
         Place::Queries => b"queries",
+        Place::FirstLabel => b"label 1",
+        Place::SecondLabel => b"label 2",
     }
 }
 
