@@ -1,7 +1,7 @@
 // The words of a command.
 ghost use Rattle.std.specs.Prelude.{◌≡◌, ◌∷◌, [], Some, None, map, MatchOption, is_ok};
 ghost use Rattle.wf_top.specs.Words.{command_of};
-ghost use Rattle.hex.specs.Hex.{decode_of};
+ghost use Rattle.hex.specs.Hex.{decode_of, is_hex_digit};
 ghost use Rattle.wf_top.specs.Called.{meant, HasDigits};
 
 /// The names of the files that `trace` reads, in this order.
@@ -48,11 +48,19 @@ fn with_two_files<'w>(command: &'w str, spec: &'w str, second: &'w str) -> Optio
     }
 }
 
-/// Whether a word is hexadecimal digits of either case, two for each byte.
+/// Whether a byte is a hexadecimal digit of either case.
+fn is_digit(byte: u8) -> bool
+    ensures { result ≡ is_hex_digit byte }
+{
+    byte.is_ascii_hexdigit()
+}
+
+/// Whether a word is hexadecimal digits of either case, two for each byte. Takes no memory.
 fn is_hex(word: &str) -> bool
     ensures { result ≡ is_ok (decode_of word.now) }
 {
-    false
+    let digits = word.as_bytes();
+    digits.len() % 2 == 0 && digits.iter().all(|&digit| is_digit(digit))
 }
 
 /// The command of two files and two words more, if the word is one.

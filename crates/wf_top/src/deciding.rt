@@ -70,8 +70,8 @@ fn verdict_of(alloc: Global, v: &Viewed, first: LabelRef<'_>, second: LabelRef<'
     requires linear { IsLinear v.now.grammar.core }
     requires cycles { AreCyclesOf v.now.grammar.core v.now.cycles }
     requires viewed { IsViewedBy v.now.grammar.core v.now.view v.now.full }
-    requires first { AreLabelBits v.now.grammar.core first.entry }
-    requires second { AreLabelBits v.now.grammar.core second.entry }
+    requires first { AreLabelBits v.now.grammar.core first }
+    requires second { AreLabelBits v.now.grammar.core second }
     ensures verdict { IfOk result (λ r. (x y : Label) → IsLabel v.now.grammar.core x → IsLabel v.now.grammar.core y → first.entry ≡ label_bits x → second.entry ≡ label_bits y → IsVerdict v.now.grammar.core v.now.view.core x y r) }
     ensures memory { IfErr result (λ e. end_of e ≡ NoMemory) }
 {
