@@ -27,7 +27,7 @@ pub mod IngestStages
 pub mod GrownLines
 pub mod Digits
 pub mod OneDecision
-pub mod Deciding
+pub mod TwoLabels
 pub mod OutcomeLaws
 pub mod IngestGrows
 pub mod Writing

@@ -1,5 +1,6 @@
 // The words of a command.
-ghost use Rattle.std.specs.Prelude.{◌≡◌, ◌∷◌, [], Some, None, map, MatchOption, is_ok};
+ghost use Rattle.std.specs.Prelude.{◌≡◌, ◌↔◌, ◌∷◌, [], Some, None, map, MatchOption, is_ok, IsTrue};
+ghost use Rattle.std.specs.List.{AllPass};
 ghost use Rattle.wf_top.specs.Words.{command_of};
 ghost use Rattle.hex.specs.Hex.{decode_of, is_hex_digit};
 ghost use Rattle.wf_top.specs.Called.{meant, HasDigits};
@@ -55,12 +56,19 @@ fn is_digit(byte: u8) -> bool
     byte.is_ascii_hexdigit()
 }
 
+/// Whether bytes are hexadecimal digits of either case.
+fn are_digits(bytes: &[u8]) -> bool
+    ensures { IsTrue result ↔ AllPass is_hex_digit bytes.now }
+{
+    bytes.iter().all(|&byte| is_digit(byte))
+}
+
 /// Whether a word is hexadecimal digits of either case, two for each byte. Takes no memory.
 fn is_hex(word: &str) -> bool
     ensures { result ≡ is_ok (decode_of word.now) }
 {
     let digits = word.as_bytes();
-    digits.len() % 2 == 0 && digits.iter().all(|&digit| is_digit(digit))
+    digits.len() % 2 == 0 && are_digits(digits)
 }
 
 /// The command of two files and two words more, if the word is one.

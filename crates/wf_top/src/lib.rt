@@ -33,6 +33,8 @@ pub use program::run;
 pub use status::Status;
 
 #[cfg(test)]
+mod decide_tests;
+#[cfg(test)]
 mod event_tests;
 #[cfg(test)]
 mod ingest_tests;
