@@ -1,12 +1,12 @@
 -- Words that are hexadecimal digits, two for each byte.
-use Rattle.std.proofs.Common.{◌≡◌, ℕ, Bool, true, false, List, Option, Some, None, length, refl, sym, ap, ◌∙◌, true≢false}
+use Rattle.std.proofs.Common.{◌≡◌, ℕ, Bool, true, false, List, Some, None, length, refl, sym, ap, true≢false}
 use Rattle.std.specs.Prelude.{◌↔◌, ◌%◌, Result, Ok, Err, is_ok, IsTrue}
 use Rattle.std.specs.List.{AllPass}
 use Rattle.hex.specs.declared.error.FromHexError.{FromHexError}
 use Rattle.hex.specs.Hex.{decode_of, is_hex_digit}
 use Rattle.hex.proofs.HexLemmas.{decode_of-odd, decode_of-ok, decode_of-digits}
-use Rattle.wf_top.specs.Called.{bytes_in, AreDigits}
-use Rattle.wf_top.specs.Words.{Command, Decide, decide_of}
+use Rattle.wf_top.specs.Called.{bytes_in}
+use Rattle.wf_top.specs.Words.{Decide, decide_of}
 
 -- an odd number of bytes is none
 pub odd_is_none : (word : List ℕ) → length word % 2 ≡ 1 → is_ok (decode_of word) ≡ false

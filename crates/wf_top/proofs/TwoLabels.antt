@@ -1,5 +1,5 @@
 -- How `decide` ends at two labels.
-use Rattle.std.proofs.Common.{◌≡◌, ℕ, Bool, List, [], ◌++◌, Option, None, refl, sym, ◌∙◌, subst}
+use Rattle.std.proofs.Common.{◌≡◌, ℕ, Bool, List, ◌++◌, Option, None, refl, sym, subst}
 use Rattle.std.specs.Prelude.{codes, take}
 use Rattle.bit_pack.specs.Bits.{Holds}
 use Rattle.wf_model.specs.Grammar.{Grammar}

@@ -1,4 +1,4 @@
-use Rattle.std.proofs.Common.{◌≡◌, length, ap, ◌∙◌, subst, arith}
+use Rattle.std.proofs.Common.{◌≡◌, length, ap, ◌∙◌, arith}
 use Rattle.std.specs.Prelude.{◌%◌, is_ok}
 use Rattle.hex.specs.Hex.{decode_of}
 use Rattle.wf_top.proofs.Digits.{even_is}

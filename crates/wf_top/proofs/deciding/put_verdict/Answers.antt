@@ -34,7 +34,7 @@ returns-in-Ok-clause-ends g c =
     let h = c.args.v.now.grammar.core in
     let l = label_told h c.deref.result.now (bytes_in (decode_of c.args.words.now.first.now)) c.in_ok-first.first (c.deref.ensures.value ∙ c.in_ok-first_bytes.ensures.bytes) c.in_ok-first.ensures.label in
     let k = label_told h c.deref-2.result.now (bytes_in (decode_of c.args.words.now.second.now)) c.in_ok-second.second (c.deref-2.ensures.value ∙ c.in_ok-second_bytes.ensures.bytes) c.in_ok-second.ensures.label in
-    line_put h c.args.v.now.view.core _ _ _ _ l.0 k.0 l.1 k.1 c.in_ok-verdict.verdict (c.in_ok-verdict.ensures.verdict l.0 k.0 l.1.0 k.1.0 l.2 k.2) c.verdict_line.result.now c.verdict_line.ensures (c.in-Ok.ensures.ok refl)
+    line_put h c.args.v.now.view.core _ _ _ _ l.0 k.0 l.1 k.1 c.in_ok-verdict.verdict (c.in_ok-verdict.ensures.verdict l.0 k.0 l.1.0 k.1.0 l.2 k.2) c.verdict_line.result.now c.verdict_line.ensures c.in-Ok.ensures.ok
 
 pub returns-clause-ends : goal.returns-clause-ends
 returns-clause-ends g c =
