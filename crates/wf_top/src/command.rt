@@ -23,7 +23,7 @@ pub struct DecideWords<'w> {
     pub second: &'w str,
 }
 
-/// A command, with the names of the files that it reads.
+/// A command, with the names of the files that it reads and the digits of the labels that it is given.
 #[derive(Clone, Copy)]
 pub enum Command<'w> {
     Check { spec: &'w str },

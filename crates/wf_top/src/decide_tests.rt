@@ -70,11 +70,7 @@ const ROWS: [(&str, Status, &str); 24] = [
         Refused,
         "refused: label 2: Malformed\n",
     ),
-    (
-        "decide spec view bO b0",
-        Usage,
-        USAGE,
-    ),
+    ("decide spec view bO b0", Usage, USAGE),
 ];
 
 fn shelf(alloc: Global) -> Result<MemShelf, AllocError> {
@@ -116,6 +112,6 @@ fn no_bytes_are_no_label(rt: HostRuntime) -> Result<(), Fail> {
     let got = run(alloc, &words, &mut shelf, &mut out, &mut err);
     assert_eq!(rt; got, Refused);
     assert_eq!(rt; out.bytes().len(), 0);
-    assert_eq!(rt; err.bytes(), b"refused: label 2: Malformed\n");
+    assert_eq!(rt; err.bytes(), b"refused: label 2: Malformed\n".as_slice());
     Ok(())
 }

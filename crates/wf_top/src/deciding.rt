@@ -66,7 +66,12 @@ fn label_of<'a>(v: &Viewed, place: Place, bytes: &'a [u8]) -> Result<LabelRef<'a
 }
 
 /// The verdict on two labels, from the label of the view alone. Fails only for want of memory.
-fn verdict_of(alloc: Global, v: &Viewed, first: LabelRef<'_>, second: LabelRef<'_>) -> Result<Verdict, Ending>
+fn verdict_of(
+    alloc: Global,
+    v: &Viewed,
+    first: LabelRef<'_>,
+    second: LabelRef<'_>,
+) -> Result<Verdict, Ending>
     requires linear { IsLinear v.now.grammar.core }
     requires cycles { AreCyclesOf v.now.grammar.core v.now.cycles }
     requires viewed { IsViewedBy v.now.grammar.core v.now.view v.now.full }
@@ -79,7 +84,12 @@ fn verdict_of(alloc: Global, v: &Viewed, first: LabelRef<'_>, second: LabelRef<'
 }
 
 /// Puts the verdict on two labels, which are tried in order.
-fn put_verdict<O: Sink>(alloc: Global, v: &Viewed, words: &DecideWords<'_>, out: &mut O) -> Result<(), Ending>
+fn put_verdict<O: Sink>(
+    alloc: Global,
+    v: &Viewed,
+    words: &DecideWords<'_>,
+    out: &mut O,
+) -> Result<(), Ending>
     requires linear { IsLinear v.now.grammar.core }
     requires cycles { AreCyclesOf v.now.grammar.core v.now.cycles }
     requires viewed { IsViewedBy v.now.grammar.core v.now.view v.now.full }
