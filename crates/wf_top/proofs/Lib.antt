@@ -25,6 +25,9 @@ pub mod Ingesting
 pub mod Behind
 pub mod IngestStages
 pub mod GrownLines
+pub mod Digits
+pub mod OneDecision
+pub mod TwoLabels
 pub mod OutcomeLaws
 pub mod IngestGrows
 pub mod Writing

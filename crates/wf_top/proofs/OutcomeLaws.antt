@@ -12,13 +12,13 @@ use Rattle.wf_io.specs.Lines.{Line, lines_of}
 use Rattle.wf_top.specs.declared.ending.Place.{Place}
 use Rattle.wf_top.specs.declared.ending.Place.TheVariants.{Spec, View, Events, Queries}
 use Rattle.wf_top.specs.Endings.{End, Refused}
-use Rattle.wf_top.specs.Words.{Command, Check, View as ViewCommand, Ingest, Trace, command_of}
+use Rattle.wf_top.specs.Words.{Command, Check, View as ViewCommand, Ingest, Trace, Decide, command_of}
 use Rattle.wf_top.specs.Specification.{TellsGrammar, RefusesSpec}
 use Rattle.wf_top.specs.Telling.{IsNotBuilt, OfWhole}
 use Rattle.wf_top.specs.ViewTold.{TellsView, RefusesView}
 use Rattle.wf_top.specs.RunTold.{TellsRun, RefusesRun}
 use Rattle.wf_top.specs.Ingested.{IngestsLines, refused as stopped, done, file_of}
-use Rattle.wf_top.specs.Outcome.{Stage, too_long, broken, refused, goes_on, TellsLines, AreAnswered, SpecStage, ViewStage, IsChecked, IsViewWritten, IngestsEvents, long_events, broken_events, event_lines, Checks, Views, Ingests, Traces, Does, short_most, long_most, instance_most}
+use Rattle.wf_top.specs.Outcome.{Stage, too_long, broken, refused, goes_on, TellsLines, AreAnswered, SpecStage, ViewStage, IsChecked, IsViewWritten, IngestsEvents, long_events, broken_events, event_lines, Checks, Views, Ingests, Traces, Decides, Does, short_most, long_most, instance_most}
 use Rattle.wf_top.specs.Laws.{OneOutcomeLaw}
 use Rattle.wf_top.proofs.OneOutcome.{one_grammar, one_view, one_run, one_written, one_list}
 use Rattle.wf_top.proofs.OneFault.{one_refusal, no_refusal}
@@ -28,6 +28,7 @@ use Rattle.wf_top.proofs.OneText.{one_text}
 use Rattle.wf_top.proofs.OneViewText.{one_view_text}
 use Rattle.wf_top.proofs.ViewComposites.{told_composites}
 use Rattle.wf_top.proofs.TakenLines.{one_stop, not_stopped}
+use Rattle.wf_top.proofs.OneDecision.{one_decision}
 
 -- what is too long is not short
 pub past_most : {m n : ℕ} → m < n → n ≤ m → ⊥
@@ -134,12 +135,16 @@ one_views spec view = one_spec_stage spec _ (λ g told. one_view_stage spec.byte
       p.1.0 q.1.0 p.1.1 q.1.1 p.1.2 q.1.2 p.1.3 q.1.3 ∙ sym q.1.4),
 )))
 
+one_decide : (spec view : File) (first second : List ℕ) (d e : End) (t s : List ℕ) → Decides spec view first second d t → Decides spec view first second e s → AreSame d e t s
+one_decide spec view first second = one_spec_stage spec _ (λ g told. one_view_stage spec.bytes g told view _ (λ u shown. one_decision g u first second))
+
 one_doing : (files : List ℕ → File) (c : Option Command) (d e : End) (t s : List ℕ) → Does files c d t → Does files c e s → AreSame d e t s
 one_doing files None d e t s p q = (p.0 ∙ sym q.0, p.1 ∙ sym q.1)
 one_doing files (Some (Check a)) d e t s p q = one_check (files a) d e t s p q
 one_doing files (Some (ViewCommand a b)) d e t s p q = one_views (files a) (files b) d e t s p q
 one_doing files (Some (Ingest a b)) d e t s p q = one_ingest (files a) (files b) d e t s p q
 one_doing files (Some (Trace a b c f)) d e t s p q = one_trace (files a) (files b) (files c) (files f) d e t s p q
+one_doing files (Some (Decide a b x y)) d e t s p q = one_decide (files a) (files b) x y d e t s p q
 
 pub one_outcome_law : OneOutcomeLaw
 one_outcome_law files words d e t s p q = one_doing files (command_of words) d e t s p q

@@ -3,7 +3,7 @@ use Rattle.std.specs.Prelude.{ℕ, List, [], ◌++◌, Option, Some, None, Resul
 use Rattle.wf_top.specs.declared.ending.Ending.{Ending}
 use Rattle.wf_top.specs.declared.ending.Ending.TheVariants.{Done as HasDone, Usage as HasUsage, Refused as HasRefused, ReadFault as HasReadFault, WriteFault as HasWriteFault, NoMemory as HasNoMemory}
 use Rattle.wf_top.specs.declared.ending.Place.{Place}
-use Rattle.wf_top.specs.declared.ending.Place.TheVariants.{Spec, View, Events, Queries}
+use Rattle.wf_top.specs.declared.ending.Place.TheVariants.{Spec, View, Events, Queries, FirstLabel, SecondLabel}
 use Rattle.wf_top.specs.declared.status.Status.{Status}
 use Rattle.wf_top.specs.declared.status.Status.TheVariants.{Done as IsDone, Usage as IsUsage, Refused as IsRefused, ReadFault as IsReadFault, WriteFault as IsWriteFault, NoMemory as IsNoMemory}
 use Rattle.wf_top.specs.Refusals.{refusal_text}
@@ -40,14 +40,16 @@ status_of (ReadFault place) = IsReadFault
 status_of WriteFault = IsWriteFault
 status_of NoMemory = IsNoMemory
 
--- the word of a file in messages
+-- the word of a file or of a label in messages
 abbrev pub word_of : Place → List ℕ
 word_of Spec = codes "spec"
 word_of View = codes "view"
 word_of Events = codes "events"
 word_of Queries = codes "queries"
+word_of FirstLabel = codes "label 1"
+word_of SecondLabel = codes "label 2"
 
--- what a refusal is about, in messages: a file, or a line of it
+-- what a refusal is about, in messages: a file or a label, or a line of a file
 abbrev pub where_of : Place → Option ℕ → List ℕ
 where_of place None = word_of place
 where_of place (Some n) = word_of place ++ (codes " line " ++ decimal n)

@@ -8,6 +8,7 @@ pub mod Telling
 pub mod RunTold
 pub mod CheckText
 pub mod Ingested
+pub mod Decided
 pub mod Outcome
 pub mod Meets
 pub mod Stages

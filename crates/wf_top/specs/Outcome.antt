@@ -11,7 +11,7 @@ use Rattle.wf_query.specs.Line.{IsQuery}
 use Rattle.wf_check.specs.Proper.{Ranking, IsRankingOf}
 use Rattle.wf_recur.specs.Cycles.{CyclesSeen, AreCyclesOf}
 use Rattle.wf_top.specs.declared.ending.Place.{Place}
-use Rattle.wf_top.specs.declared.ending.Place.TheVariants.{Spec, View, Events, Queries}
+use Rattle.wf_top.specs.declared.ending.Place.TheVariants.{Spec, View, Events, Queries, FirstLabel, SecondLabel}
 use Rattle.wf_top.specs.Endings.{End, Done, Usage, Refused, ReadFault}
 use Rattle.wf_top.specs.Specification.{TellsGrammar, RefusesSpec}
 use Rattle.wf_top.specs.ViewTold.{TellsView, RefusesView}
@@ -21,14 +21,17 @@ use Rattle.wf_top.specs.RunTold.{TellsRun, RefusesRun}
 use Rattle.wf_top.specs.CheckText.{check_text_of}
 use Rattle.wf_top.specs.Answers.{IsAnswer}
 use Rattle.wf_top.specs.Ingested.{IngestsLines, file_of}
-use Rattle.wf_top.specs.Words.{Command, Check, View as ViewCommand, Ingest, Trace, command_of}
+use Rattle.wf_top.specs.Decided.{DecidesLabels}
+use Rattle.wf_top.specs.Words.{Command, Check, View as ViewCommand, Ingest, Trace, Decide, command_of}
 
--- the fault of a file that is too long
+-- the fault of a file that is too long; a label is refused otherwise
 abbrev pub long_fault : Place → List ℕ
 long_fault Spec = codes "TooLong"
 long_fault View = codes "TooLong"
 long_fault Events = codes "NotBuilt"
 long_fault Queries = codes "NotBuilt"
+long_fault FirstLabel = codes "TooLong"
+long_fault SecondLabel = codes "TooLong"
 
 -- A stage reads a whole file of at most so many bytes, takes from it a value that the bytes tell, and goes on with it.
 -- It ends the program where the file is longer, is broken, or holds bytes that are refused.
@@ -123,6 +126,10 @@ pub data IngestsEvents (g : Grammar) (events : File) (ending : End) (text : List
 abbrev pub Ingests : File → File → End → List ℕ → Type 0
 Ingests spec events = SpecStage spec (λ g. IngestsEvents g events)
 
+-- `decide` over SPEC and VIEW, with the bytes of two labels
+abbrev pub Decides : File → File → List ℕ → List ℕ → End → List ℕ → Type 0
+Decides spec view first second = SpecStage spec (λ g. ViewStage g view (λ u. DecidesLabels g u first second))
+
 -- what a command does over files
 abbrev pub Does : (List ℕ → File) → Option Command → End → List ℕ → Type 0
 Does files None ending text = (ending ≡ Usage) × (text ≡ [])
@@ -130,6 +137,7 @@ Does files (Some (Check s)) ending text = Checks (files s) ending text
 Does files (Some (ViewCommand s v)) ending text = Views (files s) (files v) ending text
 Does files (Some (Ingest s e)) ending text = Ingests (files s) (files e) ending text
 Does files (Some (Trace s v e q)) ending text = Traces (files s) (files v) (files e) (files q) ending text
+Does files (Some (Decide s v x y)) ending text = Decides (files s) (files v) x y ending text
 
 -- how the program ends over files, and the text that it writes to out
 abbrev pub IsOutcome : (List ℕ → File) → List (List ℕ) → End → List ℕ → Type 0

@@ -25,7 +25,7 @@ use Rattle.wf_view.specs.Viewing.{name_of, input_name, output_name}
 use Rattle.wf_safe.specs.declared.witness.Choice.{Choice}
 use Rattle.wf_safe.specs.declared.witness.Witness.{Witness}
 use Rattle.wf_top.specs.declared.refusal.Refusal.{Refusal}
-use Rattle.wf_top.specs.declared.refusal.Refusal.TheVariants.{TooLong, LineTooLong, NotJson, WrongShape, WrongEvent, Form, Check, Recur, View, Unsafe, Run, NotBuilt}
+use Rattle.wf_top.specs.declared.refusal.Refusal.TheVariants.{TooLong, LineTooLong, NotJson, WrongShape, WrongEvent, Form, Check, Recur, View, Unsafe, Run, Malformed, NotBuilt}
 
 -- the word of a member
 abbrev pub member_word : Member → List ℕ
@@ -204,4 +204,5 @@ refusal_text (Recur g f) = recur_text g.core f
 refusal_text (View f) = view_text f
 refusal_text (Unsafe g w) = unsafe_text g.core w
 refusal_text (Run f) = run_name f
+refusal_text Malformed = codes "Malformed"
 refusal_text NotBuilt = codes "NotBuilt"

@@ -6,13 +6,15 @@ ghost use Rattle.wf_top.specs.Refusals.{refusal_text};
 
 use crate::refusal::Refusal;
 
-/// The file that a message is about.
+/// What a message is about: a file, or a label among the words.
 #[derive(Clone, Copy, Debug, PartialEq, Eq)]
 pub enum Place {
     Spec,
     View,
     Events,
     Queries,
+    FirstLabel,
+    SecondLabel,
 }
 
 /// How the program ends.
@@ -20,7 +22,7 @@ pub enum Place {
 pub enum Ending {
     Done,
     Usage,
-    /// A file is refused, or a line of it, by its number from 1.
+    /// A file or a label is refused, or a line of a file, by its number from 1.
     Refused {
         place: Place,
         line: Option<u64>,
@@ -60,5 +62,7 @@ pub fn too_long(place: Place) -> Ending
         Place::View => refused_whole(place, Refusal::TooLong),
         Place::Events => not_built(place),
         Place::Queries => not_built(place),
+        Place::FirstLabel => refused_whole(place, Refusal::TooLong),
+        Place::SecondLabel => refused_whole(place, Refusal::TooLong),
     }
 }

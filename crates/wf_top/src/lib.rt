@@ -5,6 +5,7 @@ mod answer;
 mod check;
 mod check_text;
 mod command;
+mod deciding;
 mod ending;
 mod events;
 mod file;
@@ -31,6 +32,8 @@ pub use law::{ingest_grows_law, one_outcome_law};
 pub use program::run;
 pub use status::Status;
 
+#[cfg(test)]
+mod decide_tests;
 #[cfg(test)]
 mod event_tests;
 #[cfg(test)]

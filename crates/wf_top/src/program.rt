@@ -2,7 +2,7 @@
 ghost use Rattle.std.specs.Prelude.{◌≡◌, ◌↔◌, ◌≤◌, ℕ, List, Some, None, map, IfErr};
 ghost use Rattle.wf_io.specs.Told.{File, Rose};
 ghost use Rattle.wf_top.specs.Words.{command_of};
-ghost use Rattle.wf_top.specs.Called.{meant};
+ghost use Rattle.wf_top.specs.Called.{meant, HasDigits};
 ghost use Rattle.wf_top.specs.Endings.{end_of, end_after};
 ghost use Rattle.wf_top.specs.Outcome.{Does};
 ghost use Rattle.wf_top.specs.Meets.{HasEnded, EndsAsTold, EndsBy};
@@ -10,6 +10,7 @@ ghost use Rattle.wf_top.specs.Stages.{IsCause, IsStop};
 
 use crate::check::check;
 use crate::command::{Command, command_of};
+use crate::deciding::decide;
 use crate::ending::Ending;
 use crate::ingest::ingest;
 use crate::show::show;
@@ -26,6 +27,8 @@ use wf_io::{Shelf, Sink};
 /// `view SPEC VIEW` writes each module that is seen under a safe view, whether it is expanded, and the pairs of its ports that each of its expansions joins.
 ///
 /// `ingest SPEC EVENTS` writes the label file of a run: the head once SPEC is accepted, and the entries of the items that an event makes before the next event is taken.
+///
+/// `decide SPEC VIEW HEX HEX` writes what two labels tell under a safe view: `yes` or `no`, whether the item of the second depends on that of the first; `hidden 1` or `hidden 2`, if the view hides one of them; or `clash`, if no run has both.
 ///
 /// `trace SPEC VIEW EVENTS QUERIES` answers each query line by `yes`, `no`, `hidden` or `unknown`: whether the second item depends on the first, however the run is finished under the view.
 pub fn run<H: Shelf, O: Sink, E: Sink>(
@@ -71,6 +74,7 @@ fn obey<H: Shelf, O: Sink>(
     shelf: &mut H,
     out: &mut O,
 ) -> Result<(), Ending>
+    requires { HasDigits command.now }
     ensures ends { (f : List ℕ → File) → H.files shelf.old ≡ Some f → EndsBy (Does f (Some (meant command.now))) (end_after result) (O.put_bytes out.old) (O.put_bytes out.new) }
     ensures stop { IfErr result (λ e. IsStop (end_of e)) }
     ensures cause { IfErr result (λ e. IsCause (H.faults shelf.old) (H.faults shelf.new) (H.at_last shelf.new) (O.faults out.old) (O.faults out.new) (O.at_last out.new) (end_of e)) }
@@ -82,5 +86,6 @@ fn obey<H: Shelf, O: Sink>(
         Command::View { spec, view } => show(alloc, spec, view, shelf, out),
         Command::Ingest { spec, events } => ingest(alloc, spec, events, shelf, out),
         Command::Trace { words } => trace(alloc, words, shelf, out),
+        Command::Decide { words } => decide(alloc, words, shelf, out),
     }
 }

@@ -1,4 +1,4 @@
-// Why a file is refused.
+// Why a file or a label is refused.
 use wf_check::CheckFault;
 use wf_json::Member;
 use wf_recur::RecurFault;
@@ -6,7 +6,7 @@ use wf_safe::Witness;
 use wf_spec::{FormFault, Grammar, RunFault};
 use wf_view::ViewFault;
 
-/// Why a file is refused. Want of memory is none of these: it is an ending of its own.
+/// Why a file or a label is refused. Want of memory is none of these: it is an ending of its own.
 #[derive(Drop)]
 pub enum Refusal {
     /// The file is longer than it may be.
@@ -31,6 +31,8 @@ pub enum Refusal {
     Unsafe { grammar: Grammar, witness: Witness },
     /// A run refuses the event of a line.
     Run { fault: RunFault },
+    /// The bytes are no label of the grammar.
+    Malformed,
     /// The file has a form that is not built yet.
     NotBuilt,
 }

@@ -33,6 +33,8 @@ fn word_of(place: Place) -> &'static [u8]
         Place::View => b"view",
         Place::Events => b"events",
         Place::Queries => b"queries",
+        Place::FirstLabel => b"label 1",
+        Place::SecondLabel => b"label 2",
     }
 }
 
@@ -59,7 +61,7 @@ fn put_line_of<E: Sink>(err: &mut E, place: Place, number: u64) -> Result<(), Fa
     put_numbered(err, b" line ", number)
 }
 
-/// Puts what a refusal is about: a file, or a line of it.
+/// Puts what a refusal is about: a file or a label, or a line of a file.
 fn put_where<E: Sink>(err: &mut E, place: Place, line: Option<u64>) -> Result<(), Failed>
     ensures { Puts E.put_bytes E.faults E.at_last (where_of place line) err.old err.new result }
 {

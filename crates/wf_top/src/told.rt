@@ -206,6 +206,7 @@ pub fn put_refusal<E: Sink>(err: &mut E, refusal: &Refusal) -> Result<(), Failed
         Refusal::View { fault } => put_view(err, *fault),
         Refusal::Unsafe { grammar, witness } => put_unsafe(err, grammar, witness),
         Refusal::Run { fault } => put(err, run_name(*fault)),
+        Refusal::Malformed => put(err, b"Malformed"),
         Refusal::NotBuilt => put(err, b"NotBuilt"),
     }
 }

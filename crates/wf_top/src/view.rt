@@ -23,14 +23,16 @@ use crate::spec::Spec;
 use std::alloc::Global;
 use wf_io::Shelf;
 use wf_json::{JsonFault, read_view};
+use wf_recur::Cycles;
 use wf_safe::{FullDeps, SafeFault, full_deps};
 use wf_spec::{Grammar, ViewParts};
 use wf_view::{View, ViewFault};
 
-/// A grammar with a safe view of it, and the pairs that every expansion of a seen module joins.
+/// A grammar with its cycles, a safe view of it, and the pairs that every expansion of a seen module joins.
 #[derive(Drop)]
 pub struct Viewed {
     pub grammar: Grammar,
+    pub cycles: Cycles,
     pub view: View,
     pub full: FullDeps,
 }
@@ -78,13 +80,14 @@ fn with_full(alloc: Global, spec: Spec, view: View) -> Result<Viewed, Ending>
     requires proper { IsProper spec.grammar.core }
     requires ranking { IsRankingOf spec.grammar.core spec.ranking }
     requires held { IsHeldFor spec.grammar.core view }
-    ensures ok { IfOk result (λ v. (v.grammar ≡ spec.grammar) × (v.view ≡ view) × IsSafe spec.grammar.core view.core) }
+    ensures ok { IfOk result (λ v. (v.grammar ≡ spec.grammar) × (v.cycles ≡ spec.cycles) × (v.view ≡ view) × IsSafe spec.grammar.core view.core) }
     ensures viewed { IfOk result (λ v. IsViewedBy v.grammar.core v.view v.full) }
     ensures declines { IfErr result (λ e. Declines AtView (OfWhole (RefusesUnsafe spec.grammar.core) view.core) (end_of e)) }
 {
     match full_deps(alloc, &spec.grammar, &spec.ranking, &view) {
         Ok(full) => Ok(Viewed {
             grammar: spec.grammar,
+            cycles: spec.cycles,
             view,
             full,
         }),
@@ -107,7 +110,7 @@ fn with_full(alloc: Global, spec: Spec, view: View) -> Result<Viewed, Ending>
 fn view_of_bytes(alloc: Global, spec: Spec, bytes: &[u8]) -> Result<Viewed, Ending>
     requires proper { IsProper spec.grammar.core }
     requires ranking { IsRankingOf spec.grammar.core spec.ranking }
-    ensures grammar { IfOk result (λ v. v.grammar ≡ spec.grammar) }
+    ensures grammar { IfOk result (λ v. (v.grammar ≡ spec.grammar) × (v.cycles ≡ spec.cycles)) }
     ensures viewed { IfOk result (λ v. IsViewedBy v.grammar.core v.view v.full) }
     ensures ok { IfOk result (λ v. TellsView spec.grammar.core bytes.now v.view.core) }
     ensures declines { IfErr result (λ e. Declines AtView (OfWhole (RefusesView spec.grammar.core) bytes.now) (end_of e)) }
@@ -126,7 +129,7 @@ pub fn view_stage<H: Shelf>(
 ) -> Result<Viewed, Ending>
     requires proper { IsProper spec.grammar.core }
     requires ranking { IsRankingOf spec.grammar.core spec.ranking }
-    ensures grammar { IfOk result (λ v. v.grammar ≡ spec.grammar) }
+    ensures grammar { IfOk result (λ v. (v.grammar ≡ spec.grammar) × (v.cycles ≡ spec.cycles)) }
     ensures viewed { IfOk result (λ v. IsViewedBy v.grammar.core v.view v.full) }
     ensures ok { IfOk result (λ v. (f : List ℕ → File) → H.files shelf.old ≡ Some f → IsTold short_most (f name.now) (TellsView spec.grammar.core) v.view.core) }
     ensures stops { IfErr result (λ e. (f : List ℕ → File) → H.files shelf.old ≡ Some f → StopsAt short_most AtView (f name.now) (OfWhole (RefusesView spec.grammar.core)) (end_of e)) }

@@ -14,3 +14,6 @@ returns-in-Ingest-clause-ends g c = λ f told. does f _ _ _ _ _ (ap (λ x. Some 
 
 pub returns-in-Trace-clause-ends : goal.returns-in-Trace-clause-ends
 returns-in-Trace-clause-ends g c = λ f told. does f _ _ _ _ _ (ap (λ x. Some (meant x)) c.in-Trace.is) (c.trace.ensures.ends f told)
+
+pub returns-in-Decide-clause-ends : goal.returns-in-Decide-clause-ends
+returns-in-Decide-clause-ends g c = λ f told. does f _ _ _ _ _ (ap (λ x. Some (meant x)) c.in-Decide.is) (c.decide.ensures.ends f told)

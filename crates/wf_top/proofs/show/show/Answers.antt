@@ -23,4 +23,4 @@ pub returns-clause-ends : goal.returns-clause-ends
 returns-clause-ends g c = λ f told.
     spec_goes _ _ _ _ _ c.in_ok-spec.spec.grammar.core (c.in_ok-spec.ensures.ok f told)
     (view_goes _ _ _ _ _ _ c.in_ok-viewed.viewed.view.core (c.in_ok-viewed.ensures.ok f (c.in_ok-spec.ensures.same ∙ told))
-    (with_grammar (λ x. IsViewWritten x c.in_ok-viewed.viewed.view.core) _ _ _ _ _ c.in_ok-viewed.ensures.grammar c.put_lines.ensures.ends))
+    (with_grammar (λ x. IsViewWritten x c.in_ok-viewed.viewed.view.core) _ _ _ _ _ c.in_ok-viewed.ensures.grammar.0 c.put_lines.ensures.ends))

@@ -25,7 +25,7 @@ returns-clause-ends g c = λ f told.
     let last = c.in_ok-viewed.ensures.same ∙ later in
     spec_goes _ _ _ _ _ c.in_ok-spec.spec.grammar.core (c.in_ok-spec.ensures.ok f told)
     (view_goes _ _ _ _ _ _ c.in_ok-viewed.viewed.view.core (c.in_ok-viewed.ensures.ok f later)
-    (with_grammar (λ x. AnswersRun x c.in_ok-viewed.viewed.view.core (f c.args.words.now.events.now) (f c.args.words.now.queries.now)) _ _ _ _ _ c.in_ok-viewed.ensures.grammar
+    (with_grammar (λ x. AnswersRun x c.in_ok-viewed.viewed.view.core (f c.args.words.now.events.now) (f c.args.words.now.queries.now)) _ _ _ _ _ c.in_ok-viewed.ensures.grammar.0
     (c.answer_view.ensures.ends f last)))
 
 pub returns-clause-cause : goal.returns-clause-cause

@@ -19,7 +19,7 @@ pub returns-clause-ok : goal.returns-clause-ok
 returns-clause-ok c =
     let g = c.args.spec.grammar.core in
     IfOk-weaker c.with_full.result _ _
-    (λ v t. subst (λ (u : HeldView). TellsView g c.args.bytes.now u.core) (sym t.1) (told_view g c.args.bytes.now c.in_ok-parts.parts c.in_ok-parts.ensures.ok c.in_ok-view.view.core c.in_ok-view.ensures.ok t.2))
+    (λ v t. subst (λ (u : HeldView). TellsView g c.args.bytes.now u.core) (sym t.2) (told_view g c.args.bytes.now c.in_ok-parts.parts c.in_ok-parts.ensures.ok c.in_ok-view.view.core c.in_ok-view.ensures.ok t.3))
     c.with_full.ensures.ok
 
 pub returns-clause-declines : goal.returns-clause-declines

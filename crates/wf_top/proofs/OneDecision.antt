@@ -1,0 +1,62 @@
+-- Two labels under a view have one verdict, and `decide` has one end and one text for them.
+use Rattle.std.proofs.Common.{◌≡◌, ℕ, List, [], ◌++◌, refl, sym, ap, ◌∙◌, subst, append-nil}
+use Rattle.std.specs.Prelude.{codes}
+use Rattle.bit_pack.specs.Bits.{Holds}
+use Rattle.wf_model.specs.Grammar.{Grammar}
+use Rattle.wf_model.specs.View.{View as ViewOf}
+use Rattle.label_model.specs.Labels.{Label, label_bits}
+use Rattle.label_model.proofs.LabelBits.{whole_law}
+use Rattle.verdict_model.specs.declared.verdict.Verdict.TheVariants.{Hidden1, Hidden2, Clash, Yes, No}
+use Rattle.verdict_model.specs.Verdicts.{IsVerdict}
+use Rattle.verdict_model.specs.Laws.{OneVerdictLaw}
+use Rattle.wf_top.specs.Endings.{End}
+use Rattle.wf_top.specs.Decided.{AreOfLabel, verdict_text, DecidesLabels, first_malformed, second_malformed, decided}
+
+-- two labels have one verdict
+pub one_verdict : OneVerdictLaw
+one_verdict g u x y Hidden1 Hidden1 p q = refl
+one_verdict g u x y Hidden1 Hidden2 p q = absurd (q.0 p)
+one_verdict g u x y Hidden1 Clash p q = absurd (q.0.0 p)
+one_verdict g u x y Hidden1 Yes p q = absurd (q.0.0 p)
+one_verdict g u x y Hidden1 No p q = absurd (q.0.0 p)
+one_verdict g u x y Hidden2 Hidden1 p q = absurd (p.0 q)
+one_verdict g u x y Hidden2 Hidden2 p q = refl
+one_verdict g u x y Hidden2 Clash p q = absurd (q.0.1 p.1)
+one_verdict g u x y Hidden2 Yes p q = absurd (q.0.1 p.1)
+one_verdict g u x y Hidden2 No p q = absurd (q.0.1 p.1)
+one_verdict g u x y Clash Hidden1 p q = absurd (p.0.0 q)
+one_verdict g u x y Clash Hidden2 p q = absurd (p.0.1 q.1)
+one_verdict g u x y Clash Clash p q = refl
+one_verdict g u x y Clash Yes p q = absurd (q.1 p.1)
+one_verdict g u x y Clash No p q = absurd (q.1 p.1)
+one_verdict g u x y Yes Hidden1 p q = absurd (p.0.0 q)
+one_verdict g u x y Yes Hidden2 p q = absurd (p.0.1 q.1)
+one_verdict g u x y Yes Clash p q = absurd (p.1 q.1)
+one_verdict g u x y Yes Yes p q = refl
+one_verdict g u x y Yes No p q = absurd (q.2 p.2)
+one_verdict g u x y No Hidden1 p q = absurd (p.0.0 q)
+one_verdict g u x y No Hidden2 p q = absurd (p.0.1 q.1)
+one_verdict g u x y No Clash p q = absurd (p.1 q.1)
+one_verdict g u x y No Yes p q = absurd (p.2 q.2)
+one_verdict g u x y No No p q = refl
+
+-- bytes are those of one label
+pub one_label : (g : Grammar) (bytes : List ℕ) (l k : Label) → AreOfLabel g bytes l → AreOfLabel g bytes k → l ≡ k
+one_label g bytes l k p q =
+    (whole_law g l k bytes [] p.0 q.0 p.1 (subst (λ b. Holds b (label_bits k)) (sym (append-nil bytes)) q.1)).1
+
+-- two labels have one end and one text
+pub one_decision : (g : Grammar) (u : ViewOf) (a b : List ℕ) (d e : End) (t s : List ℕ) → DecidesLabels g u a b d t → DecidesLabels g u a b e s → (d ≡ e) × (t ≡ s)
+one_decision g u a b d e t s (first_malformed n p is) (first_malformed m q js) = (p ∙ sym q, is ∙ sym js)
+one_decision g u a b d e t s (first_malformed n p is) (second_malformed l m q js) = absurd (n l)
+one_decision g u a b d e t s (first_malformed n p is) (decided x y hx hy v w q js) = absurd (n (x, hx.0, hx.1))
+one_decision g u a b d e t s (second_malformed l n p is) (first_malformed m q js) = absurd (m l)
+one_decision g u a b d e t s (second_malformed l n p is) (second_malformed k m q js) = (p ∙ sym q, is ∙ sym js)
+one_decision g u a b d e t s (second_malformed l n p is) (decided x y hx hy v w q js) = absurd (n (y, hy.0, hy.1))
+one_decision g u a b d e t s (decided x y hx hy v w p is) (first_malformed m q js) = absurd (m (x, hx.0, hx.1))
+one_decision g u a b d e t s (decided x y hx hy v w p is) (second_malformed k m q js) = absurd (m (y, hy.0, hy.1))
+one_decision g u a b d e t s (decided x y hx hy v w p is) (decided k l hk hl r z q js) =
+    let first = one_label g a x k hx hk in
+    let second = one_label g b y l hy hl in
+    let same = one_verdict g u k l v r (subst (λ m. IsVerdict g u m l v) first (subst (λ m. IsVerdict g u x m v) second w)) z in
+    (p ∙ sym q, is ∙ (ap (λ m. verdict_text m ++ codes "\n") same ∙ sym js))
