@@ -4,11 +4,9 @@ ghost use Rattle.bit_pack.specs.Bits.{Holds};
 ghost use Rattle.hex.specs.Hex.{decode_of};
 ghost use Rattle.wf_io.specs.Told.{File};
 ghost use Rattle.wf_model.specs.Linear.{IsLinear};
-ghost use Rattle.label_model.specs.Labels.{Label, IsLabel, label_bits};
 ghost use Rattle.label_model.specs.Reading.{IsLabelBytes};
 ghost use Rattle.wf_recur.specs.Cycles.{AreCyclesOf};
 ghost use Rattle.wf_label.specs.Values.{AreLabelBits};
-ghost use Rattle.verdict_model.specs.Verdicts.{IsVerdict};
 ghost use Rattle.wf_top.specs.Called.{AreDigits, bytes_in};
 ghost use Rattle.wf_top.specs.Decided.{DecidesLabels, verdict_text};
 ghost use Rattle.wf_top.specs.Endings.{end_of, end_after, Refused, NoMemory};
@@ -21,6 +19,7 @@ use crate::command::DecideWords;
 use crate::ending::{Ending, Place, refused_whole};
 use crate::refusal::Refusal;
 use crate::spec::spec_stage;
+use crate::verdict::verdict_of;
 use crate::view::{Viewed, view_stage};
 use std::alloc::Global;
 use verdict_model::Verdict;
@@ -63,24 +62,6 @@ fn label_of<'a>(v: &Viewed, place: Place, bytes: &'a [u8]) -> Result<LabelRef<'a
         Ok(label) => Ok(label),
         Err(_) => Err(refused_whole(place, Refusal::Malformed)),
     }
-}
-
-/// The verdict on two labels, from the label of the view alone. Fails only for want of memory.
-fn verdict_of(
-    alloc: Global,
-    v: &Viewed,
-    first: LabelRef<'_>,
-    second: LabelRef<'_>,
-) -> Result<Verdict, Ending>
-    requires linear { IsLinear v.now.grammar.core }
-    requires cycles { AreCyclesOf v.now.grammar.core v.now.cycles }
-    requires viewed { IsViewedBy v.now.grammar.core v.now.view v.now.full }
-    requires first { AreLabelBits v.now.grammar.core first }
-    requires second { AreLabelBits v.now.grammar.core second }
-    ensures verdict { IfOk result (λ r. (x y : Label) → IsLabel v.now.grammar.core x → IsLabel v.now.grammar.core y → first.entry ≡ label_bits x → second.entry ≡ label_bits y → IsVerdict v.now.grammar.core v.now.view.core x y r) }
-    ensures memory { IfErr result (λ e. end_of e ≡ NoMemory) }
-{
-    Err(Ending::NoMemory)
 }
 
 /// Puts the verdict on two labels, which are tried in order.

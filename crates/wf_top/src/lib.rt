@@ -25,6 +25,7 @@ mod tell;
 mod told;
 mod told_view;
 mod trace;
+mod verdict;
 mod view;
 mod view_text;
 
