@@ -253,6 +253,57 @@ full_labels() {
 }
 check "a full device is a fault of writing labels" full_labels
 
+# The items of a label file, each with its label in hexadecimal digits, a line for each.
+labels_in() {
+    local digits at=72 length name size
+    digits=$(od -An -v -tx1 "$1" | tr -d ' \n')
+    while [ "$at" -lt "${#digits}" ]; do
+        length=$((16#${digits:at:2} * 2))
+        name=$(printf '%b' "$(sed 's/../\\x&/g' <<<"${digits:at+2:length}")")
+        at=$((at + 2 + length))
+        size=$((16#${digits:at:4} * 2))
+        echo "$name ${digits:at+4:size}"
+        at=$((at + 4 + size))
+    done
+}
+
+# What two labels of an example tell, in the words of an answer: unknown where an item has no label.
+told_by_labels() {
+    local first second
+    first=$(sed -n "s/^$2 //p" "$work/labels")
+    second=$(sed -n "s/^$3 //p" "$work/labels")
+    if [ -z "$first" ] || [ -z "$second" ]; then
+        echo unknown
+    else
+        "$program" decide "examples/$1/spec" "examples/$1/view" "$first" "$second" | sed 's/^hidden .*/hidden/'
+    fi
+}
+
+# Whether the labels of an example tell what its answers are, without the run.
+decides_alike() {
+    local first second
+    labels_in "examples/$1/labels" >"$work/labels"
+    while read -r first second; do
+        told_by_labels "$1" "$first" "$second"
+    done <"examples/$1/queries" >"$work/told"
+    cmp -s "$work/told" "examples/$1/answers"
+}
+for example in line phylogeny-once phylogeny; do
+    check "two labels of $example tell what its run tells" decides_alike "$example"
+done
+check "bytes that are no label are refused" says 2 'refused: label 1: Malformed\n' decide $line/spec $line/view b1 20
+check "the second label is tried, too" says 2 'refused: label 2: Malformed\n' decide $line/spec $line/view 20 ''
+check "an odd number of digits is a usage" says 1 'usage: wfprov COMMAND WORDS\n' decide $line/spec $line/view 2 20
+check "a view is tried before the labels" says 2 'refused: view: NotJson\n' decide $line/spec "$nothing" b1 20
+
+full_verdict() {
+    [ -w /dev/full ] || return 0
+    local status=0
+    "$program" decide $line/spec $line/view 20 b0 >/dev/full 2>"$work/err" || status=$?
+    [ "$status" = 4 ] && cmp -s "$work/err" "$(text expected 'fault: writing\n')"
+}
+check "a full device is a fault of writing a verdict" full_verdict
+
 # A device that takes no byte stands in for a full disk.
 full() {
     [ -w /dev/full ] || return 0

@@ -44,4 +44,6 @@ mod spec_tests;
 #[cfg(test)]
 mod tests;
 #[cfg(test)]
+mod verdict_tests;
+#[cfg(test)]
 mod view_tests;

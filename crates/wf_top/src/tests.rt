@@ -45,7 +45,7 @@ const LOOP_EVENTS: &str =
 const LOOP_QUERIES: &str = "r.a w0.y\nw0.y r.b\nr.a r.b\nr.b w0.y\nr.a w1.y\n";
 
 /// An A is done by a P and a B behind it, or by a P, and a B by a Q and an A behind it, or by a Q.
-const PAIR: &str =
+pub(crate) const PAIR: &str =
     r#"{"start":"A","modules":[{"name":"A","in":["a"],"out":["b"]},{"name":"B","in":["a"],"out":["b"]},{"name":"P","in":["x"],"out":["y"]},{"name":"Q","in":["x"],"out":["y"]}],"productions":[{"head":"A","body":[["x","P"],["m","B"]],"edges":[["x.y","m.a"]],"in":[["a","x.x"]],"out":[["m.b","b"]]},{"head":"A","body":[["x","P"]],"edges":[],"in":[["a","x.x"]],"out":[["x.y","b"]]},{"head":"B","body":[["y","Q"],["m","A"]],"edges":[["y.y","m.a"]],"in":[["a","y.x"]],"out":[["m.b","b"]]},{"head":"B","body":[["y","Q"]],"edges":[],"in":[["a","y.x"]],"out":[["y.y","b"]]}]}"#;
 
 const PAIR_CHECKED: &str =

@@ -8,7 +8,7 @@ use wf_io::{MemFile, MemShelf, MemSink, PlainFile, PlainShelf, PlainSink};
 use wf_model::Seq;
 
 /// S is done by an L, and an L by a W, an L and a W again, or by a T. W joins its ports crosswise, T straight.
-const TWISTING: &str =
+pub(crate) const TWISTING: &str =
     r#"{"start":"S","modules":[{"name":"S","in":["a1","a2"],"out":["b1","b2"]},{"name":"L","in":["x1","x2"],"out":["y1","y2"]},{"name":"W","in":["x1","x2"],"out":["y1","y2"]},{"name":"T","in":["x1","x2"],"out":["y1","y2"]}],"productions":[{"head":"S","body":[["u","L"]],"edges":[],"in":[["a1","u.x1"],["a2","u.x2"]],"out":[["u.y1","b1"],["u.y2","b2"]]},{"head":"L","body":[["w","W"],["l","L"],["v","W"]],"edges":[["w.y1","l.x1"],["w.y2","l.x2"],["l.y1","v.x1"],["l.y2","v.x2"]],"in":[["x1","w.x1"],["x2","w.x2"]],"out":[["v.y1","y1"],["v.y2","y2"]]},{"head":"L","body":[["t","T"]],"edges":[],"in":[["x1","t.x1"],["x2","t.x2"]],"out":[["t.y1","y1"],["t.y2","y2"]]}],"deps":[{"module":"W","pairs":[["x1","y2"],["x2","y1"]]},{"module":"T","pairs":[["x1","y1"],["x2","y2"]]}]}"#;
 
 /// Each line: the specification, the view, the room of out, the status, the text on out and the line on err.
