@@ -1,7 +1,7 @@
 -- The places of the cycles of a grammar: what is told of the module at each, and where continuing steps lead from there.
-use Rattle.std.proofs.Common.{◌≡◌, ◌≢◌, ℕ, zero, suc, ◌+◌, ◌%◌, ◌<◌, length, get_or, Option, Some, None, refl, sym, ap, ◌∙◌, ⊎_elim, arith}
+use Rattle.std.proofs.Common.{◌≡◌, ◌≢◌, ℕ, zero, suc, ◌+◌, ◌-◌, ◌%◌, ◌<◌, length, get_or, Option, Some, None, refl, sym, ap, ◌∙◌, ⊎_elim, arith}
 use Rattle.std.specs.Prelude.{option_map}
-use Rattle.std.proofs.Math.Nat.{mod-lt, add-mod-mod}
+use Rattle.std.proofs.Math.Nat.{mod-lt, mod-eq_of_lt, add-mod_left, add-mod-mod}
 use Rattle.std.proofs.lemmas.Option.{none-some}
 use Rattle.wf_model.specs.Grammar.{Grammar}
 use Rattle.wf_model.specs.WellFormed.{IsWellFormed}
@@ -103,6 +103,13 @@ module _ (g : Grammar) (t : CyclesSeen) (wf : IsWellFormed g) (lin : IsLinear g)
       let r = h.rounds k c in
       let e : length round ≡ 0 + length round = omega arith in
       ap (λ n. after g n m) e ∙ (period_law g wf lin).period (least_of round) (length round) j m 0 r.whole (r.places j p).0
+
+  -- the steps up to the last place, and one more, lead to place 0
+  pub place_to_first : (k j : ℕ) → k < length t.rounds → j < length (round_at t k) → after g (length (round_at t k) - j) (get_or (round_at t k) j 0) ≡ least_of (round_at t k)
+  place_to_first k j c p =
+      let size = length (round_at t k) in
+      let e : j + (size - j) ≡ size + 0 = omega arith in
+      place_after k j (size - j) c p ∙ ap (λ z. get_or (round_at t k) z 0) (ap (λ z. z % size) e ∙ add-mod_left size 0 ∙ mod-eq_of_lt (h.rounds k c).whole.0)
 
   -- whole rounds can be left out
   pub rounds_left_out : (k j n : ℕ) → k < length t.rounds → j < length (round_at t k) →

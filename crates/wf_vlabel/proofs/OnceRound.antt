@@ -7,11 +7,10 @@ use Rattle.wf_model.specs.Linear.{IsLinear, GoesOnBy}
 use Rattle.wf_model.specs.Reach.{Step, target_of}
 use Rattle.label_model.specs.Continuing.{continuing, next_by, after}
 use Rattle.label_model.proofs.ContinuingSteps.{continuing_is, target_continues}
-use Rattle.label_model.proofs.Periods.{after-add}
 use Rattle.decode_model.proofs.Rounds.{continuing_take}
 use Rattle.wf_recur.specs.Cycles.{CyclesSeen, round_at, least_of, AreCyclesOf}
 use Rattle.wf_vlabel.specs.RoundSteps.{steps_on, IsOnce}
-use Rattle.wf_vlabel.proofs.CyclePlaces.{place_after, back_to_first, continues_on}
+use Rattle.wf_recur.proofs.Places.{place_told, place_back, place_to_first}
 use Rattle.wf_vlabel.proofs.Chains.{steps_told, along_told}
 use Rattle.wf_vlabel.proofs.Squares.{round_back}
 
@@ -26,23 +25,14 @@ goes_by g wf (suc k) m s =
     )
 
 module _ (g : Grammar) (t : CyclesSeen) (c p : ℕ) (wf : IsWellFormed g) (lin : IsLinear g) (h : AreCyclesOf g t) (i : c < length t.rounds) (l : p < length (round_at t c)) where
-  -- so many steps as the cycle has modules lead back from a module of it
-  pub whole_back : after g (length (round_at t c)) (get_or (round_at t c) p 0) ≡ get_or (round_at t c) p 0
-  whole_back =
-      let at = place_after g t c p wf lin h i l in
-      ap (after g (length (round_at t c))) (sym at) ∙ (round_back g (least_of (round_at t c)) (length (round_at t c)) p (back_to_first g t c wf lin h i) ∙ at)
-
-  -- the steps up to the last place lead to place 0
-  pub to_first : after g (length (round_at t c) - p) (get_or (round_at t c) p 0) ≡ least_of (round_at t c)
-  to_first =
-      let n : p + (length (round_at t c) - p) ≡ length (round_at t c) = omega arith in
-      ap (after g (length (round_at t c) - p)) (sym (place_after g t c p wf lin h i l)) ∙ (sym (after-add g p (length (round_at t c) - p) (least_of (round_at t c))) ∙ (ap (λ z. after g z (least_of (round_at t c))) n ∙ back_to_first g t c wf lin h i))
-
+  -- fewer steps do not lead back
   not_fewer : (n : ℕ) → 0 < n → after g n (get_or (round_at t c) p 0) ≡ get_or (round_at t c) p 0 → length (round_at t c) ≤ n
   not_fewer n some e =
       let first = least_of (round_at t c) in
-      let b : after g n first ≡ first = subst (λ z. after g n z ≡ z) to_first (round_back g (get_or (round_at t c) p 0) n (length (round_at t c) - p) e) in
-      (h.rounds c i).whole.2 n some (subst (GoesOnBy g n first) b (goes_by g wf n first (continues_on g t c 0 wf h i)))
+      let whole = (h.rounds c i).whole in
+      let o = place_told g t wf lin h c 0 i whole.0 in
+      let b : after g n first ≡ first = subst (λ z. after g n z ≡ z) (place_to_first g t wf lin h c p i l) (round_back g (get_or (round_at t c) p 0) n (length (round_at t c) - p) e) in
+      whole.2 n some (subst (GoesOnBy g n first) b (goes_by g wf n first (o.0.step, o.2)))
 
   -- steps once round are as many as the cycle has modules
   pub once_length : (round : List Step) → IsOnce g (get_or (round_at t c) p 0) round → length round ≡ length (round_at t c)
@@ -51,7 +41,7 @@ module _ (g : Grammar) (t : CyclesSeen) (c p : ℕ) (wf : IsWellFormed g) (lin :
       let size = length (round_at t c) in
       let low = not_fewer (length round) o.some (sym (along_told g wf lin m round o.goes_round.continuing) ∙ o.goes_round.back) in
       let high : size < length round → ⊥ = λ few. o.least size (omega arith) few
-      (along_told g wf lin m (take size round) (continuing_take g m size round o.goes_round.continuing) ∙ (ap (λ z. after g z m) (let e = length-take size round in let w : length (take size round) ≡ size = omega arith in w) ∙ whole_back)) in
+      (along_told g wf lin m (take size round) (continuing_take g m size round o.goes_round.continuing) ∙ (ap (λ z. after g z m) (let e = length-take size round in let w : length (take size round) ≡ size = omega arith in w) ∙ place_back g t wf lin h c p i l)) in
       elim (same_or_not (length round) size) [
         | inl same ↦ same
         | inr not ↦ absurd (high (omega arith))
