@@ -1,5 +1,5 @@
 -- There is one list of steps once round a cycle from a module of it.
-use Rattle.std.proofs.Common.{◌≡◌, ℕ, zero, suc, ◌+◌, ◌-◌, ◌<◌, ◌≤◌, List, length, get_or, take, Some, refl, sym, ap, ◌∙◌, subst, inl, inr, arith, length-take}
+use Rattle.std.proofs.Common.{◌≡◌, ℕ, zero, suc, ◌-◌, ◌<◌, ◌≤◌, List, length, get_or, take, Some, refl, sym, ap, ◌∙◌, subst, inl, inr, arith, length-take}
 use Rattle.bool_mat.proofs.Rows.{same_or_not}
 use Rattle.wf_model.specs.Grammar.{Grammar}
 use Rattle.wf_model.specs.WellFormed.{IsWellFormed}
