@@ -7,11 +7,11 @@ use Rattle.wf_model.specs.Linear.{IsLinear, GoesOnBy}
 use Rattle.wf_model.specs.Reach.{Step, target_of}
 use Rattle.label_model.specs.Continuing.{continuing, next_by, after}
 use Rattle.label_model.proofs.ContinuingSteps.{continuing_is, target_continues}
-use Rattle.decode_model.proofs.Rounds.{continuing_take}
+use Rattle.decode_model.proofs.Rounds.{continuing_take, along_after}
 use Rattle.wf_recur.specs.Cycles.{CyclesSeen, round_at, least_of, AreCyclesOf}
 use Rattle.wf_vlabel.specs.RoundSteps.{steps_on, IsOnce}
 use Rattle.wf_recur.proofs.Places.{place_told, place_back, place_to_first}
-use Rattle.wf_vlabel.proofs.Chains.{steps_told, along_told}
+use Rattle.wf_vlabel.proofs.Chains.{steps_told}
 use Rattle.wf_vlabel.proofs.Squares.{round_back}
 
 -- continuing steps lead where they are computed to lead
@@ -39,9 +39,9 @@ module _ (g : Grammar) (t : CyclesSeen) (c p : ℕ) (wf : IsWellFormed g) (lin :
   once_length round o =
       let m = get_or (round_at t c) p 0 in
       let size = length (round_at t c) in
-      let low = not_fewer (length round) o.some (sym (along_told g wf lin m round o.goes_round.continuing) ∙ o.goes_round.back) in
+      let low = not_fewer (length round) o.some (sym (along_after g wf lin m round o.goes_round.continuing) ∙ o.goes_round.back) in
       let high : size < length round → ⊥ = λ few. o.least size (omega arith) few
-      (along_told g wf lin m (take size round) (continuing_take g m size round o.goes_round.continuing) ∙ (ap (λ z. after g z m) (let e = length-take size round in let w : length (take size round) ≡ size = omega arith in w) ∙ place_back g t wf lin h c p i l)) in
+      (along_after g wf lin m (take size round) (continuing_take g m size round o.goes_round.continuing) ∙ (ap (λ z. after g z m) (let e = length-take size round in let w : length (take size round) ≡ size = omega arith in w) ∙ place_back g t wf lin h c p i l)) in
       elim (same_or_not (length round) size) [
         | inl same ↦ same
         | inr not ↦ absurd (high (omega arith))
