@@ -48,7 +48,7 @@ module _ (g : Grammar) (t : CyclesSeen) (h : AreCyclesOf g t) where
       (cases_option (get_or t.on m None))
 
   -- the module at a place is on a cycle
-  place_on_cycle : (k j : ℕ) → k < length t.rounds → j < length (round_at t k) → IsOnCycle g (get_or (round_at t k) j 0)
+  pub place_on_cycle : (k j : ℕ) → k < length t.rounds → j < length (round_at t k) → IsOnCycle g (get_or (round_at t k) j 0)
   place_on_cycle k j c p =
       let first = least_of (round_at t k) in
       let r = h.rounds k c in
