@@ -1,5 +1,5 @@
 -- The places of the cycles of a grammar: what is told of the module at each, and where continuing steps lead from there.
-use Rattle.std.proofs.Common.{◌≡◌, ◌≢◌, ℕ, zero, suc, ◌+◌, ◌-◌, ◌%◌, ◌<◌, length, get_or, Option, Some, None, refl, sym, ap, ◌∙◌, ⊎_elim, arith}
+use Rattle.std.proofs.Common.{◌≡◌, ◌≢◌, ℕ, zero, suc, ◌+◌, ◌-◌, ◌%◌, ◌<◌, ◌≤◌, length, get_or, Option, Some, None, refl, sym, ap, ◌∙◌, subst, ⊎_elim, arith}
 use Rattle.std.specs.Prelude.{option_map}
 use Rattle.std.proofs.Math.Nat.{mod-lt, mod-eq_of_lt, add-mod_left, add-mod-mod}
 use Rattle.std.proofs.lemmas.Option.{none-some}
@@ -10,7 +10,7 @@ use Rattle.wf_model.specs.Linear.{IsLinear, IsOnCycle, GoesOnBy}
 use Rattle.label_model.specs.Continuing.{continuing, next_by, after}
 use Rattle.label_model.proofs.Finding.{cases_option}
 use Rattle.label_model.proofs.ContinuingSteps.{continuing_is, continuing_found, continuing_law, target_continues}
-use Rattle.label_model.proofs.Periods.{period_law}
+use Rattle.label_model.proofs.Periods.{after-add, period_law}
 use Rattle.wf_recur.specs.Cycles.{OnSeen, CyclesSeen, round_at, least_of, AreCyclesOf}
 use Rattle.wf_recur.proofs.Going.{walks_back, walk_on_cycle, by_walk}
 use Rattle.wf_recur.proofs.Stepping.{target_below}
@@ -32,6 +32,19 @@ after_continues g wf (suc n) m s e =
     let next = target_continues g wf m s e in
     let far = after_continues g wf n (target_of g s) next.0 next.1 in
     (far.0, ap (λ o. continuing g (after g n (next_by g m o))) e ∙ far.1)
+
+-- they are continuing steps of the definition
+goes_after : (g : Grammar) → IsWellFormed g → (n m : ℕ) (s : Step) → continuing g m ≡ Some s → GoesOnBy g n m (after g n m)
+goes_after g wf zero m s e = refl
+goes_after g wf (suc n) m s e =
+    let next = target_continues g wf m s e in
+    (target_of g s, (s, continuing_is g m s e, refl), subst (λ o. GoesOnBy g n (target_of g s) (after g n (next_by g m o))) (sym e) (goes_after g wf n (target_of g s) next.0 next.1))
+
+-- where so many steps lead from a module back to it, they do so from each to which steps lead
+pub back_along : (g : Grammar) (m size n : ℕ) → after g size m ≡ m → after g size (after g n m) ≡ after g n m
+back_along g m size n back =
+    let turn : n + size ≡ size + n = omega arith in
+    sym (after-add g n size m) ∙ ap (λ z. after g z m) turn ∙ after-add g size n m ∙ ap (after g n) back
 
 -- a module that goes on is on a cycle
 goes_first : (g : Grammar) (n a b : ℕ) → 0 < n → GoesOnBy g n a b → IsOnCycle g a
@@ -77,7 +90,7 @@ module _ (g : Grammar) (t : CyclesSeen) (wf : IsWellFormed g) (lin : IsLinear g)
       let o = stands_somewhere g t h m (place_below g t h wf k j c p) (λ e. none-some s.0 (sym e ∙ s.1)) in
       (o.0, o.1, (continuing_law g wf lin m o.0.step).1 (h.on_one m o.0 o.1).step)
 
-  -- as many continuing steps as its number lead to a place from place 0
+  -- from place 0, as many continuing steps lead to a place as its number says
   pub place_from_first : (k j : ℕ) → k < length t.rounds → j < length (round_at t k) → after g j (least_of (round_at t k)) ≡ get_or (round_at t k) j 0
   place_from_first k j c p = (period_law g wf lin).leads j (least_of (round_at t k)) (get_or (round_at t k) j 0) ((h.rounds k c).places j p).0
 
@@ -95,6 +108,13 @@ module _ (g : Grammar) (t : CyclesSeen) (wf : IsWellFormed g) (lin : IsLinear g)
       target_of g s ≡ get_or (round_at t k) ((j + 1) % length (round_at t k)) 0
   place_next k j s c p e = sym (ap (next_by g (get_or (round_at t k) j 0)) e) ∙ place_after k j 1 c p
 
+  -- the steps up to the last place, and one more, lead to place 0
+  pub place_to_first : (k j : ℕ) → k < length t.rounds → j < length (round_at t k) → after g (length (round_at t k) - j) (get_or (round_at t k) j 0) ≡ least_of (round_at t k)
+  place_to_first k j c p =
+      let size = length (round_at t k) in
+      let e : j + (size - j) ≡ size + 0 = omega arith in
+      place_after k j (size - j) c p ∙ ap (λ z. get_or (round_at t k) z 0) (ap (λ z. z % size) e ∙ add-mod_left size 0 ∙ mod-eq_of_lt (h.rounds k c).whole.0)
+
   -- as many as the cycle has places lead back to the same
   pub place_back : (k j : ℕ) → k < length t.rounds → j < length (round_at t k) → after g (length (round_at t k)) (get_or (round_at t k) j 0) ≡ get_or (round_at t k) j 0
   place_back k j c p =
@@ -104,12 +124,14 @@ module _ (g : Grammar) (t : CyclesSeen) (wf : IsWellFormed g) (lin : IsLinear g)
       let e : length round ≡ 0 + length round = omega arith in
       ap (λ n. after g n m) e ∙ (period_law g wf lin).period (least_of round) (length round) j m 0 r.whole (r.places j p).0
 
-  -- the steps up to the last place, and one more, lead to place 0
-  pub place_to_first : (k j : ℕ) → k < length t.rounds → j < length (round_at t k) → after g (length (round_at t k) - j) (get_or (round_at t k) j 0) ≡ least_of (round_at t k)
-  place_to_first k j c p =
-      let size = length (round_at t k) in
-      let e : j + (size - j) ≡ size + 0 = omega arith in
-      place_after k j (size - j) c p ∙ ap (λ z. get_or (round_at t k) z 0) (ap (λ z. z % size) e ∙ add-mod_left size 0 ∙ mod-eq_of_lt (h.rounds k c).whole.0)
+  -- and no fewer do, but none
+  pub place_back_least : (k j n : ℕ) → k < length t.rounds → j < length (round_at t k) → 0 < n → after g n (get_or (round_at t k) j 0) ≡ get_or (round_at t k) j 0 → length (round_at t k) ≤ n
+  place_back_least k j n c p some back =
+      let first = least_of (round_at t k) in
+      let whole = (h.rounds k c).whole in
+      let o = place_told k 0 c whole.0 in
+      let e : after g n first ≡ first = subst (λ z. after g n z ≡ z) (place_to_first k j c p) (back_along g (get_or (round_at t k) j 0) n (length (round_at t k) - j) back) in
+      whole.2 n some (subst (GoesOnBy g n first) e (goes_after g wf n first o.0.step o.2))
 
   -- whole rounds can be left out
   pub rounds_left_out : (k j n : ℕ) → k < length t.rounds → j < length (round_at t k) →

@@ -9,9 +9,9 @@ use Rattle.label_model.specs.Continuing.{continues, is_composite, is_step}
 use Rattle.label_model.specs.Labels.{step_bits}
 use Rattle.label_model.specs.Places.{chain_at, chain_by}
 use Rattle.wf_recur.specs.Cycles.{CyclesSeen, OnSeen, AreCyclesOf}
+use Rattle.wf_recur.proofs.Places.{step_told}
 use Rattle.wf_run.specs.Runs.{Prefix}
 use Rattle.wf_run.specs.Opening.{prefix_by, child_prefix}
-use Rattle.wf_recur.proofs.Places.{step_told}
 
 abbrev bare : Prefix
 bare = record { bits = []; chain = None }

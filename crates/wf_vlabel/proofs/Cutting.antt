@@ -8,8 +8,8 @@ use Rattle.wf_model.specs.Linear.{IsLinear}
 use Rattle.label_model.specs.Continuing.{continuing, after}
 use Rattle.label_model.proofs.Periods.{after-add}
 use Rattle.wf_recur.specs.Cycles.{CyclesSeen, round_at, least_of, AreCyclesOf}
-use Rattle.wf_vlabel.specs.Cuts.{IsCut, IsCutWithin, cut_before}
 use Rattle.wf_recur.proofs.Places.{stands_somewhere, place_from_first, rounds_left_out}
+use Rattle.wf_vlabel.specs.Cuts.{IsCut, IsCutWithin, cut_before}
 
 -- no steps lead to fewer modules than none
 pub cut_none : (g : Grammar) (e : ℕ → Bool) (m : ℕ) → IsCutWithin g e m 0 None

@@ -13,12 +13,12 @@ use Rattle.label_model.proofs.Periods.{after-add}
 use Rattle.decode_model.specs.Rounds.{AreContinuing}
 use Rattle.decode_model.specs.Matrices.{IsOpenStep, IsOpenRoute, IsOnceRound}
 use Rattle.wf_recur.specs.Cycles.{CyclesSeen, round_at, least_of, AreCyclesOf}
+use Rattle.wf_recur.proofs.Places.{place_to_first, rounds_left_out}
 use Rattle.wf_vlabel.specs.Groups.{GroupsSeen}
 use Rattle.wf_vlabel.specs.Cuts.{IsCut}
 use Rattle.wf_vlabel.specs.Tables.{Expands, AreBodyGroups}
 use Rattle.wf_vlabel.specs.RoundSteps.{IsOnce, IsOpenCycle}
 use Rattle.wf_vlabel.specs.ChainMatrices.{HasSteps}
-use Rattle.wf_recur.proofs.Places.{place_to_first, rounds_left_out}
 use Rattle.wf_vlabel.proofs.OnceRound.{once_length}
 
 -- two views that expand the same modules see the same

@@ -14,10 +14,10 @@ use Rattle.wf_laws.specs.Splits.{IntoAll, OutAll}
 use Rattle.wf_body.specs.Matrices.{IsMatrixOf}
 use Rattle.decode_model.specs.Matrices.{IsOnceRound}
 use Rattle.wf_recur.specs.Cycles.{CyclesSeen, round_at, least_of, AreCyclesOf}
+use Rattle.wf_recur.proofs.Places.{stands_somewhere}
 use Rattle.wf_vlabel.specs.Groups.{GroupsSeen, nth_from}
 use Rattle.wf_vlabel.specs.Tables.{Expands, AreSquareGroups}
 use Rattle.wf_vlabel.specs.RoundSteps.{IsOpenCycle, HasRounds}
-use Rattle.wf_recur.proofs.Places.{stands_somewhere}
 use Rattle.wf_vlabel.proofs.OpenCycles.{cycle_open, once_of}
 
 -- the modules of the open cycles of which the number is below n have their matrices

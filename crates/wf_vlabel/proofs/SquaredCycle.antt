@@ -7,11 +7,11 @@ use Rattle.wf_model.specs.WellFormed.{IsWellFormed}
 use Rattle.wf_model.specs.Linear.{IsLinear}
 use Rattle.label_model.specs.Continuing.{after}
 use Rattle.wf_recur.specs.Cycles.{CyclesSeen, round_at, least_of, AreCyclesOf}
+use Rattle.wf_recur.proofs.Places.{place_from_first, place_back}
 use Rattle.wf_vlabel.specs.declared.rounds.way.Way.TheVariants.{Down, Up}
 use Rattle.wf_vlabel.specs.Groups.{GroupsSeen}
 use Rattle.wf_vlabel.specs.ChainMatrices.{AreParts, HasSteps}
 use Rattle.wf_vlabel.specs.RoundSteps.{steps_on, IsOnce, IsSquareGroup, HasRounds}
-use Rattle.wf_recur.proofs.Places.{place_from_first, place_back}
 use Rattle.wf_vlabel.proofs.OnceRound.{once_told}
 use Rattle.wf_vlabel.proofs.Squares.{rounds_kept, rounds_here}
 

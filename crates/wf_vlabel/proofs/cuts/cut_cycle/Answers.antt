@@ -2,8 +2,8 @@ use Rattle.std.proofs.Common.{◌≡◌, ◌<◌, ◌≤◌, ◌+◌, ◌-◌, �
 use Rattle.wf_model.specs.View.{expands}
 use Rattle.label_model.specs.Continuing.{after}
 use Rattle.wf_recur.specs.Cycles.{round_at, least_of}
-use Rattle.wf_vlabel.specs.Cuts.{IsCut, IsCutWithin}
 use Rattle.wf_recur.proofs.Places.{place_below, place_from_first, place_back}
+use Rattle.wf_vlabel.specs.Cuts.{IsCut, IsCutWithin}
 use Rattle.wf_vlabel.proofs.Cutting.{cut_back, cut_whole, cut_few, cut_kept, cut_told}
 use Rattle.wf_vlabel.proofs.cuts.cut_cycle.Goals as goal
 

@@ -1,8 +1,8 @@
 use Rattle.std.proofs.Common.{◌≢◌, ◌↔◌, ◌<◌, ◌∙◌, IsTrue, None, get_or, length, sym, ap, subst, arith}
 use Rattle.std.proofs.lemmas.Option.{none-some}
 use Rattle.label_model.specs.Continuing.{continuing}
-use Rattle.wf_vlabel.specs.RoundSteps.{IsOpenCycle}
 use Rattle.wf_recur.proofs.Places.{place_below, place_told}
+use Rattle.wf_vlabel.specs.RoundSteps.{IsOpenCycle}
 use Rattle.wf_vlabel.proofs.OpenCycles.{open_told}
 use Rattle.wf_vlabel.proofs.rounds.is_open.Goals as goal
 

@@ -4,10 +4,10 @@ use Rattle.std.specs.Prelude.{option_map}
 use Rattle.label_model.specs.Continuing.{after}
 use Rattle.bool_mat.specs.declared.pool.MatNo.{MatNo}
 use Rattle.wf_recur.specs.Cycles.{round_at, least_of}
+use Rattle.wf_recur.proofs.Places.{place_below, place_back}
 use Rattle.wf_vlabel.specs.declared.rounds.way.Way.TheVariants.{Down, Up}
 use Rattle.wf_vlabel.specs.ChainMatrices.{AreParts}
 use Rattle.wf_vlabel.specs.RoundSteps.{numbers_in}
-use Rattle.wf_recur.proofs.Places.{place_below, place_back}
 use Rattle.wf_vlabel.proofs.SquaredCycle.{SquaredSoFar, squared_none, squared_more}
 use Rattle.wf_vlabel.proofs.rounds.squares.square_cycle.Goals as goal
 
