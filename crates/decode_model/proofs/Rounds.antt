@@ -1,11 +1,14 @@
 -- A chain is so many rounds and a rest.
-use Rattle.std.proofs.Common.{◌≡◌, ℕ, zero, suc, ◌+◌, ◌*◌, ◌<◌, List, [], ◌∷◌, ◌++◌, length, take, refl, sym, ap, ◌∙◌, subst, arith, length-append, length-take}
+use Rattle.std.proofs.Common.{◌≡◌, ℕ, zero, suc, ◌+◌, ◌*◌, ◌<◌, List, [], ◌∷◌, ◌++◌, length, take, Some, refl, sym, ap, ◌∙◌, subst, arith, length-append, length-take}
 use Rattle.bool_mat.specs.Matrix.{Then, Power}
 use Rattle.bool_mat.proofs.Relations.{Same, same_refl, same_sym, same_trans, then_same, power_zero, power_suc, power_one, power_add}
 use Rattle.wf_model.specs.Grammar.{Grammar, Assignment}
+use Rattle.wf_model.specs.WellFormed.{IsWellFormed}
 use Rattle.wf_model.specs.Linear.{IsLinear}
 use Rattle.wf_model.specs.Reach.{Step, target_of, module_along}
 use Rattle.wf_laws.specs.Splits.{IntoAll, OutAll}
+use Rattle.label_model.specs.Continuing.{continuing, next_by, after}
+use Rattle.label_model.proofs.ContinuingSteps.{continuing_law}
 use Rattle.decode_model.specs.Rounds.{AreContinuing, IsRound, times}
 use Rattle.decode_model.specs.WayLaws.{ChainLaw}
 use Rattle.decode_model.proofs.Crossing.{into_append, out_append}
@@ -28,6 +31,13 @@ continuing_take g m (suc n) (s ∷ a) x = (x.0, continuing_take g (target_of g s
 pub module_along-append : (g : Grammar) (m : ℕ) (a b : List Step) → module_along g m (a ++ b) ≡ module_along g (module_along g m a) b
 module_along-append g m [] b = refl
 module_along-append g m (s ∷ a) b = module_along-append g (target_of g s) a b
+
+-- continuing steps lead where as many of them are computed to lead
+pub along_after : (g : Grammar) → IsWellFormed g → IsLinear g → (m : ℕ) (a : List Step) → AreContinuing g m a → module_along g m a ≡ after g (length a) m
+along_after g wf lin m [] x = refl
+along_after g wf lin m (s ∷ a) x =
+    let e : continuing g m ≡ Some s = (continuing_law g wf lin m s).1 x.0 in
+    along_after g wf lin (target_of g s) a x.1 ∙ ap (λ o. after g (length a) (next_by g m o)) (sym e)
 
 -- a chain from a module is told by its length
 pub continuing_same : (g : Grammar) → IsLinear g → (m : ℕ) (a b : List Step) → AreContinuing g m a → AreContinuing g m b → length a ≡ length b → a ≡ b

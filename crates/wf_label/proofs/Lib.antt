@@ -1,4 +1,4 @@
-pub mod ByTable
+pub mod Options
 pub mod ByAlternative
 pub mod AlternativeNumbers
 pub mod Passes

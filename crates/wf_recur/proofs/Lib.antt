@@ -4,6 +4,7 @@ pub mod Lists
 pub mod Numbering
 pub mod Opening
 pub mod Order
+pub mod Places
 pub mod Reaching
 pub mod Rows
 pub mod Stepping

@@ -9,9 +9,9 @@ use Rattle.label_model.specs.Continuing.{continues, is_composite, is_step}
 use Rattle.label_model.specs.Labels.{step_bits}
 use Rattle.label_model.specs.Places.{chain_at, chain_by}
 use Rattle.wf_recur.specs.Cycles.{CyclesSeen, OnSeen, AreCyclesOf}
+use Rattle.wf_recur.proofs.Places.{step_told}
 use Rattle.wf_run.specs.Runs.{Prefix}
 use Rattle.wf_run.specs.Opening.{prefix_by, child_prefix}
-use Rattle.wf_run.proofs.Cycles.{step_told}
 
 abbrev bare : Prefix
 bare = record { bits = []; chain = None }
@@ -35,7 +35,7 @@ module _ (g : Grammar) (c : CyclesSeen) (s : Step) (parent : Prefix) (formed : I
   by_step = ap (λ t. cond {A = Prefix} t (prefix_by g s parent) bare) (ap (is_composite g) (sym same) ∙ (sym test ∙ composite))
 
   same_test : u ≡ continues g (head_of g s.production) s
-  same_test = on ∙ (ap (λ k. is_step (told c k) s) of_head ∙ ap (λ o. is_step o s) (step_told g c (head_of g s.production) formed linear cycles (formed.heads s.production inside)))
+  same_test = on ∙ (ap (λ k. is_step (told c k) s) of_head ∙ ap (λ o. is_step o s) (step_told g c formed linear cycles (head_of g s.production) (formed.heads s.production inside)))
 
   pub child_goes_on : (chain : Option ℕ) → u ≡ true → chain ≡ option_map (λ c. c + 1) parent.chain → record { bits = parent.bits; chain = chain } ≡ child_prefix g s parent
   child_goes_on chain e raised =
@@ -45,6 +45,6 @@ module _ (g : Grammar) (c : CyclesSeen) (s : Step) (parent : Prefix) (formed : I
       bits ≡ parent.bits ++ step_bits (record { chain = parent.chain; alternative = a; position = s.position }) → m < length g.modules → chain ≡ chain_by (told c m) 0 → record { bits = bits; chain = chain } ≡ child_prefix g s parent
   child_leaves bits chain a e alternative spelled below begun =
       let b = spelled ∙ ap (λ k. parent.bits ++ step_bits (record { chain = parent.chain; alternative = k; position = s.position })) alternative in
-      let k = begun ∙ (ap (λ o. chain_by o 0) (step_told g c m formed linear cycles below) ∙ ap (λ n. chain_at g n 0) same) in
+      let k = begun ∙ (ap (λ o. chain_by o 0) (step_told g c formed linear cycles m below) ∙ ap (λ n. chain_at g n 0) same) in
       ap (λ l. record { bits = l; chain = chain }) b ∙ (ap (λ o. record { bits = (leaves g s parent).bits; chain = o }) k ∙
       sym (by_step ∙ ap (λ t. cond {A = Prefix} t (goes_on parent) (leaves g s parent)) (sym same_test ∙ e)))

@@ -5,7 +5,7 @@ use Rattle.bool_mat.proofs.Relations.{Same, same_sym, same_trans, then_id_left, 
 use Rattle.wf_model.specs.Grammar.{Grammar, Assignment, inputs_of, outputs_of, head_of, body_of}
 use Rattle.wf_model.specs.WellFormed.{IsWellFormed}
 use Rattle.wf_model.specs.Linear.{IsLinear}
-use Rattle.wf_model.specs.Reach.{Step, target_of, module_along, Into, OutOf}
+use Rattle.wf_model.specs.Reach.{Step, target_of, Into, OutOf}
 use Rattle.wf_laws.specs.Splits.{IntoAll, OutAll}
 use Rattle.label_model.specs.Continuing.{continuing, next_by, after}
 use Rattle.label_model.proofs.ContinuingSteps.{continuing_is, continuing_law}
@@ -38,13 +38,6 @@ steps_told g wf lin m [] x = refl
 steps_told g wf lin m (s ∷ a) x =
     let e : continuing g m ≡ Some s = (continuing_law g wf lin m s).1 x.0 in
     ap (λ z. s ∷ z) (steps_told g wf lin (target_of g s) a x.1) ∙ ap (λ o. steps_by o ++ steps_on g (length a) (next_by g m o)) (sym e)
-
--- so is the module to which it leads
-pub along_told : (g : Grammar) → IsWellFormed g → IsLinear g → (m : ℕ) (a : List Step) → AreContinuing g m a → module_along g m a ≡ after g (length a) m
-along_told g wf lin m [] x = refl
-along_told g wf lin m (s ∷ a) x =
-    let e : continuing g m ≡ Some s = (continuing_law g wf lin m s).1 x.0 in
-    along_told g wf lin (target_of g s) a x.1 ∙ ap (λ o. after g (length a) (next_by g m o)) (sym e)
 
 into_one : (g : Grammar) (d : Assignment) (s : Step) → Same (Into g d s) (IntoAll g d (s ∷ []))
 into_one g d s = same_sym (then_id_right (Into g d s))

@@ -8,8 +8,8 @@ use Rattle.wf_model.specs.Linear.{IsLinear}
 use Rattle.label_model.specs.Continuing.{continuing, after}
 use Rattle.label_model.proofs.Periods.{after-add}
 use Rattle.wf_recur.specs.Cycles.{CyclesSeen, round_at, least_of, AreCyclesOf}
+use Rattle.wf_recur.proofs.Places.{stands_somewhere, place_from_first, rounds_left_out}
 use Rattle.wf_vlabel.specs.Cuts.{IsCut, IsCutWithin, cut_before}
-use Rattle.wf_vlabel.proofs.CyclePlaces.{place_after, within_round, stands_somewhere}
 
 -- no steps lead to fewer modules than none
 pub cut_none : (g : Grammar) (e : ℕ → Bool) (m : ℕ) → IsCutWithin g e m 0 None
@@ -41,7 +41,7 @@ pub cut_whole : (g : Grammar) (t : CyclesSeen) (c j : ℕ) (e : ℕ → Bool) (b
 cut_whole g t c j e bound (Some n) wf lin h i l b w = (w.1, w.2)
 cut_whole g t c j e bound None wf lin h i l b w = λ k.
     let r : k % length (round_at t c) < bound = omega arith in
-    subst (λ z. IsTrue (e z)) (sym (within_round g t c j k wf lin h i l)) (w (k % length (round_at t c)) r)
+    subst (λ z. IsTrue (e z)) (sym (rounds_left_out g t wf lin h c j k i l)) (w (k % length (round_at t c)) r)
 
 -- one place earlier on a cycle
 pub cut_place : (g : Grammar) (t : CyclesSeen) (c j : ℕ) (e : ℕ → Bool) (bound : ℕ) (o : Option ℕ) → IsWellFormed g → IsLinear g → AreCyclesOf g t → c < length t.rounds → j < length (round_at t c) →
@@ -49,7 +49,7 @@ pub cut_place : (g : Grammar) (t : CyclesSeen) (c j : ℕ) (e : ℕ → Bool) (b
 cut_place g t c j e bound o wf lin h i l w =
     let first = least_of (round_at t c) in
     let one : suc j ≡ j + 1 = omega arith in
-    subst (λ z. IsCutWithin g e (after g j first) (suc bound) (cut_before (e z) o)) (place_after g t c j wf lin h i l)
+    subst (λ z. IsCutWithin g e (after g j first) (suc bound) (cut_before (e z) o)) (place_from_first g t wf lin h c j i l)
     (cut_step g e (after g j first) bound o (subst (λ z. IsCutWithin g e z bound o) (ap (λ z. after g z first) one ∙ after-add g j 1 first) w))
 
 -- what is found lies within the bound
@@ -103,6 +103,6 @@ pub cuts_all : (g : Grammar) (t : CyclesSeen) (e : ℕ → Bool) (cuts : List (O
     ((k j : ℕ) → k < length t.rounds → j < length (round_at t k) → IsCut g e (get_or (round_at t k) j 0) (get_or cuts (get_or (round_at t k) j 0) None)) →
     (m : ℕ) → m < length g.modules → continuing g m ≢ None → IsCut g e m (get_or cuts m None)
 cuts_all g t e cuts h told m i n =
-    let o = stands_somewhere g t m h i n in
+    let o = stands_somewhere g t h m i n in
     let s = h.on_one m o.0 o.1 in
     subst (λ z. IsCut g e z (get_or cuts z None)) s.is (told o.0.cycle o.0.place s.cycle s.place)

@@ -1,12 +1,10 @@
 pub mod OpenSteps
-pub mod OnRounds
 pub mod LabelKept
 pub mod Grouping
 pub mod SameSeen
 pub mod RowsGroups
 pub mod StepGroups
 pub mod BodyGroups
-pub mod CyclePlaces
 pub mod Cutting
 pub mod Chains
 pub mod Parts

@@ -13,13 +13,13 @@ use Rattle.label_model.proofs.Periods.{after-add}
 use Rattle.decode_model.specs.Rounds.{AreContinuing}
 use Rattle.decode_model.specs.Matrices.{IsOpenStep, IsOpenRoute, IsOnceRound}
 use Rattle.wf_recur.specs.Cycles.{CyclesSeen, round_at, least_of, AreCyclesOf}
+use Rattle.wf_recur.proofs.Places.{place_to_first, rounds_left_out}
 use Rattle.wf_vlabel.specs.Groups.{GroupsSeen}
 use Rattle.wf_vlabel.specs.Cuts.{IsCut}
 use Rattle.wf_vlabel.specs.Tables.{Expands, AreBodyGroups}
 use Rattle.wf_vlabel.specs.RoundSteps.{IsOnce, IsOpenCycle}
 use Rattle.wf_vlabel.specs.ChainMatrices.{HasSteps}
-use Rattle.wf_vlabel.proofs.CyclePlaces.{within_round}
-use Rattle.wf_vlabel.proofs.OnceRound.{to_first, once_length}
+use Rattle.wf_vlabel.proofs.OnceRound.{once_length}
 
 -- two views that expand the same modules see the same
 pub same_seen : (g : Grammar) (u v : View) → ((m : ℕ) → expands u m ≡ expands v m) → {m : ℕ} → IsSeenModule g u m → IsSeenModule g v m
@@ -78,9 +78,9 @@ pub cycle_open : (g : Grammar) (t : CyclesSeen) (c p : ℕ) (u v : View) (round 
     ((m : ℕ) → expands u m ≡ expands v m) → IsOnceRound g u (get_or (round_at t c) p 0) round → IsOpenCycle g v (least_of (round_at t c))
 cycle_open g t c p u v round wf lin h i l same o =
     record {
-      seen = same_seen g u v same (subst (IsSeenModule g u) (to_first g t c p wf lin h i l) (each (size - p)).0);
+      seen = same_seen g u v same (subst (IsSeenModule g u) (place_to_first g t wf lin h c p i l) (each (size - p)).0);
       whole = λ k. subst IsTrue (same (after g k (least_of (round_at t c))))
-          (subst (λ z. IsTrue (expands u z)) (after-add g (size - p) k m ∙ ap (after g k) (to_first g t c p wf lin h i l)) (each (size - p + k)).1);
+          (subst (λ z. IsTrue (expands u z)) (after-add g (size - p) k m ∙ ap (after g k) (place_to_first g t wf lin h c p i l)) (each (size - p + k)).1);
     }
   where
     size : ℕ
@@ -93,4 +93,4 @@ cycle_open g t c p u v round wf lin h i l same o =
     each k =
         let n = once_length g t c p wf lin h i l round (once_of g u m round o) in
         let low : k % length (round_at t c) < length round = omega arith in
-        subst (λ z. IsSeenModule g u z × IsTrue (expands u z)) (sym (within_round g t c p k wf lin h i l)) (route_open g wf lin u m round o.goes_round.continuing o.open_route (k % length (round_at t c)) low)
+        subst (λ z. IsSeenModule g u z × IsTrue (expands u z)) (sym (rounds_left_out g t wf lin h c p k i l)) (route_open g wf lin u m round o.goes_round.continuing o.open_route (k % length (round_at t c)) low)

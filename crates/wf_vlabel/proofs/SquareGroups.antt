@@ -14,10 +14,10 @@ use Rattle.wf_laws.specs.Splits.{IntoAll, OutAll}
 use Rattle.wf_body.specs.Matrices.{IsMatrixOf}
 use Rattle.decode_model.specs.Matrices.{IsOnceRound}
 use Rattle.wf_recur.specs.Cycles.{CyclesSeen, round_at, least_of, AreCyclesOf}
+use Rattle.wf_recur.proofs.Places.{stands_somewhere}
 use Rattle.wf_vlabel.specs.Groups.{GroupsSeen, nth_from}
 use Rattle.wf_vlabel.specs.Tables.{Expands, AreSquareGroups}
 use Rattle.wf_vlabel.specs.RoundSteps.{IsOpenCycle, HasRounds}
-use Rattle.wf_vlabel.proofs.CyclePlaces.{stands_somewhere}
 use Rattle.wf_vlabel.proofs.OpenCycles.{cycle_open, once_of}
 
 -- the modules of the open cycles of which the number is below n have their matrices
@@ -48,7 +48,7 @@ rounds_found : (g : Grammar) (t : CyclesSeen) (v : View) (d : Assignment) (pool 
     (u : View) (m : ℕ) (round : List Step) → Expands u (expands v) → IsOnceRound g u m round → HasRounds g d m pool first
 rounds_found g t v d pool first wf lin h all u m round same o =
     let b = round_starts g wf lin u m round o in
-    let at = stands_somewhere g t m h b.0 b.1 in
+    let at = stands_somewhere g t h m b.0 b.1 in
     let s = h.on_one m at.0 at.1 in
     subst (λ z. HasRounds g d z pool first) s.is
     (all at.0.cycle at.0.place s.cycle s.place (cycle_open g t at.0.cycle at.0.place u v round wf lin h s.cycle s.place same (subst (λ z. IsOnceRound g u z round) (sym s.is) o)))

@@ -7,11 +7,11 @@ use Rattle.wf_model.specs.WellFormed.{IsWellFormed}
 use Rattle.wf_model.specs.Linear.{IsLinear}
 use Rattle.label_model.specs.Continuing.{after}
 use Rattle.wf_recur.specs.Cycles.{CyclesSeen, round_at, least_of, AreCyclesOf}
+use Rattle.wf_recur.proofs.Places.{place_from_first, place_back}
 use Rattle.wf_vlabel.specs.declared.rounds.way.Way.TheVariants.{Down, Up}
 use Rattle.wf_vlabel.specs.Groups.{GroupsSeen}
 use Rattle.wf_vlabel.specs.ChainMatrices.{AreParts, HasSteps}
 use Rattle.wf_vlabel.specs.RoundSteps.{steps_on, IsOnce, IsSquareGroup, HasRounds}
-use Rattle.wf_vlabel.proofs.CyclePlaces.{place_after, back_to_first}
 use Rattle.wf_vlabel.proofs.OnceRound.{once_told}
 use Rattle.wf_vlabel.proofs.Squares.{rounds_kept, rounds_here}
 
@@ -45,8 +45,8 @@ squared_more g t bodies c place size at n start none down up squares down' up' s
     let round = round_at t c in
     let m = least_of round in
     let inside : place < length round = omega arith in
-    let back : after g size m ≡ m = ap (λ z. after g z m) e ∙ back_to_first g t c wf lin h i in
-    let there : after g place m ≡ at = place_after g t c place wf lin h i inside ∙ sym is in
+    let back : after g size m ≡ m = ap (λ z. after g z m) e ∙ place_back g t wf lin h c 0 i (h.rounds c i).whole.0 in
+    let there : after g place m ≡ at = place_from_first g t wf lin h c place i inside ∙ sym is in
     let own : (d : Assignment) → HasSteps g d bodies m → (list : _) → IsOnce g at list → IsSquareGroup g d at list squares' n =
     λ d q list o.
     let lists : list ≡ steps_on g size at = subst (λ z. IsOnce g z list → list ≡ steps_on g size z) (sym is) (λ w. once_told g t c place wf lin h i inside list w ∙ ap (λ z. steps_on g z (get_or round place 0)) (sym e)) o in

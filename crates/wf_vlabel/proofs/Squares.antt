@@ -7,7 +7,6 @@ use Rattle.wf_model.specs.Grammar.{Grammar, Assignment, inputs_of, outputs_of}
 use Rattle.wf_model.specs.Reach.{Step}
 use Rattle.wf_laws.specs.Splits.{IntoAll, OutAll}
 use Rattle.label_model.specs.Continuing.{after}
-use Rattle.label_model.proofs.Periods.{after-add}
 use Rattle.wf_body.specs.Matrices.{IsMatrixOf}
 use Rattle.decode_model.proofs.Meanings.{means_power}
 use Rattle.wf_vlabel.specs.declared.rounds.way.Way.{Way}
@@ -62,11 +61,6 @@ copied way g d m size a old middle new into out p q same h =
     let n = p.number in
     let t = p.total in
     subst (IsChain way g d m size) (sym (q.kept into (omega arith) ∙ same)) h
-
--- from a module to which steps lead, a whole round leads back
-pub round_back : (g : Grammar) (first size place : ℕ) → after g size first ≡ first → after g size (after g place first) ≡ after g place first
-round_back g first size place back = let turn : place + size ≡ size + place = omega arith in
-    sym (after-add g place size first) ∙ (ap (λ z. after g z first) turn ∙ (after-add g size place first ∙ ap (after g place) back))
 
 -- a pool that has more keeps them
 square_kept : (g : Grammar) (d : Assignment) (m : ℕ) (round : List Step) (old new : List Matrix) (n first count : ℕ) → Adds old new first count → IsSquareGroup g d m round old n → IsSquareGroup g d m round new n

@@ -1,7 +1,7 @@
 use Rattle.std.proofs.Common.{◌+◌, true, false, length, sym, ap, subst, arith, length-append}
 use Rattle.bit_pack.specs.Gamma.{gamma}
 use Rattle.wf_label.specs.Marks.{BeginMarks}
-use Rattle.wf_label.proofs.ByTable.{none_told, some_told}
+use Rattle.wf_label.proofs.Options.{none_told, some_told}
 use Rattle.wf_label.proofs.MarksRead.{ok_from, some_bit, marks_below, no_chain, chain_number, chain_read}
 use Rattle.wf_label.proofs.cursor.place_mark.Goals as goal
 

@@ -1,7 +1,7 @@
 use Rattle.std.proofs.Common.{◌↔◌, ◌+◌, ◌++◌, refl, sym, subst}
 use Rattle.bit_pack.specs.Gamma.{gamma}
 use Rattle.label_model.specs.Reading.{IsPlaceLeft, IsPartLeft}
-use Rattle.wf_label.proofs.ByTable.{none_told, some_told}
+use Rattle.wf_label.proofs.Options.{none_told, some_told}
 use Rattle.wf_label.proofs.Passes.{passed_none, passed_number}
 use Rattle.wf_label.proofs.PartsLeft.{no_chain_left, chain_left, no_chain_number}
 use Rattle.wf_label.proofs.parts.pass_chain.Goals as goal

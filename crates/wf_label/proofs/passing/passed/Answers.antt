@@ -1,7 +1,8 @@
 use Rattle.std.proofs.Common.{◌≡◌, ◌+◌, ◌%◌, ◌<◌, length, get_or, sym, ap, ◌∙◌, subst, arith}
+use Rattle.std.proofs.lemmas.Option.{none-some}
 use Rattle.label_model.specs.Continuing.{after}
 use Rattle.wf_recur.specs.Cycles.{on_of, round_at, StandsAt}
-use Rattle.wf_label.proofs.ByTable.{stands_told, passed_at, after_below}
+use Rattle.wf_recur.proofs.Places.{after_below, stands_somewhere, place_after}
 use Rattle.wf_label.proofs.passing.passed.Goals as goal
 use Rattle.wf_label.proofs.passing.passed.Goals.{In-Some, After-at}
 
@@ -12,13 +13,17 @@ stands c = c.requires.cycles.on_one c.args.m.0 (on_of c.in-Some.on) (sym c.in-So
 -- where the steps lead
 leads : (c : After-at) → c.at.result.0 ≡ after c.args.g.now.core c.args.c c.args.m.0
 leads c =
+    let g = c.args.g.now.core in
+    let t = c.args.cycles.now in
     let on = c.in-Some.on in
-    let round = round_at c.args.cycles.now on.cycle.0 in
-    c.at.ensures ∙ (ap (λ l. get_or round ((on.place + c.args.c) % l) 0) c.length-length.ensures ∙
-    sym (passed_at c.args.g.now.core c.args.cycles.now c.args.m.0 c.args.c (on_of on) c.modules-modules.ensures.formed c.requires.linear c.requires.cycles (sym c.in-Some.ensures)))
+    let s = c.requires.cycles.on_one c.args.m.0 (on_of on) (sym c.in-Some.ensures) in
+    c.at.ensures ∙ ap (λ l. get_or (round_at t on.cycle.0) ((on.place + c.args.c) % l) 0) c.length-length.ensures ∙
+    sym (place_after g t c.modules-modules.ensures.formed c.requires.linear c.requires.cycles on.cycle.0 on.place c.args.c s.cycle s.place) ∙ ap (after g c.args.c) s.is
 
 pub returns-in_default-clause-to : goal.returns-in_default-clause-to
-returns-in_default-clause-to c = absurd (stands_told c.args.g.now.core c.args.cycles.now c.args.m.0 c.requires.cycles c.requires.module_no c.requires.on_cycle (sym c.in_default.ensures))
+returns-in_default-clause-to c =
+    let o = stands_somewhere c.args.g.now.core c.args.cycles.now c.requires.cycles c.args.m.0 c.requires.module_no c.requires.on_cycle in
+    absurd (none-some o.0 (c.in_default.ensures ∙ o.1))
 
 pub length-length-requires-clause-in_range : goal.length-length-requires-clause-in_range
 length-length-requires-clause-in_range c = (stands (goal.at.length-length-requires-clause-in_range c).In-Some).cycle

@@ -1,6 +1,6 @@
 use Rattle.std.proofs.Common.{◌<◌, length, ◌∙◌, ap, sym, subst, arith}
 use Rattle.label_model.specs.Places.{chain_by}
-use Rattle.wf_run.proofs.Cycles.{step_told}
+use Rattle.wf_recur.proofs.Places.{step_told}
 use Rattle.wf_run.proofs.Roots.{composite_root, one_whole}
 use Rattle.wf_run.proofs.root.root.Goals as goal
 
@@ -10,7 +10,7 @@ returns-clause-node c =
     let m = c.start-start.result.0 in
     let s = c.start-start.ensures in
     let there = subst (λ k. k < length g.modules) (sym s.start) s.formed.start in
-    let step = step_told g c.args.cycles.now m s.formed c.requires.linear c.requires.cycles there in
+    let step = step_told g c.args.cycles.now s.formed c.requires.linear c.requires.cycles m there in
     composite_root g m c.begun.result s.start (sym c.is_composite.ensures ∙ c.if-not-is_composite.false) (c.begun.ensures ∙ ap (λ o. chain_by o 0) step)
 
 pub returns-clause-filled : goal.returns-clause-filled

@@ -2,8 +2,8 @@ use Rattle.std.proofs.Common.{◌≡◌, ◌<◌, ◌≤◌, ◌+◌, ◌-◌, �
 use Rattle.wf_model.specs.View.{expands}
 use Rattle.label_model.specs.Continuing.{after}
 use Rattle.wf_recur.specs.Cycles.{round_at, least_of}
+use Rattle.wf_recur.proofs.Places.{place_below, place_from_first, place_back}
 use Rattle.wf_vlabel.specs.Cuts.{IsCut, IsCutWithin}
-use Rattle.wf_vlabel.proofs.CyclePlaces.{place_below, back_to_first, place_after}
 use Rattle.wf_vlabel.proofs.Cutting.{cut_back, cut_whole, cut_few, cut_kept, cut_told}
 use Rattle.wf_vlabel.proofs.cuts.cut_cycle.Goals as goal
 
@@ -26,7 +26,7 @@ loop-place-init c =
     let g = c.args.g.now.core in
     let first = least_of (round_at c.args.cycles.now c.args.c.0) in
     let zero_left : c.loop-ahead.ahead ≡ 0 = omega arith in
-    let back = ap (λ z. after g z first) e ∙ back_to_first g c.args.cycles.now c.args.c.0 c.modules-modules.ensures.formed c.requires.linear c.requires.cycles c.requires.cycle in
+    let back = ap (λ z. after g z first) e ∙ place_back g c.args.cycles.now c.modules-modules.ensures.formed c.requires.linear c.requires.cycles c.args.c.0 0 c.requires.cycle (c.requires.cycles.rounds c.args.c.0 c.requires.cycle).whole.0 in
     let here = subst (λ z. IsCutWithin g (expands c.args.view.now.core) (after g z first) c.length-length.result c.loop-ahead.next) zero_left (v.1 c.length-length.result (omega arith)) in (
       omega arith,
       (λ b s. let is : c.length-length.result ≡ b = omega arith in subst (λ z. IsCutWithin g (expands c.args.view.now.core) (after g c.length-length.result first) z c.loop-ahead.next) is (subst (λ z. IsCutWithin g (expands c.args.view.now.core) z c.length-length.result c.loop-ahead.next) (sym back) here)),
@@ -44,7 +44,7 @@ one_before-next-requires-in-loop-place c =
 pub bounds-cuts-m : goal.bounds-cuts-m
 bounds-cuts-m c =
     let v = c.loop-place.invariant in
-    let low = place_below c.args.g.now.core c.args.cycles.now c.args.c.0 (c.loop-place.place - 1) c.modules-modules.ensures.formed c.requires.linear c.requires.cycles c.requires.cycle (omega (arith, v.0, c.length-length.ensures)) in
+    let low = place_below c.args.g.now.core c.args.cycles.now c.requires.cycles c.modules-modules.ensures.formed c.args.c.0 (c.loop-place.place - 1) c.requires.cycle (omega (arith, v.0, c.length-length.ensures)) in
     omega (arith, low, c.at-m.ensures, v.2, c.requires.count)
 
 pub loop-place-preserved : goal.loop-place-preserved
@@ -61,7 +61,7 @@ loop-place-preserved c =
     let b = c.length-length.result + c.length-length.result - j in
     let cut : IsCut g (expands c.args.view.now.core) (get_or (round_at t c.args.c.0) j 0) c.one_before-next-in-loop-place.result =
     cut_whole g t c.args.c.0 j (expands c.args.view.now.core) b _ wf c.requires.linear c.requires.cycles c.requires.cycle inside (omega arith)
-    (subst (λ z. IsCutWithin g (expands c.args.view.now.core) z b c.one_before-next-in-loop-place.result) (place_after g t c.args.c.0 j wf c.requires.linear c.requires.cycles c.requires.cycle inside) (next b (omega arith))) in
+    (subst (λ z. IsCutWithin g (expands c.args.view.now.core) z b c.one_before-next-in-loop-place.result) (place_from_first g t wf c.requires.linear c.requires.cycles c.args.c.0 j c.requires.cycle inside) (next b (omega arith))) in
     let low : get_or (round_at t c.args.c.0) j 0 < length c.loop-place.cuts = omega (arith, bounds-cuts-m c, c.at-m.ensures) in
     let here = sym c.at-m.ensures in (
       omega arith,

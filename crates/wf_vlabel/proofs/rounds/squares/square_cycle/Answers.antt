@@ -4,10 +4,10 @@ use Rattle.std.specs.Prelude.{option_map}
 use Rattle.label_model.specs.Continuing.{after}
 use Rattle.bool_mat.specs.declared.pool.MatNo.{MatNo}
 use Rattle.wf_recur.specs.Cycles.{round_at, least_of}
+use Rattle.wf_recur.proofs.Places.{place_below, place_back}
 use Rattle.wf_vlabel.specs.declared.rounds.way.Way.TheVariants.{Down, Up}
 use Rattle.wf_vlabel.specs.ChainMatrices.{AreParts}
 use Rattle.wf_vlabel.specs.RoundSteps.{numbers_in}
-use Rattle.wf_vlabel.proofs.CyclePlaces.{place_below, back_to_first}
 use Rattle.wf_vlabel.proofs.SquaredCycle.{SquaredSoFar, squared_none, squared_more}
 use Rattle.wf_vlabel.proofs.rounds.squares.square_cycle.Goals as goal
 
@@ -25,14 +25,14 @@ push_squares-requires-clause-parts c =
       g,
       d,
       m,
-      ap (λ z. after g z m) c.length-size.ensures ∙ back_to_first g t c.args.c.0 c.modules-modules.ensures.formed c.requires.linear c.requires.cycles c.requires.cycle,
+      ap (λ z. after g z m) c.length-size.ensures ∙ place_back g t c.modules-modules.ensures.formed c.requires.linear c.requires.cycles c.args.c.0 0 c.requires.cycle (c.requires.cycles.rounds c.args.c.0 c.requires.cycle).whole.0,
       subst (λ z. AreParts Down g d m z c.loop-place.down) e (v.downs d c.requires.steps.1),
       subst (λ z. AreParts Up g d m z c.loop-place.up) e (v.ups d c.requires.steps.1),
     )
 
 pub bounds-first-at : goal.bounds-first-at
 bounds-first-at c =
-    let low = place_below c.args.g.now.core c.args.cycles.now c.args.c.0 c.loop-place.place c.modules-modules.ensures.formed c.requires.linear c.requires.cycles c.requires.cycle (omega (arith, c.length-size.ensures)) in
+    let low = place_below c.args.g.now.core c.args.cycles.now c.requires.cycles c.modules-modules.ensures.formed c.args.c.0 c.loop-place.place c.requires.cycle (omega (arith, c.length-size.ensures)) in
     omega (arith, low, c.at.ensures, c.loop-place.invariant.0, c.requires.count)
 
 pub loop-place-preserved : goal.loop-place-preserved
