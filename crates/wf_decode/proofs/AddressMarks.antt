@@ -13,10 +13,10 @@ use Rattle.label_model.proofs.OneRoute.{step_told, IsSplit, split}
 use Rattle.wf_label.specs.Marks.{Mark, AtInput, AtOutput, Chain, Into, End, production_by, passed, chain_marks, step_at, place_marks, marks_of}
 use Rattle.wf_label.proofs.ByAlternative.{at_alternative}
 use Rattle.decode_model.specs.Rounds.{AreContinuing}
-use Rattle.decode_model.proofs.Rounds.{continuing_append, module_along-append}
+use Rattle.decode_model.proofs.Rounds.{continuing_append, along_after, module_along-append}
 use Rattle.verdict_model.specs.Telling.{Tells}
 use Rattle.wf_decode.specs.Marking.{AreMarksTo}
-use Rattle.wf_decode.proofs.Chains.{after_continues, after_along}
+use Rattle.wf_recur.proofs.Places.{after_continues}
 
 module _ (g : Grammar) (wf : IsWellFormed g) (lin : IsLinear g) (p e : ℕ) where
   -- continuing steps lead from the module k to m
@@ -40,7 +40,7 @@ module _ (g : Grammar) (wf : IsWellFormed g) (lin : IsLinear g) (p e : ℕ) wher
   front_none k m c [] none f = (refl, f.to)
   front_none k m c (r ∷ front) none f =
       let t = after_continues g wf (length (r ∷ front)) k r ((continuing_law g wf lin k r).1 f.goes.0) in
-      let z : None ≡ Some t.0 = sym none ∙ (ap (continuing g) (sym (after_along g wf lin k (r ∷ front) f.goes ∙ f.to)) ∙ t.1) in
+      let z : None ≡ Some t.0 = sym none ∙ (ap (continuing g) (sym (sym (along_after g wf lin k (r ∷ front) f.goes) ∙ f.to)) ∙ t.1) in
       absurd (cc)
 
   -- and from one
@@ -51,7 +51,7 @@ module _ (g : Grammar) (wf : IsWellFormed g) (lin : IsLinear g) (p e : ℕ) wher
   -- a number of them leads where they lead
   passed_to : (k m c : ℕ) (front : List Step) (o : Option Step) → continuing g m ≡ o → IsFront k m c front → passed g k (chain_by o c) ≡ m
   passed_to k m c front None is f = (front_none k m c front is f).1
-  passed_to k m c front (Some s) is f = ap (λ n. after g n k) (sym f.many) ∙ (after_along g wf lin k front f.goes ∙ f.to)
+  passed_to k m c front (Some s) is f = ap (λ n. after g n k) (sym f.many) ∙ (sym (along_after g wf lin k front f.goes) ∙ f.to)
 
   -- at a module on no cycle no number need be told
   none_told : (m : ℕ) (a : List Step) (ms : List Mark) → continuing g m ≡ None → AreMarksTo g m true a p e ms → AreMarksTo g m false a p e ms

@@ -33,7 +33,7 @@ get_or-times round (suc q) r i d h low =
     go again (inr m) = get_or-append_right round (times q round ++ take r round) (length round) i d refl m ∙ (again m ∙ ap (λ k. get_or round k d) (mod_past i (length round) m))
 
 -- a list that begins at another place
-get_or-turned : (xs : List ℕ) (j i : ℕ) → j < length xs → i < length xs → get_or (drop j xs ++ take j xs) i 0 ≡ get_or xs ((j + i) % length xs) 0
+pub get_or-turned : (xs : List ℕ) (j i : ℕ) → j < length xs → i < length xs → get_or (drop j xs ++ take j xs) i 0 ≡ get_or xs ((j + i) % length xs) 0
 get_or-turned xs j i h low = go (cases_lt (j + i) (length xs))
   where
     go : (j + i < length xs) ⊎ (length xs ≤ j + i) → get_or (drop j xs ++ take j xs) i 0 ≡ get_or xs ((j + i) % length xs) 0
@@ -47,7 +47,7 @@ get_or-turned xs j i h low = go (cases_lt (j + i) (length xs))
         (get_or-take j xs (i - (length xs - j)) 0 (omega arith) ∙ ap (λ k. get_or xs k 0) (at ∙ (sym (mod-eq_of_lt small) ∙ mod_past (j + i) (length xs) m)))
 
 module _ (c : CyclesSeen) (k j : ℕ) (h : j < length (round_at c k)) where
-  length-turned : length (drop j (round_at c k) ++ take j (round_at c k)) ≡ length (round_at c k)
+  pub length-turned : length (drop j (round_at c k) ++ take j (round_at c k)) ≡ length (round_at c k)
   length-turned =
       let xs = round_at c k in
       let a = length-append (drop j xs) (take j xs) in

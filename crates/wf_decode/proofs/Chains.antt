@@ -1,34 +1,18 @@
 -- Where continuing steps lead, and which of them are open.
-use Rattle.std.proofs.Common.{◌≡◌, ℕ, zero, suc, ◌<◌, IsTrue, List, [], ◌∷◌, length, Some, refl, sym, ap, ◌∙◌, subst, arith}
+use Rattle.std.proofs.Common.{ℕ, suc, ◌<◌, IsTrue, List, [], ◌∷◌, length, sym, subst, arith}
 use Rattle.wf_model.specs.Grammar.{Grammar}
 use Rattle.wf_model.specs.WellFormed.{IsWellFormed}
 use Rattle.wf_model.specs.View.{View, expands, IsSeenModule}
-use Rattle.wf_model.specs.Reach.{Step, target_of, module_along}
+use Rattle.wf_model.specs.Reach.{Step, target_of}
 use Rattle.wf_model.specs.Linear.{IsLinear}
-use Rattle.label_model.specs.Continuing.{continuing, next_by, after}
-use Rattle.label_model.proofs.ContinuingSteps.{continuing_law, target_continues}
+use Rattle.label_model.specs.Continuing.{next_by, after}
+use Rattle.label_model.proofs.ContinuingSteps.{continuing_law}
 use Rattle.decode_model.specs.Rounds.{AreContinuing}
 use Rattle.decode_model.specs.Matrices.{IsOpenStep, IsOpenRoute}
 use Rattle.decode_model.proofs.SeenLegs.{step_seen}
 
-module _ (g : Grammar) (wf : IsWellFormed g) where
-  -- from a module that continues, continuing steps lead to one that does
-  pub after_continues : (c m : ℕ) (s : Step) → continuing g m ≡ Some s → (t : Step) × (continuing g (after g c m) ≡ Some t)
-  after_continues zero m s e = (s, e)
-  after_continues (suc c) m s e =
-      let n = target_continues g wf m s e in
-      let r = after_continues c (target_of g s) n.0 n.1 in
-      (r.0, ap (λ o. continuing g (after g c (next_by g m o))) e ∙ r.1)
-
 module _ (g : Grammar) (wf : IsWellFormed g) (lin : IsLinear g) where
-  -- they lead where so many continuing steps lead
-  pub after_along : (m : ℕ) (chain : List Step) → AreContinuing g m chain → after g (length chain) m ≡ module_along g m chain
-  after_along m [] h = refl
-  after_along m (s ∷ chain) h =
-      let e = (continuing_law g wf lin m s).1 h.0 in
-      ap (λ o. after g (length chain) (next_by g m o)) e ∙ after_along (target_of g s) chain h.1
-
-  -- they are open where they lead to expanded modules, the last of which may not be
+  -- continuing steps are open where they lead to expanded modules, the last of which may not be
   pub open_chain : (u : View) (m : ℕ) (chain : List Step) → AreContinuing g m chain → IsSeenModule g u m → ((n : ℕ) → n < length chain → IsTrue (expands u (after g n m))) → IsOpenRoute g u m chain
   open_chain u m [] h seen all = tt
   open_chain u m (s ∷ chain) h seen all =

@@ -1,20 +1,24 @@
 -- The continuing steps once round a cycle, from any of its places on.
-use Rattle.std.proofs.Common.{◌≡◌, ◌≢◌, ℕ, zero, suc, ◌+◌, ◌<◌, IsTrue, List, [], ◌∷◌, ◌++◌, map, length, get_or, take, drop, Option, Some, None, refl, sym, ap, ◌∙◌, subst, inl, inr, ⊎_elim, arith, length-append, length-take}
+use Rattle.std.proofs.Common.{◌≡◌, ◌≢◌, ℕ, suc, ◌<◌, IsTrue, List, [], ◌∷◌, ◌++◌, map, length, get_or, take, drop, Some, refl, sym, ap, ◌∙◌, subst, inl, inr, ⊎_elim, arith}
 use Rattle.std.proofs.Math.Seq.{drop-cons}
-use Rattle.std.proofs.lemmas.List.{length-drop, length-map, length-take-le, take-append-drop}
+use Rattle.std.proofs.lemmas.List.{length-take-le, take-append-drop}
 use Rattle.wf_model.specs.Lists.{IsIn}
 use Rattle.wf_model.specs.Grammar.{Grammar}
 use Rattle.wf_model.specs.WellFormed.{IsWellFormed}
 use Rattle.wf_model.specs.View.{View, expands, IsSeenModule}
-use Rattle.wf_model.specs.Reach.{Step, target_of, module_along}
-use Rattle.wf_model.specs.Linear.{IsLinear, Continues, IsOnCycle, GoesOnBy}
+use Rattle.wf_model.specs.Reach.{target_of, module_along}
+use Rattle.wf_model.specs.Linear.{IsLinear, Continues, GoesOnBy}
 use Rattle.wf_model.proofs.Lists.{in_append_left, in_append_right, in_append_cases}
-use Rattle.wf_recur.specs.Cycles.{CyclesSeen, OnSeen, round_at, AreCyclesOf}
-use Rattle.wf_recur.proofs.Going.{by_walk, by_more, by_join, by_same, by_after, walks_back, walk_on_cycle}
-use Rattle.wf_recur.proofs.Telling.{continues_below}
+use Rattle.wf_recur.specs.Cycles.{CyclesSeen, round_at, AreCyclesOf}
+use Rattle.label_model.specs.Continuing.{after}
+use Rattle.label_model.proofs.ContinuingSteps.{continuing_is}
+use Rattle.wf_recur.proofs.Going.{by_more, by_same}
+use Rattle.wf_recur.proofs.Places.{place_told, place_back_least}
+use Rattle.wf_decode.proofs.ChainSteps.{length-round}
+use Rattle.wf_decode.proofs.HeldRounds.{gone_round}
 use Rattle.decode_model.specs.Matrices.{IsOpenStep, IsOpenRoute, IsOnceRound}
-use Rattle.decode_model.specs.Rounds.{AreContinuing, IsRound}
-use Rattle.decode_model.proofs.Rounds.{continuing_take}
+use Rattle.decode_model.specs.Rounds.{AreContinuing}
+use Rattle.decode_model.proofs.Rounds.{continuing_take, along_after}
 use Rattle.decode_model.proofs.SeenLegs.{step_seen}
 use Rattle.wf_decode.specs.HeldLegs.{step_by, step_on, module_on, round_from}
 
@@ -48,11 +52,6 @@ module _ (g : Grammar) (c : CyclesSeen) where
       let r = follow_continue (target_of g (step_on c m)) k xs f.2 in
       subst (λ z. AreContinuing g m (step_on c z ∷ map (step_on c) xs) × (module_along g m (step_on c z ∷ map (step_on c) xs) ≡ k)) (sym f.0) ((f.1, r.0), r.1)
 
--- continuing steps are gone one after another
-steps_go : (g : Grammar) (m : ℕ) (a : List Step) → AreContinuing g m a → GoesOnBy g (length a) m (module_along g m a)
-steps_go g m [] x = refl
-steps_go g m (s ∷ a) x = (target_of g s, (s, x.0, refl), steps_go g (target_of g s) a x.1)
-
 module _ (g : Grammar) (u : View) (c : CyclesSeen) where
   -- where their steps are open, the modules are expanded
   open_expanded : (m k : ℕ) (xs : List ℕ) → Follow g c m xs k → IsOpenRoute g u m (map (step_on c) xs) → (x : ℕ) → IsIn x xs → IsTrue (expands u x)
@@ -78,27 +77,14 @@ module _ (g : Grammar) (u : View) (c : CyclesSeen) where
       subst (λ z. IsOpenRoute g u m (step_on c z ∷ map (step_on c) xs)) (sym f.0) (o, st.head, rest)
 
 module _ (g : Grammar) (c : CyclesSeen) (wf : IsWellFormed g) (lin : IsLinear g) (cs : AreCyclesOf g c) where
-  -- the table has the continuing step of each module on a cycle
-  step_told : (m : ℕ) → IsOnCycle g m → Continues g m (step_on c m)
-  step_told m on = go (get_or c.on m None) refl
-    where
-      go : (o : Option OnSeen) → get_or c.on m None ≡ o → Continues g m (step_on c m)
-      go None e = absurd (cs.on_none m (continues_below g wf m on.0 on.1) e on)
-      go (Some o) e = subst (λ z. Continues g m (step_by z)) (sym e) (cs.on_one m o e).step
-
   module _ (k : ℕ) (h : k < length c.rounds) where
     first_module : ℕ
     first_module = get_or (round_at c k) 0 0
 
-    pub place_continues : (i : ℕ) → i < length (round_at c k) → Continues g (module_on c k i) (step_on c (module_on c k i))
-    unfolding first_module
+    place_continues : (i : ℕ) → i < length (round_at c k) → Continues g (module_on c k i) (step_on c (module_on c k i))
     place_continues i l =
-        let r = cs.rounds k h in
-        step_told (module_on c k i) (walk_on_cycle g (walks_back g (by_walk g i first_module (module_on c k i) (r.places i l).0)) (first_on (length (round_at c k)) r.whole.0 r.whole.1))
-      where
-        first_on : (n : ℕ) → 0 < n → GoesOnBy g n first_module first_module → IsOnCycle g first_module
-        first_on zero s w = absurd (omega arith)
-        first_on (suc n) s w = (w.1.0, w.1.1)
+        let o = place_told g c wf lin cs k i h l in
+        continuing_is g (module_on c k i) (step_on c (module_on c k i)) (o.2 ∙ ap (λ z. Some (step_by z)) (sym o.1))
 
     goes_next : (i : ℕ) → i < length (round_at c k) → GoesOnBy g (suc i) first_module (target_of g (step_on c (module_on c k i)))
     unfolding first_module
@@ -131,19 +117,6 @@ module _ (g : Grammar) (c : CyclesSeen) (wf : IsWellFormed g) (lin : IsLinear g)
       turned_follows : Follow g c (module_on c k j) (drop j (round_at c k) ++ take j (round_at c k)) (module_on c k j)
       turned_follows = follow_append g c (module_on c k j) first_module (module_on c k j) (drop j (round_at c k)) (take j (round_at c k)) parts_follow.1 parts_follow.0
 
-      -- the steps of one round from the place on lead back to it
-      pub turned_round : IsRound g (module_on c k j) (round_from c k j)
-      turned_round = let r = follow_continue g c (module_on c k j) (module_on c k j) (drop j (round_at c k) ++ take j (round_at c k)) turned_follows in record { continuing = r.0; back = r.1 }
-
-      pub length-turned : length (round_from c k j) ≡ length (round_at c k)
-      length-turned =
-          let round = round_at c k in
-          let a = length-map (drop j round ++ take j round) (step_on c) in
-          let b = length-append (drop j round) (take j round) in
-          let d = length-drop j round in
-          let t = length-take j round in
-          omega arith
-
       turned_in : (x : ℕ) → IsIn x (drop j (round_at c k) ++ take j (round_at c k)) → IsIn x (round_at c k)
       turned_in x i =
           let round = round_at c k in
@@ -156,34 +129,22 @@ module _ (g : Grammar) (c : CyclesSeen) (wf : IsWellFormed g) (lin : IsLinear g)
 
       -- no fewer steps lead back to the place
       turned_least : (n : ℕ) → 0 < n → n < length (round_from c k j) → module_along g (module_on c k j) (take n (round_from c k j)) ≢ module_on c k j
-      unfolding first_module
       turned_least n some few back =
-          let round = round_at c k in
           let m = module_on c k j in
-          let whole = (cs.rounds k h).whole in
           let steps = take n (round_from c k j) in
-          let gone = steps_go g m steps (continuing_take g m n (round_from c k j) turned_round.continuing) in
           let many : length steps ≡ n = length-take-le n (round_from c k j) (omega arith) in
-          let again : GoesOnBy g n m m = subst (λ z. GoesOnBy g n m z) back (subst (λ z. GoesOnBy g z m (module_along g m steps)) many gone) in
-          let there = ((cs.rounds k h).places j l).0 in
-          let f = follow_continue g c m first_module (drop j round) parts_follow.1 in
-          let home = subst (GoesOnBy g (length (map (step_on c) (drop j round))) m) f.1 (steps_go g m (map (step_on c) (drop j round)) f.0) in
-          let r = length (map (step_on c) (drop j round)) in
-          let lr = length-map (drop j round) (step_on c) in
-          let ld = length-drop j round in
-          let lt = length-turned in
-          let total : (j + n) + r ≡ length round + n = omega arith in
-          let around = subst (λ z. GoesOnBy g z first_module first_module) total (by_join g (j + n) r first_module m first_module (by_join g j n first_module m m there again) home) in
-          let less = whole.2 n some (by_after g lin (length round) n first_module first_module first_module whole.1 around) in
+          let led = along_after g wf lin m steps (continuing_take g m n (round_from c k j) (gone_round g c wf lin cs k j h l).continuing) ∙ ap (λ z. after g z m) many in
+          let whole = place_back_least g c wf lin cs k j n h l some (sym led ∙ back) in
+          let e = length-round c k j l in
           absurd (omega arith)
 
       module _ (u : View) where
         -- a cycle that is expanded whole, and seen at the place, can be gone round from there
         pub whole_round : IsSeenModule g u (module_on c k j) → ((x : ℕ) → IsIn x (round_at c k) → IsTrue (expands u x)) → IsOnceRound g u (module_on c k j) (round_from c k j)
         whole_round seen all =
-            let lt = length-turned in
+            let lt = length-round c k j l in
             record {
-              goes_round = turned_round;
+              goes_round = gone_round g c wf lin cs k j h l;
               some = omega arith;
               least = turned_least;
               open_route = expanded_open g u c (module_on c k j) (module_on c k j) (drop j (round_at c k) ++ take j (round_at c k)) turned_follows seen (λ x i. all x (turned_in x i));

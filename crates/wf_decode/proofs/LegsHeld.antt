@@ -1,5 +1,5 @@
 -- Where the steps of held legs are open, the legs can be gone, and none of them is longer than a cycle.
-use Rattle.std.proofs.Common.{◌≡◌, ℕ, ◌^◌, ◌<◌, ◌≤◌, ◌⊎◌, IsTrue, Bool, true, false, not, cond, List, [], ◌∷◌, ◌++◌, length, take, refl, sym, ap, ◌∙◌, subst, ⊎_elim, arith, true≢false}
+use Rattle.std.proofs.Common.{◌≡◌, ℕ, ◌^◌, ◌<◌, ◌≤◌, IsTrue, Bool, true, false, not, cond, List, [], ◌∷◌, ◌++◌, length, take, refl, sym, ap, ◌∙◌, subst, ⊎_elim, arith, true≢false}
 use Rattle.std.proofs.lemmas.Bool.{cases_Bool, cases_lt}
 use Rattle.std.proofs.lemmas.List.{length-take-le}
 use Rattle.wf_model.specs.Lists.{IsIn, some}
@@ -20,7 +20,9 @@ use Rattle.wf_vlabel.specs.Seen.{ViewLabelSeen, IsLabelOfView, IsViewLabel, is_e
 use Rattle.wf_decode.specs.declared.leg.Leg.{Leg as LegHeld}
 use Rattle.wf_decode.specs.declared.leg.Leg.TheVariants.{Into as IntoHeld, Chain as ChainHeld}
 use Rattle.wf_decode.specs.HeldLegs.{module_on, round_from, chain_from, is_whole, legs_of, held_steps, StandsOn, AreHeld}
-use Rattle.wf_decode.proofs.CycleRounds.{turned_round, length-turned, whole_round, round_whole}
+use Rattle.wf_decode.proofs.CycleRounds.{whole_round, round_whole}
+use Rattle.wf_decode.proofs.ChainSteps.{length-round}
+use Rattle.wf_decode.proofs.HeldRounds.{gone_round}
 
 -- steps that are open can be cut in two
 pub open_split : (g : Grammar) (u : View) (m : ℕ) (a b : List Step) → IsOpenRoute g u m (a ++ b) → IsOpenRoute g u m a × IsOpenRoute g u (module_along g m a) b
@@ -35,10 +37,10 @@ either_steps false m x = refl
 module _ (l : ViewLabelSeen) (is : IsViewLabel l) where
   -- the steps once round from a place
   pub held_round : (m k j : ℕ) → StandsOn l m k j → IsRound l.grammar m (round_from l.cycles k j)
-  held_round m k j s = subst (λ z. IsRound l.grammar z (round_from l.cycles k j)) s.is (turned_round l.grammar l.cycles is.formed is.linear is.cycles_are k s.cycle j s.place)
+  held_round m k j s = subst (λ z. IsRound l.grammar z (round_from l.cycles k j)) s.is (gone_round l.grammar l.cycles is.formed is.linear is.cycles_are k j s.cycle s.place)
 
   length-held : (m k j : ℕ) → StandsOn l m k j → length (round_from l.cycles k j) ≡ length (round_at l.cycles k)
-  length-held m k j s = length-turned l.grammar l.cycles is.formed is.linear is.cycles_are k s.cycle j s.place
+  length-held m k j s = length-round l.cycles k j s.place
 
   pub held_some : (m k j : ℕ) → StandsOn l m k j → 0 < length (round_from l.cycles k j)
   held_some m k j s = let e = length-held m k j s in let p = s.place in omega arith

@@ -1,5 +1,6 @@
 -- What is left of legs after continuing steps and one step more.
-use Rattle.std.proofs.Common.{◌≡◌, ℕ, ◌+◌, ◌%◌, ◌<◌, ◌≤◌, Bool, true, false, cond, List, [], ◌∷◌, ◌++◌, length, get_or, drop, refl, sym, ap, ◌∙◌, subst, arith, append_assoc, true≢false}
+use Rattle.std.proofs.Common.{◌≡◌, ℕ, ◌+◌, ◌%◌, ◌<◌, ◌≤◌, Bool, true, false, cond, List, [], ◌∷◌, ◌++◌, length, get_or, drop, Some, refl, sym, ap, ◌∙◌, subst, arith, append_assoc, true≢false}
+use Rattle.label_model.specs.Continuing.{continuing}
 use Rattle.std.proofs.lemmas.List.{drop_more}
 use Rattle.wf_model.specs.declared.body.Step.{Step as StepHeld}
 use Rattle.wf_model.specs.Reach.{Step, target_of, module_along}
@@ -12,9 +13,11 @@ use Rattle.decode_model.proofs.Rounds.{module_along-append}
 use Rattle.wf_vlabel.specs.Seen.{ViewLabelSeen, IsViewLabel}
 use Rattle.wf_decode.specs.declared.leg.Leg.{Leg as LegHeld}
 use Rattle.wf_decode.specs.declared.leg.Leg.TheVariants.{Into as IntoHeld, Chain as ChainHeld}
-use Rattle.wf_decode.specs.HeldLegs.{AreHeld, StandsOn, step_on, module_on, round_from, chain_from, is_whole, leg_of, legs_of, held_steps}
+use Rattle.wf_decode.specs.HeldLegs.{AreHeld, StandsOn, step_by, step_on, module_on, round_from, chain_from, is_whole, leg_of, legs_of, held_steps}
 use Rattle.wf_decode.specs.LegsAfter.{AreLeftAfter}
-use Rattle.wf_decode.proofs.CycleChains.{length-round_from, chain_continues, length-chain, step_to, chain_split}
+use Rattle.wf_decode.proofs.CycleChains.{chain_continues, chain_split}
+use Rattle.wf_decode.proofs.ChainSteps.{length-round, length-chain}
+use Rattle.wf_recur.proofs.Places.{place_told, place_next}
 
 -- what is left of what is left of a chain
 chain_left : (a : List Leg) (m n c k : ℕ) (round turned : List Step) (legs : List Leg) → IsLeft a (Chain n turned k ∷ legs) → length turned ≡ length round → k ≤ c → IsLeft a (Chain m round c ∷ legs)
@@ -61,7 +64,7 @@ module _ (l : ViewLabelSeen) (label : IsViewLabel l) where
       (chain_continues l.grammar l.cycles label.formed label.linear label.cycles_are k.0 j n h.cycle h.place)
 
   many : (m : ℕ) (k : CycleNo) (j n : ℕ) → StandsOn l m k.0 j → length (leg_steps (chain_from l.cycles k.0 j n)) ≡ n
-  many m k j n h = length-chain l.grammar l.cycles label.formed label.linear label.cycles_are k.0 j n h.cycle h.place
+  many m k j n h = length-chain l.cycles k.0 j h.place n
 
   -- after a chain and a step
   pub chain_into_left : (m : ℕ) (k : CycleNo) (j n : ℕ) (s : StepHeld) (legs : List LegHeld) → AreHeld l m false (ChainHeld k j n ∷ (IntoHeld s ∷ legs)) →
@@ -91,7 +94,9 @@ module _ (l : ViewLabelSeen) (label : IsViewLabel l) where
       let place = stands.place in
       let ql : q < length (round_at t k.0) = omega (arith, at) in
       let wl : w < length (round_at t k.0) = omega (arith, next) in
-      let to = step_to g t label.formed label.linear label.cycles_are k.0 q w stands.cycle ql next in
+      let o = place_told g t label.formed label.linear label.cycles_are k.0 q stands.cycle ql in
+      let told : continuing g (module_on t k.0 q) ≡ Some s = o.2 ∙ ap (λ z. Some (step_by z)) (sym o.1) in
+      let to : target_of g s ≡ module_on t k.0 w = place_next g t label.formed label.linear label.cycles_are k.0 q s stands.cycle ql told ∙ ap (module_on t k.0) (sym next) in
       let split : leg_steps (chain_from t k.0 j c) ≡ a ++ s ∷ b =
       ap (λ z. leg_steps (chain_from t k.0 j z)) count ∙ chain_split g t label.formed label.linear label.cycles_are k.0 j n r q w stands.cycle stands.place at next in
       let few = h.2 in
@@ -107,7 +112,7 @@ module _ (l : ViewLabelSeen) (label : IsViewLabel l) where
             ∙ ap (λ z. a ++ s ∷ (z ++ held_steps l legs)) (sym (leg_steps-chain l k w r));
         held = subst (λ z. AreHeld l z false (ChainHeld k w r ∷ legs)) (sym (module_along-append g m a (s ∷ []))) held;
         left = left_if (is_whole l k.0) (module_on t k.0 j) (module_on t k.0 w) c r (round_from t k.0 j) (round_from t k.0 w) (a ++ s ∷ []) b (leg_steps (chain_from t k.0 j c)) (legs_of l legs)
-            (length-round_from g t label.formed label.linear label.cycles_are k.0 w wl ∙ sym (length-round_from g t label.formed label.linear label.cycles_are k.0 j place))
+            (length-round t k.0 w wl ∙ sym (length-round t k.0 j place))
             (omega (arith, count)) (split ∙ sym (append_assoc a (s ∷ []) b));
       }
 

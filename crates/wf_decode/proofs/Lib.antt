@@ -4,7 +4,6 @@ pub mod PlacesRead
 pub mod CommonSteps
 pub mod Progressing
 pub mod ChainSteps
-pub mod CyclePlaces
 pub mod WholeCycles
 pub mod OpenLegs
 pub mod ChainRows

@@ -1,5 +1,5 @@
 -- Marks of a label that are taken, one after another.
-use Rattle.std.proofs.Common.{◌≡◌, ℕ, ◌+◌, ◌^◌, ◌<◌, Bool, true, false, cond, List, [], ◌∷◌, ◌++◌, length, take, drop, refl, sym, ap, ◌∙◌, subst, inl, inr, arith, append_assoc, append-nil, length-take}
+use Rattle.std.proofs.Common.{◌≡◌, ℕ, ◌^◌, ◌<◌, Bool, true, false, cond, List, [], ◌∷◌, ◌++◌, length, take, drop, refl, sym, ap, ◌∙◌, subst, inl, inr, arith, append_assoc, append-nil, length-take}
 use Rattle.std.proofs.lemmas.List.{take-append-drop}
 use Rattle.wf_model.specs.declared.body.Step.{Step as StepHeld}
 use Rattle.wf_model.specs.Grammar.{Grammar, head_of, body_of}
@@ -12,7 +12,7 @@ use Rattle.wf_recur.specs.Cycles.{step_of}
 use Rattle.wf_label.specs.Marks.{Mark, Chain, Into, End}
 use Rattle.decode_model.specs.Matrices.{IsOpenStep, IsOpenRoute}
 use Rattle.decode_model.specs.Legs.{Leg, Part, leg_steps}
-use Rattle.decode_model.proofs.Rounds.{continuing_take, module_along-append}
+use Rattle.decode_model.proofs.Rounds.{along_after, continuing_take, module_along-append}
 use Rattle.decode_model.proofs.SeenLegs.{route_seen, open_append}
 use Rattle.verdict_model.specs.Telling.{Tells}
 use Rattle.verdict_model.specs.Verdicts.{IsHidden}
@@ -24,7 +24,7 @@ use Rattle.wf_decode.specs.declared.leg.Leg.TheVariants.{Into as IntoHeld, Chain
 use Rattle.wf_decode.specs.HeldLegs.{module_on, chain_from, is_whole, leg_of, held_steps, AreHeld}
 use Rattle.wf_decode.specs.Reading.{IsEdgeTold}
 use Rattle.wf_decode.specs.Marking.{AreMarksTo, IsReadTo, IsCutWithin, IsChainHeld}
-use Rattle.wf_decode.proofs.Chains.{after_along, open_chain}
+use Rattle.wf_decode.proofs.Chains.{open_chain}
 use Rattle.wf_decode.proofs.HeldRounds.{chain_steps}
 
 -- a way passes each of its beginnings
@@ -76,7 +76,7 @@ module _ (l : ViewLabelSeen) (u : View) (label : IsViewLabel l) (of_view : IsLab
         let many : length part ≡ n = omega (arith, length-take n chain, r.ahead.2.4, cut.1) in
         let goes = continuing_take g m n chain r.ahead.2.3 in
         let to : module_along g g.start (r.gone ++ part) ≡ after g n m =
-        module_along-append g g.start r.gone part ∙ (ap (λ z. module_along g z part) r.at ∙ (sym (after_along g label.formed label.linear m part goes) ∙ ap (λ z. after g z m) many)) in
+        module_along-append g g.start r.gone part ∙ (ap (λ z. module_along g z part) r.at ∙ ((along_after g label.formed label.linear m part goes) ∙ ap (λ z. after g z m) many)) in
         hidden_at x r.address r.production r.edge r.tells (r.gone ++ part) (drop n chain ++ rest) (r.parts ∙ (ap (λ z. r.gone ++ z) r.ahead.2.2 ∙ split_at r.gone chain rest n)) (ap (is_expanded l) to ∙ cut.2)
 
     -- continuing steps are taken
@@ -89,7 +89,7 @@ module _ (l : ViewLabelSeen) (u : View) (label : IsViewLabel l) (of_view : IsLab
         let rest = r.ahead.2.1 in
         let goes = r.ahead.2.3 in
         let same = chain_steps g l.cycles label.formed label.linear label.cycles_are o.0 j h.0.cycle h.0.place m n chain h.0.is goes (r.ahead.2.4 ∙ sym h.1) in
-        let to : module_along g m chain ≡ k = sym (after_along g label.formed label.linear m chain goes) ∙ (ap (λ z. after g z m) r.ahead.2.4 ∙ sym h.2.to) in
+        let to : module_along g m chain ≡ k = (along_after g label.formed label.linear m chain goes) ∙ (ap (λ z. after g z m) r.ahead.2.4 ∙ sym h.2.to) in
         let few : n < 2 ^ 24 = subst (λ z. z < 2 ^ 24) (sym h.1) low in
         let open_steps = open_chain g label.formed label.linear u m chain goes (seen (Chain c ∷ marks) r) (λ i small. of_view.expanded (after g i m) ∙ h.2.expanded i (omega (arith, r.ahead.2.4, small))) in
         record {

@@ -17,7 +17,7 @@ use Rattle.wf_vlabel.specs.Seen.{ViewLabelSeen, IsViewLabel}
 use Rattle.wf_decode.specs.declared.leg.Leg.{Leg as LegHeld}
 use Rattle.wf_decode.specs.declared.leg.Leg.TheVariants.{Into as IntoHeld, Chain as ChainHeld}
 use Rattle.wf_decode.specs.HeldLegs.{module_on, round_from, chain_from, is_whole, legs_of, StandsOn, AreHeld}
-use Rattle.wf_decode.proofs.CycleRounds.{place_continues}
+use Rattle.wf_recur.proofs.Places.{place_on_cycle}
 use Rattle.wf_decode.proofs.LegsHeld.{held_round, held_some}
 
 -- continuing steps lead to a module that derives the first and is derived by it
@@ -43,7 +43,7 @@ module _ (l : ViewLabelSeen) (is : IsViewLabel l) where
   goes_off m s off c = off ((continuing_law l.grammar is.formed is.linear m s).1 c)
 
   stands_on_cycle : (m k j : ℕ) → StandsOn l m k j → IsOnCycle l.grammar m
-  stands_on_cycle m k j s = subst (IsOnCycle l.grammar) s.is (_, place_continues l.grammar l.cycles is.formed is.linear is.cycles_are k s.cycle j s.place)
+  stands_on_cycle m k j s = subst (IsOnCycle l.grammar) s.is (place_on_cycle l.grammar l.cycles is.cycles_are k j s.cycle s.place)
 
   -- legs of an address, which is not empty, are legs of a place
   pub place_held : (m : ℕ) (x : LegHeld) (legs : List LegHeld) → AreHeld l m false (x ∷ legs) → IsLegsOfPlace l.grammar m (legs_of l (x ∷ legs))

@@ -6,7 +6,8 @@ use Rattle.wf_vlabel.specs.Seen.{ViewLabelSeen, IsViewLabel}
 use Rattle.wf_decode.specs.declared.leg.Leg.{Leg as LegHeld}
 use Rattle.wf_decode.specs.declared.leg.Leg.TheVariants.{Chain as ChainHeld}
 use Rattle.wf_decode.specs.HeldLegs.{AreHeld, StandsOn, step_by, step_on, module_on}
-use Rattle.wf_decode.proofs.CycleChains.{place_below, place_told}
+use Rattle.wf_recur.proofs.Places.{place_below, place_told}
+use Rattle.std.proofs.lemmas.Option.{none-some}
 use Rattle.wf_decode.proofs.LegsLeft.{drop_at}
 
 -- the module from which legs lead stands at the place of the chain that comes first
@@ -30,12 +31,12 @@ module _ (l : ViewLabelSeen) (label : IsViewLabel l) (t : CyclesSeen) (same : t 
   pub read_below : m < length t.on
   read_below =
       subst (λ (z : CyclesSeen). m < length z.on) (sym same)
-      (subst (λ z. z < length l.cycles.on) (sym module_read) (place_below l.grammar l.cycles label.formed label.linear label.cycles_are k ((j + n) % many) cycle place_within))
+      (subst (λ z. z < length l.cycles.on) (sym module_read) (subst (λ z. module_on l.cycles k ((j + n) % many) < z) (sym label.cycles_are.one_each) (place_below l.grammar l.cycles label.cycles_are label.formed k ((j + n) % many) cycle place_within)))
 
   pub read_told : get_or t.on m None ≢ None
   read_told e =
-      place_told l.grammar l.cycles label.formed label.linear label.cycles_are k ((j + n) % many) cycle place_within
-      (ap (λ z. get_or l.cycles.on z None) (sym module_read) ∙ ap (λ (z : CyclesSeen). get_or z.on m None) (sym same) ∙ e)
+      let o = place_told l.grammar l.cycles label.formed label.linear label.cycles_are k ((j + n) % many) cycle place_within in
+      none-some o.0 (sym e ∙ ap (λ (z : CyclesSeen). get_or z.on m None) same ∙ ap (λ z. get_or l.cycles.on z None) module_read ∙ o.1)
 
   pub read_step : (o : OnSeen) → get_or t.on m None ≡ Some o → step_on l.cycles (module_on l.cycles k ((j + n) % many)) ≡ o.step
   read_step o e = ap (step_on l.cycles) (sym module_read) ∙ ap (λ (z : CyclesSeen). step_on z m) (sym same) ∙ ap step_by e

@@ -8,7 +8,7 @@ use Rattle.wf_recur.specs.Cycles.{round_at}
 use Rattle.wf_vlabel.specs.Cuts.{IsCut}
 use Rattle.wf_vlabel.specs.Seen.{ViewLabelSeen, IsViewLabel, is_expanded}
 use Rattle.wf_decode.specs.HeldLegs.{module_on, is_whole}
-use Rattle.wf_decode.proofs.CyclePlaces.{after_on}
+use Rattle.wf_recur.proofs.Places.{place_after}
 
 not_true : (b : Bool) → IsTrue b → not b ≡ true → ⊥
 not_true true h e = true≢false (sym e)
@@ -24,7 +24,7 @@ module _ (l : ViewLabelSeen) (is : IsViewLabel l) (k j : ℕ) (h : k < length l.
   place_met p low =
       let n = length (round_at l.cycles k) in
       let e : j + (p + n - j) ≡ p + n = omega arith in
-      after_on l.grammar l.cycles k j (p + n - j) is.formed is.linear is.cycles_are h i ∙
+      place_after l.grammar l.cycles is.formed is.linear is.cycles_are k j (p + n - j) h i ∙
       ap (module_on l.cycles k) (ap (λ z. z % n) e ∙ (add-mod_right p n ∙ mod-eq_of_lt low))
 
   -- no module is left out
@@ -44,7 +44,7 @@ module _ (l : ViewLabelSeen) (is : IsViewLabel l) (k j : ℕ) (h : k < length l.
       let round = round_at l.cycles k in
       let at = (j + n) % length round in
       let low : at < length round = mod-lt (j + n) (omega arith) in
-      let e = after_on l.grammar l.cycles k j n is.formed is.linear is.cycles_are h i in
+      let e = place_after l.grammar l.cycles is.formed is.linear is.cycles_are k j n h i in
       let m = module_on l.cycles k at in
       ap not (some_from (λ z. not (is_expanded l z)) m round (at_in m at round (is_at at round 0 low)) (ap not (ap (is_expanded l) (sym e) ∙ cut.0)))
 

@@ -1,9 +1,9 @@
 use Rattle.std.proofs.Common.{◌≡◌, ◌<◌, ◌≤◌, ◌+◌, ◌%◌, ℕ, IsTrue, refl, length, get_or, None, sym, ap, ◌∙◌, subst, arith}
 use Rattle.label_model.specs.Continuing.{after}
-use Rattle.wf_label.proofs.ByTable.{stands_told, after_below}
 use Rattle.wf_recur.specs.Cycles.{on_of, round_at, StandsAt}
 use Rattle.wf_vlabel.specs.Seen.{is_expanded}
-use Rattle.wf_decode.proofs.HeldRounds.{place_after}
+use Rattle.wf_recur.proofs.Places.{after_below, stands_somewhere, place_after}
+use Rattle.std.proofs.lemmas.Option.{none-some}
 use Rattle.wf_decode.proofs.read.chain_leg.Goals as goal
 use Rattle.wf_decode.proofs.read.chain_leg.Goals.{In_ok-on, After-at, in-Some+else-n-count, in_default}
 
@@ -23,7 +23,7 @@ leads c s =
     c.at.ensures ∙
     (ap (λ n. get_or (round_at c.cycles-cycles.result.now on.cycle.0) ((on.place + c.args.count) % n) 0) c.length-length.ensures ∙
     (ap (λ t. get_or (round_at t on.cycle.0) ((on.place + c.args.count) % length (round_at t on.cycle.0)) 0) t ∙
-    (sym (place_after l.grammar l.cycles label.formed label.linear label.cycles_are on.cycle.0 on.place s.cycle s.place c.args.count) ∙ ap (after l.grammar c.args.count) s.is)))
+    (sym (place_after l.grammar l.cycles label.formed label.linear label.cycles_are on.cycle.0 on.place c.args.count s.cycle s.place) ∙ ap (after l.grammar c.args.count) s.is)))
 
 -- no step on the way leads to a module that is not expanded
 expanded : (c : After-at) → StandsAt c.args.vl.now.grammar c.args.vl.now.cycles c.args.at.0 (on_of c.in_ok-on.on) → (n : ℕ) → n ≤ c.args.count → IsTrue (is_expanded c.args.vl.now (after c.args.vl.now.grammar n c.args.at.0))
@@ -36,7 +36,8 @@ pub returns-in_err-on-clause-leg : goal.returns-in_err-on-clause-leg
 returns-in_err-on-clause-leg c =
     let l = c.args.vl.now in
     let label = c.cycles-cycles.ensures.label in
-    absurd (stands_told l.grammar l.cycles c.args.at.0 label.cycles_are c.requires.module_no c.requires.on_cycle (ap (λ t. get_or t.on c.args.at.0 None) (sym c.cycles-cycles.ensures.cycles) ∙ sym (c.in_err-on.ensures)))
+    let o = stands_somewhere l.grammar l.cycles label.cycles_are c.args.at.0 c.requires.module_no c.requires.on_cycle in
+    absurd (none-some o.0 (c.in_err-on.ensures ∙ ap (λ t. get_or t.on c.args.at.0 None) c.cycles-cycles.ensures.cycles ∙ o.1))
 
 pub cut-requires-clause-cycle : goal.cut-requires-clause-cycle
 cut-requires-clause-cycle c = (stands (goal.at.cut-requires-clause-cycle c).In_ok-on).cycle

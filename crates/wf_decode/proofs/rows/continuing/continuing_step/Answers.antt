@@ -1,9 +1,10 @@
 use Rattle.std.proofs.Common.{◌≡◌, ◌<◌, ◌%◌, ◌+◌, ℕ, Option, Some, None, length, get_or, arith, ap, ◌∙◌, sym}
 use Rattle.std.proofs.Math.Nat.{mod-lt}
 use Rattle.wf_model.specs.Linear.{Continues}
+use Rattle.label_model.proofs.ContinuingSteps.{continuing_is}
 use Rattle.wf_recur.specs.Cycles.{OnSeen, CyclesSeen, on_of, round_at}
 use Rattle.wf_decode.specs.HeldLegs.{module_on, step_by}
-use Rattle.wf_decode.proofs.CyclePlaces.{place_below, place_step}
+use Rattle.wf_recur.proofs.Places.{place_below, place_told}
 use Rattle.wf_decode.proofs.rows.continuing.continuing_step.Goals as goal
 use Rattle.wf_decode.proofs.rows.continuing.continuing_step.Goals.{After-at}
 
@@ -28,14 +29,16 @@ table_step c o e =
     let l = c.args.vl.now in
     let label = c.cycles-cycles.ensures.label in
     let same = e ∙ (ap (λ (t : CyclesSeen). get_or t.on c.at.result.0 None) c.cycles-cycles.ensures.cycles ∙ ap (λ m. get_or l.cycles.on m None) (module_is c)) in
-    place_step l.grammar l.cycles c.args.cycle.0 (at c) label.formed label.cycles_are c.requires.cycle (within c) o (sym same)
+    let m = module_on l.cycles c.args.cycle.0 (at c) in
+    let q = place_told l.grammar l.cycles label.formed label.linear label.cycles_are c.args.cycle.0 (at c) c.requires.cycle (within c) in
+    continuing_is l.grammar m (step_by o) (q.2 ∙ ap (λ z. Some (step_by z)) (sym q.1 ∙ sym same))
 
 -- src/rows/continuing.rt:29:11
 pub on-requires : goal.on-requires
 on-requires c =
     let l = c.args.vl.now in
     let label = c.cycles-cycles.ensures.label in
-    let below = place_below l.grammar l.cycles c.args.cycle.0 (at c) label.formed label.cycles_are c.requires.cycle (within c) in
+    let below = place_below l.grammar l.cycles label.cycles_are label.formed c.args.cycle.0 (at c) c.requires.cycle (within c) in
     let each = ap (λ (t : CyclesSeen). length t.on) c.cycles-cycles.ensures.cycles ∙ label.cycles_are.one_each in
     let is = module_is c in
     omega arith
