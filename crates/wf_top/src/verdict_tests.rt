@@ -1,12 +1,20 @@
 // Verdicts on labels of four grammars, each worked by hand or by another program. The chain numbers reach the greatest, 2^24 - 1.
 use super::Status::Done;
 use super::*;
+use crate::spec::spec_stage;
 use crate::tests::{PAIR, contents, name, words};
+use crate::verdict::decided;
+use crate::view::view_stage;
 use crate::view_tests::TWISTING;
 use std::alloc::{AllocError, Global};
+use std::marker::Brand;
+use std::sync::ledger::Blank;
 use std::test::Fail;
+use wf_decode::{Scratch, Verdict};
 use wf_io::{MemFile, MemShelf, MemSink};
+use wf_label::LabelRef;
 use wf_model::Seq;
+use wf_vlabel::ViewLabel;
 
 /// An S is done by an A. An A is done by a V, a B and a V again, a B by a W, an A and a W again, and each of the two by a T. V exchanges its first two ports, W its last two, and T keeps them: so the order of the steps tells.
 const ROTATING: &str =
@@ -69,14 +77,18 @@ fn file(alloc: Global, called: &str, text: &str) -> Result<MemFile, AllocError> 
     })
 }
 
+fn shelf(alloc: Global, spec: &str, view: &str) -> Result<MemShelf, AllocError> {
+    let mut files = Vec::new(alloc);
+    files.push(file(alloc, "spec", spec)?)?;
+    files.push(file(alloc, "view", view)?)?;
+    Ok(MemShelf::new(Seq::from_vec(files), 1024))
+}
+
 #[test]
 fn labels_have_verdicts(rt: HostRuntime) -> Result<(), Fail> {
     let alloc = rt.alloc();
     for (spec, view, first, second, text) in ROWS {
-        let mut files = Vec::new(alloc);
-        files.push(file(alloc, "spec", spec)?)?;
-        files.push(file(alloc, "view", view)?)?;
-        let mut shelf = MemShelf::new(Seq::from_vec(files), 1024);
+        let mut shelf = shelf(alloc, spec, view)?;
         let mut out = MemSink::new(alloc, 16)?;
         let mut err = MemSink::new(alloc, 16)?;
         let mut called = words(alloc, "decide spec view")?;
@@ -86,6 +98,41 @@ fn labels_have_verdicts(rt: HostRuntime) -> Result<(), Fail> {
         assert_eq!(rt; got, Done, "at {first:?} {second:?}");
         assert_eq!(rt; out.bytes(), text.as_bytes(), "at {first:?} {second:?}");
         assert_eq!(rt; err.bytes(), b"".as_slice(), "at {first:?} {second:?}");
+    }
+    Ok(())
+}
+
+/// The label of an item after 16,777,215 repetitions.
+const LONGEST: [u8; 7] = [0xf0, 0x00, 0x00, 0x08, 0x00, 0x00, 0x03];
+
+// A decoder that walks chains would take more than 10^11 steps here.
+#[test]
+fn long_chains_are_not_walked(rt: HostRuntime) -> Result<(), Fail> {
+    let alloc = rt.alloc();
+    let mut shelf = shelf(alloc, TWISTING, "{}")?;
+    let Ok(spec) = spec_stage(alloc, &mut shelf, "spec") else {
+        return Err(Fail::new("a specification"));
+    };
+    let Ok(viewed) = view_stage(alloc, &mut shelf, "view", spec) else {
+        return Err(Fail::new("a view"));
+    };
+    let label = ViewLabel::build(
+        alloc,
+        &viewed.grammar,
+        &viewed.cycles,
+        &viewed.view,
+        &viewed.full,
+    )?;
+    let mut scratch = Scratch::for_view(alloc, &label)?;
+    for _turn in 0..10_000 {
+        let Ok(first) = LabelRef::check(&viewed.grammar, &viewed.cycles, &[0x20]) else {
+            return Err(Fail::new("the label of an input"));
+        };
+        let Ok(second) = LabelRef::check(&viewed.grammar, &viewed.cycles, &LONGEST) else {
+            return Err(Fail::new("the label of a chain"));
+        };
+        let verdict = decided::<Brand>(Blank::new(1), &label, &mut scratch, first, second);
+        assert_eq!(rt; verdict, Verdict::Yes);
     }
     Ok(())
 }
