@@ -1,7 +1,6 @@
 -- The legs of an address as they are held: single steps, and numbers of continuing steps by cycle and place.
 use Rattle.std.specs.Prelude.{◌≡◌, ◌≢◌, ℕ, ◌^◌, ◌<◌, Bool, true, false, not, cond, List, [], ◌∷◌, ◌++◌, map, length, take, drop, get_or, Option, Some, None}
 use Rattle.wf_model.specs.Lists.{some}
-use Rattle.wf_model.specs.Grammar.{Grammar}
 use Rattle.wf_model.specs.Reach.{Step, target_of, module_along}
 use Rattle.wf_model.specs.Linear.{IsStepOf}
 use Rattle.label_model.specs.Continuing.{continuing}

@@ -1,6 +1,6 @@
 -- Where two addresses part.
 use Rattle.std.specs.Prelude.{◌≡◌, ◌≢◌, ℕ, ◌≤◌, false, List, [], ◌∷◌, ◌++◌, length, drop}
-use Rattle.wf_model.specs.Reach.{Step, target_of, module_along}
+use Rattle.wf_model.specs.Reach.{Step, module_along}
 use Rattle.wf_recur.specs.Cycles.{step_of}
 use Rattle.decode_model.specs.Costs.{IsLeft}
 use Rattle.wf_vlabel.specs.Seen.{ViewLabelSeen}

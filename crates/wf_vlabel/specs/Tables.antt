@@ -1,9 +1,8 @@
 -- The matrices of a view in groups: by module those of its pairs, by production those of its body, by module those of its cycle.
-use Rattle.std.specs.Prelude.{◌≡◌, ℕ, ◌+◌, ◌*◌, ◌^◌, ◌<◌, Bool, List, Option, length, get_or, None}
+use Rattle.std.specs.Prelude.{◌≡◌, ℕ, ◌+◌, ◌*◌, ◌^◌, ◌<◌, Bool, List, length}
 use Rattle.bool_mat.specs.Matrix.{Matrix, Power, matrix_at}
 use Rattle.wf_model.specs.Grammar.{Grammar, Assignment, inputs_of, outputs_of, head_of, body_of}
 use Rattle.wf_model.specs.View.{View, expands, IsSeenModule}
-use Rattle.wf_model.specs.Meaning.{pairs_of}
 use Rattle.wf_model.specs.Reach.{Step, target_of, Into, OutOf, Between}
 use Rattle.wf_laws.specs.Splits.{IntoAll, OutAll}
 use Rattle.wf_body.specs.Matrices.{IsMatrixOf, beside}

@@ -1,4 +1,4 @@
-use Rattle.std.proofs.Common.{◌+◌, ◌-◌, [], ◌∷◌, ◌++◌, length, take, drop, get_or, sym, subst, arith}
+use Rattle.std.proofs.Common.{◌-◌, [], ◌∷◌, ◌++◌, length, take, drop, get_or, sym, subst, arith}
 use Rattle.wf_model.specs.Reach.{module_along}
 use Rattle.wf_recur.specs.Cycles.{step_of}
 use Rattle.decode_model.specs.Legs.{way_up, way_down, crossing}
