@@ -22,7 +22,7 @@ use wf_label::LabelRef;
 use wf_vlabel::ViewLabel;
 
 /// The verdict on two labels, with a counter of row products of its own.
-pub(crate) fn decided<L: Ledger>(
+fn decided<L: Ledger>(
     blank: Blank,
     vl: &ViewLabel<'_>,
     scratch: &mut Scratch,
@@ -35,8 +35,7 @@ pub(crate) fn decided<L: Ledger>(
     requires first { AreLabelBits vl.now.grammar first }
     requires second { AreLabelBits vl.now.grammar second }
     requires room { most_legs vl.now.grammar ≤ scratch.old }
-    ensures verdict { (u : ViewSeen) (x y : Label) → IsLabelOfView vl.now u → IsLabel vl.now.grammar x → IsLabel vl.now.grammar y → first.entry ≡ label_bits x → second.entry ≡ label_bits y → IsVerdict vl.now.grammar u x y result }
-    ensures room { scratch.new ≡ scratch.old }
+    ensures { (u : ViewSeen) (x y : Label) → IsLabelOfView vl.now u → IsLabel vl.now.grammar x → IsLabel vl.now.grammar y → first.entry ≡ label_bits x → second.entry ≡ label_bits y → IsVerdict vl.now.grammar u x y result }
 {
     let mut steps = Steps::<L>::new(blank);
     decide(vl, scratch, first, second, &mut steps)

@@ -3,18 +3,15 @@ use super::Status::Done;
 use super::*;
 use crate::spec::spec_stage;
 use crate::tests::{PAIR, contents, name, words};
-use crate::verdict::decided;
+use crate::verdict::verdict_of;
 use crate::view::view_stage;
 use crate::view_tests::TWISTING;
 use std::alloc::{AllocError, Global};
-use std::marker::Brand;
-use std::sync::ledger::Blank;
 use std::test::Fail;
-use wf_decode::{Scratch, Verdict};
+use wf_decode::Verdict;
 use wf_io::{MemFile, MemShelf, MemSink};
 use wf_label::LabelRef;
 use wf_model::Seq;
-use wf_vlabel::ViewLabel;
 
 /// An S is done by an A. An A is done by a V, a B and a V again, a B by a W, an A and a W again, and each of the two by a T. V exchanges its first two ports, W its last two, and T keeps them: so the order of the steps tells.
 const ROTATING: &str =
@@ -24,55 +21,129 @@ const ROTATING: &str =
 const FORKING: &str =
     r#"{"start":"S","modules":[{"name":"S","in":["a"],"out":["b"]},{"name":"P","in":["x"],"out":["y"]},{"name":"Q","in":["x"],"out":["y"]}],"productions":[{"head":"S","body":[["u","P"],["v","Q"]],"edges":[["u.y","v.x"]],"in":[["a","u.x"]],"out":[["v.y","b"]]},{"head":"S","body":[["u","Q"],["v","P"]],"edges":[["u.y","v.x"]],"in":[["a","u.x"]],"out":[["v.y","b"]]}]}"#;
 
-/// Each line: the specification, the view, the two labels, and the words of the verdict.
-const ROWS: [(&str, &str, &str, &str, &str); 41] = [
-    (TWISTING, "{}", "20", "fb", "no\n"),
-    (TWISTING, "{}", "20", "fa80", "yes\n"),
-    (TWISTING, "{}", "20", "f4c0", "yes\n"),
-    (TWISTING, "{}", "20", "f4a0", "no\n"),
-    (TWISTING, "{}", "fb", "f4a0", "yes\n"),
-    (TWISTING, "{}", "fb", "f4c0", "no\n"),
-    (TWISTING, "{}", "20", "f0000c350b", "no\n"),
-    (TWISTING, "{}", "20", "f0000c350a80", "yes\n"),
-    (TWISTING, "{}", "20", "f0000008000003", "yes\n"),
-    (TWISTING, "{}", "20", "f0000008000002c0", "yes\n"),
-    (TWISTING, "{}", "20", "f000000800000240", "no\n"),
-    (TWISTING, "{}", "f0000008000003", "60", "yes\n"),
-    (TWISTING, "{}", "f0000008000003", "50", "no\n"),
-    (TWISTING, "{}", "fb", "f0000008000002c0", "no\n"),
-    (ROTATING, "{}", "20", "f4b0", "yes\n"),
-    (ROTATING, "{}", "20", "f4a0", "no\n"),
-    (ROTATING, "{}", "20", "f228", "yes\n"),
-    (ROTATING, "{}", "20", "f22c", "no\n"),
-    (ROTATING, "{}", "20", "f000000800000280", "yes\n"),
-    (ROTATING, "{}", "20", "f0000008000002c0", "no\n"),
-    (ROTATING, "{}", "f4c0", "50", "yes\n"),
-    (ROTATING, "{}", "f4c0", "58", "no\n"),
-    (ROTATING, "{}", "f0000008000003", "58", "yes\n"),
-    (ROTATING, "{}", "f0000008000003", "50", "no\n"),
-    (ROTATING, "{}", "f4c0", "f328", "yes\n"),
-    (ROTATING, "{}", "f4c0", "f330", "no\n"),
-    (ROTATING, "{}", "f4c0", "f0000008000002c0", "yes\n"),
-    (FORKING, "{}", "b0", "94", "clash\n"),
-    (FORKING, "{}", "20", "b0", "yes\n"),
-    (FORKING, "{}", "60", "20", "no\n"),
-    (FORKING, r#"{"expand":[]}"#, "b0", "94", "hidden 1\n"),
-    (FORKING, r#"{"expand":[]}"#, "20", "b0", "hidden 2\n"),
-    (FORKING, r#"{"expand":[]}"#, "20", "60", "yes\n"),
-    (FORKING, "{}", "b0", "b0", "no\n"),
-    (PAIR, r#"{"expand":["A"]}"#, "20", "d8", "yes\n"),
-    (PAIR, r#"{"expand":["A"]}"#, "20", "a6", "hidden 2\n"),
-    (PAIR, r#"{"expand":["A"]}"#, "20", "9180", "hidden 2\n"),
+/// Each line: the specification, the view, the words, and the words of the verdict.
+const ROWS: [(&str, &str, &str, &str); 41] = [
+    (TWISTING, "{}", "decide spec view 20 fb", "no\n"),
+    (TWISTING, "{}", "decide spec view 20 fa80", "yes\n"),
+    (TWISTING, "{}", "decide spec view 20 f4c0", "yes\n"),
+    (TWISTING, "{}", "decide spec view 20 f4a0", "no\n"),
+    (TWISTING, "{}", "decide spec view fb f4a0", "yes\n"),
+    (TWISTING, "{}", "decide spec view fb f4c0", "no\n"),
+    (TWISTING, "{}", "decide spec view 20 f0000c350b", "no\n"),
+    (TWISTING, "{}", "decide spec view 20 f0000c350a80", "yes\n"),
+    (
+        TWISTING,
+        "{}",
+        "decide spec view 20 f0000008000003",
+        "yes\n",
+    ),
+    (
+        TWISTING,
+        "{}",
+        "decide spec view 20 f0000008000002c0",
+        "yes\n",
+    ),
+    (
+        TWISTING,
+        "{}",
+        "decide spec view 20 f000000800000240",
+        "no\n",
+    ),
+    (
+        TWISTING,
+        "{}",
+        "decide spec view f0000008000003 60",
+        "yes\n",
+    ),
+    (TWISTING, "{}", "decide spec view f0000008000003 50", "no\n"),
+    (
+        TWISTING,
+        "{}",
+        "decide spec view fb f0000008000002c0",
+        "no\n",
+    ),
+    (ROTATING, "{}", "decide spec view 20 f4b0", "yes\n"),
+    (ROTATING, "{}", "decide spec view 20 f4a0", "no\n"),
+    (ROTATING, "{}", "decide spec view 20 f228", "yes\n"),
+    (ROTATING, "{}", "decide spec view 20 f22c", "no\n"),
+    (
+        ROTATING,
+        "{}",
+        "decide spec view 20 f000000800000280",
+        "yes\n",
+    ),
+    (
+        ROTATING,
+        "{}",
+        "decide spec view 20 f0000008000002c0",
+        "no\n",
+    ),
+    (ROTATING, "{}", "decide spec view f4c0 50", "yes\n"),
+    (ROTATING, "{}", "decide spec view f4c0 58", "no\n"),
+    (
+        ROTATING,
+        "{}",
+        "decide spec view f0000008000003 58",
+        "yes\n",
+    ),
+    (ROTATING, "{}", "decide spec view f0000008000003 50", "no\n"),
+    (ROTATING, "{}", "decide spec view f4c0 f328", "yes\n"),
+    (ROTATING, "{}", "decide spec view f4c0 f330", "no\n"),
+    (
+        ROTATING,
+        "{}",
+        "decide spec view f4c0 f0000008000002c0",
+        "yes\n",
+    ),
+    (FORKING, "{}", "decide spec view b0 94", "clash\n"),
+    (FORKING, "{}", "decide spec view 20 b0", "yes\n"),
+    (FORKING, "{}", "decide spec view 60 20", "no\n"),
+    (
+        FORKING,
+        r#"{"expand":[]}"#,
+        "decide spec view b0 94",
+        "hidden 1\n",
+    ),
+    (
+        FORKING,
+        r#"{"expand":[]}"#,
+        "decide spec view 20 b0",
+        "hidden 2\n",
+    ),
+    (
+        FORKING,
+        r#"{"expand":[]}"#,
+        "decide spec view 20 60",
+        "yes\n",
+    ),
+    (FORKING, "{}", "decide spec view b0 b0", "no\n"),
     (
         PAIR,
         r#"{"expand":["A"]}"#,
-        "20",
-        "800000ffffff60",
+        "decide spec view 20 d8",
+        "yes\n",
+    ),
+    (
+        PAIR,
+        r#"{"expand":["A"]}"#,
+        "decide spec view 20 a6",
         "hidden 2\n",
     ),
-    (PAIR, "{}", "20", "a6", "yes\n"),
-    (PAIR, "{}", "20", "80000040000018", "yes\n"),
-    (PAIR, "{}", "20", "80000f424060", "yes\n"),
+    (
+        PAIR,
+        r#"{"expand":["A"]}"#,
+        "decide spec view 20 9180",
+        "hidden 2\n",
+    ),
+    (
+        PAIR,
+        r#"{"expand":["A"]}"#,
+        "decide spec view 20 800000ffffff60",
+        "hidden 2\n",
+    ),
+    (PAIR, "{}", "decide spec view 20 a6", "yes\n"),
+    (PAIR, "{}", "decide spec view 20 80000040000018", "yes\n"),
+    (PAIR, "{}", "decide spec view 20 80000f424060", "yes\n"),
 ];
 
 fn file(alloc: Global, called: &str, text: &str) -> Result<MemFile, AllocError> {
@@ -93,17 +164,15 @@ fn shelf(alloc: Global, spec: &str, view: &str) -> Result<MemShelf, AllocError> 
 #[test]
 fn labels_have_verdicts(rt: HostRuntime) -> Result<(), Fail> {
     let alloc = rt.alloc();
-    for (spec, view, first, second, text) in ROWS {
+    for (spec, view, line, text) in ROWS {
         let mut shelf = shelf(alloc, spec, view)?;
         let mut out = MemSink::new(alloc, 16)?;
         let mut err = MemSink::new(alloc, 16)?;
-        let mut called = words(alloc, "decide spec view")?;
-        called.push(first)?;
-        called.push(second)?;
-        let got = run(alloc, &called, &mut shelf, &mut out, &mut err);
-        assert_eq!(rt; got, Done, "at {first:?} {second:?}");
-        assert_eq!(rt; out.bytes(), text.as_bytes(), "at {first:?} {second:?}");
-        assert_eq!(rt; err.bytes(), b"".as_slice(), "at {first:?} {second:?}");
+        let words = words(alloc, line)?;
+        let got = run(alloc, &words, &mut shelf, &mut out, &mut err);
+        assert_eq!(rt; got, Done, "at {line:?}");
+        assert_eq!(rt; out.bytes(), text.as_bytes(), "at {line:?}");
+        assert_eq!(rt; err.bytes(), b"".as_slice(), "at {line:?}");
     }
     Ok(())
 }
@@ -122,14 +191,6 @@ fn long_chains_are_not_walked(rt: HostRuntime) -> Result<(), Fail> {
     let Ok(viewed) = view_stage(alloc, &mut shelf, "view", spec) else {
         return Err(Fail::new("a view"));
     };
-    let label = ViewLabel::build(
-        alloc,
-        &viewed.grammar,
-        &viewed.cycles,
-        &viewed.view,
-        &viewed.full,
-    )?;
-    let mut scratch = Scratch::for_view(alloc, &label)?;
     for _turn in 0..10_000 {
         let Ok(first) = LabelRef::check(&viewed.grammar, &viewed.cycles, &[0x20]) else {
             return Err(Fail::new("the label of an input"));
@@ -137,7 +198,9 @@ fn long_chains_are_not_walked(rt: HostRuntime) -> Result<(), Fail> {
         let Ok(second) = LabelRef::check(&viewed.grammar, &viewed.cycles, &LONGEST) else {
             return Err(Fail::new("the label of a chain"));
         };
-        let verdict = decided::<Brand>(Blank::new(1), &label, &mut scratch, first, second);
+        let Ok(verdict) = verdict_of(alloc, &viewed, first, second) else {
+            return Err(Fail::new("memory"));
+        };
         assert_eq!(rt; verdict, Verdict::Yes);
     }
     Ok(())

@@ -9,4 +9,4 @@ pub returns-clause-verdict : goal.returns-clause-verdict
 returns-clause-verdict c x y first second of other =
     let same = c.in-Ok.ensures.grammar in
     subst (λ (g : Grammar). IsVerdict g c.args.v.now.view.core x y c.decided.result) same
-    (c.decided.ensures.verdict c.args.v.now.view.core x y c.in-Ok.ensures.label (subst (λ (g : Grammar). IsLabel g x) (sym same) first) (subst (λ (g : Grammar). IsLabel g y) (sym same) second) of other)
+    (c.decided.ensures c.args.v.now.view.core x y c.in-Ok.ensures.label (subst (λ (g : Grammar). IsLabel g x) (sym same) first) (subst (λ (g : Grammar). IsLabel g y) (sym same) second) of other)
