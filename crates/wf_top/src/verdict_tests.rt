@@ -1,16 +1,11 @@
 // Verdicts on labels of four grammars, each worked by hand or by another program. The chain numbers reach the greatest, 2^24 - 1.
 use super::Status::Done;
 use super::*;
-use crate::spec::spec_stage;
 use crate::tests::{PAIR, contents, name, words};
-use crate::verdict::verdict_of;
-use crate::view::view_stage;
 use crate::view_tests::TWISTING;
 use std::alloc::{AllocError, Global};
 use std::test::Fail;
-use wf_decode::Verdict;
 use wf_io::{MemFile, MemShelf, MemSink};
-use wf_label::LabelRef;
 use wf_model::Seq;
 
 /// An S is done by an A. An A is done by a V, a B and a V again, a B by a W, an A and a W again, and each of the two by a T. V exchanges its first two ports, W its last two, and T keeps them: so the order of the steps tells.
@@ -173,35 +168,6 @@ fn labels_have_verdicts(rt: HostRuntime) -> Result<(), Fail> {
         assert_eq!(rt; got, Done, "at {line:?}");
         assert_eq!(rt; out.bytes(), text.as_bytes(), "at {line:?}");
         assert_eq!(rt; err.bytes(), b"".as_slice(), "at {line:?}");
-    }
-    Ok(())
-}
-
-/// The label of an item after 16,777,215 repetitions.
-const LONGEST: [u8; 7] = [0xf0, 0x00, 0x00, 0x08, 0x00, 0x00, 0x03];
-
-// A decoder that walks chains would take more than 10^11 steps here.
-#[test]
-fn long_chains_are_not_walked(rt: HostRuntime) -> Result<(), Fail> {
-    let alloc = rt.alloc();
-    let mut shelf = shelf(alloc, TWISTING, "{}")?;
-    let Ok(spec) = spec_stage(alloc, &mut shelf, "spec") else {
-        return Err(Fail::new("a specification"));
-    };
-    let Ok(viewed) = view_stage(alloc, &mut shelf, "view", spec) else {
-        return Err(Fail::new("a view"));
-    };
-    for _turn in 0..10_000 {
-        let Ok(first) = LabelRef::check(&viewed.grammar, &viewed.cycles, &[0x20]) else {
-            return Err(Fail::new("the label of an input"));
-        };
-        let Ok(second) = LabelRef::check(&viewed.grammar, &viewed.cycles, &LONGEST) else {
-            return Err(Fail::new("the label of a chain"));
-        };
-        let Ok(verdict) = verdict_of(alloc, &viewed, first, second) else {
-            return Err(Fail::new("memory"));
-        };
-        assert_eq!(rt; verdict, Verdict::Yes);
     }
     Ok(())
 }
