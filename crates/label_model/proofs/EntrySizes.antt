@@ -9,7 +9,8 @@ use Rattle.wf_model.specs.Run.{IsAccepted}
 use Rattle.wf_model.specs.Linear.{IsLinear}
 use Rattle.wf_model.proofs.Lists.{in_map, in_map_from, in_flat_map, in_append_right}
 use Rattle.label_model.specs.RunLabels.{labelled_by, labelled}
-use Rattle.label_model.specs.Files.{Entry, entry_of, entries_of, IsItemName}
+use Rattle.wf_model.specs.Items.{IsItemName}
+use Rattle.label_model.specs.Files.{Entry, entry_of, entries_of}
 use Rattle.label_model.proofs.GoodFiles.{good_file_law}
 
 -- the entries of an event are among those of the run

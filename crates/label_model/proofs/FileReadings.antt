@@ -5,7 +5,8 @@ use Rattle.wf_model.specs.Lists.{IsIn}
 use Rattle.wf_model.specs.Grammar.{Grammar}
 use Rattle.bit_pack.proofs.Fronts.{same_front}
 use Rattle.label_model.specs.Reading.{IsLabelBytes}
-use Rattle.label_model.specs.Files.{head_bytes, IsItemName, Entry, entry_bytes, names_of_entries, Answer, Accepted, Truncated, BadName, NameTwice, BadLabel, IsFront, ReadsFrom, at_end, cut, bad_name, name_twice, bad_label, whole, Opens, short, other_start, other_digest, head}
+use Rattle.wf_model.specs.Items.{IsItemName}
+use Rattle.label_model.specs.Files.{head_bytes, Entry, entry_bytes, names_of_entries, Answer, Accepted, Truncated, BadName, NameTwice, BadLabel, IsFront, ReadsFrom, at_end, cut, bad_name, name_twice, bad_label, whole, Opens, short, other_start, other_digest, head}
 use Rattle.label_model.specs.FileLaws.{OneReadingLaw}
 
 pub length-entry : (e : Entry) → length (entry_bytes e) ≡ length e.name + length e.label + 3

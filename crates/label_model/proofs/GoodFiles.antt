@@ -6,7 +6,7 @@ use Rattle.wf_model.specs.Grammar.{Grammar}
 use Rattle.wf_model.specs.WellFormed.{IsWellFormed}
 use Rattle.wf_model.specs.declared.event.Event.{Event}
 use Rattle.wf_model.specs.Run.{made, made_by, names_of, IsAccepted}
-use Rattle.wf_model.specs.Items.{Item, items_by}
+use Rattle.wf_model.specs.Items.{Item, items_by, IsItemName}
 use Rattle.wf_model.specs.Linear.{IsLinear}
 use Rattle.wf_model.proofs.Lists.{in_append_left, in_append_right, in_map, in_map_from, in_flat_map_from}
 use Rattle.wf_model.proofs.Runs.{made-append, name_in, name_from}
@@ -15,7 +15,7 @@ use Rattle.bit_pack.proofs.Packing.{packed_law, length-bits_of}
 use Rattle.label_model.specs.Labels.{Label, label_bits, IsLabel}
 use Rattle.label_model.specs.RunLabels.{labels_by, labelled_by, labelled}
 use Rattle.label_model.specs.Reading.{IsLabelBytes}
-use Rattle.label_model.specs.Files.{Entry, entry_of, entries_of, HasRoom, IsItemName, names_of_entries}
+use Rattle.label_model.specs.Files.{Entry, entry_of, entries_of, HasRoom, names_of_entries}
 use Rattle.label_model.specs.FileLaws.{GoodFileLaw, CutLaw}
 use Rattle.label_model.proofs.TakenEvents.{taken}
 use Rattle.label_model.proofs.Lists.{firsts}

@@ -8,7 +8,8 @@ use Rattle.wf_model.specs.Run.{IsRun, IsAccepted}
 use Rattle.wf_model.specs.Linear.{IsLinear}
 use Rattle.label_model.specs.RunLabels.{labelled_by}
 use Rattle.label_model.specs.Reading.{IsLabelBytes}
-use Rattle.label_model.specs.Files.{Entry, entry_bytes, entry_of, entries_of, head_bytes, label_file, HasRoom, IsItemName, names_of_entries, Answer, Accepted, NotLabels, Truncated, Opens}
+use Rattle.wf_model.specs.Items.{IsItemName}
+use Rattle.label_model.specs.Files.{Entry, entry_bytes, entry_of, entries_of, head_bytes, label_file, HasRoom, names_of_entries, Answer, Accepted, NotLabels, Truncated, Opens}
 
 -- the label file of a run begins the label file of each run that goes on from it
 abbrev pub FileGrowsLaw : Type 0

@@ -2,9 +2,8 @@
 use Rattle.std.specs.Prelude.{◌≡◌, ◌≢◌, ℕ, ◌+◌, ◌/◌, ◌%◌, ◌^◌, ◌<◌, List, [], ◌∷◌, ◌++◌, map, length, flat_map, codes}
 use Rattle.wf_model.specs.Lists.{IsIn}
 use Rattle.wf_model.specs.Grammar.{Grammar}
-use Rattle.wf_model.specs.WellFormed.{IsShortName}
 use Rattle.wf_model.specs.declared.event.Event.{Event}
-use Rattle.wf_model.specs.Items.{Item, dotted}
+use Rattle.wf_model.specs.Items.{Item, IsItemName}
 use Rattle.bit_pack.specs.Bits.{packed}
 use Rattle.label_model.specs.Labels.{Label, label_bits}
 use Rattle.label_model.specs.RunLabels.{labelled}
@@ -38,10 +37,6 @@ label_file g digest events = head_bytes digest ++ flat_map entry_bytes (entries_
 -- the two lengths have room in the bytes of an entry
 abbrev pub HasRoom : Entry → Type 0
 HasRoom e = (length e.name < 2 ^ 8) × (length e.label < 2 ^ 16)
-
--- the name of an item: the names of an instance and of a port, with a dot between
-abbrev pub IsItemName : List ℕ → Type 0
-IsItemName name = (instance : List ℕ) × (port : List ℕ) × (name ≡ dotted instance port) × IsShortName instance × IsShortName port
 
 -- the names of entries, in order
 abbrev pub names_of_entries : List Entry → List (List ℕ)

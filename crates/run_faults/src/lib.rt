@@ -6,5 +6,5 @@ mod names;
 mod start;
 
 pub use expand::{Found, expand_fault};
-pub use names::{Taken, is_short};
+pub use names::Taken;
 pub use start::start_fault;

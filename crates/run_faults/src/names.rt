@@ -1,8 +1,9 @@
 // Names of instances: their form, and whether they are taken.
 ghost use Rattle.std.specs.Prelude.{◌≡◌, ℕ, List};
 ghost use Rattle.std.specs.List.{list_all};
-ghost use Rattle.wf_model.specs.Faults.{is_name_byte, is_short_name, is_one_of, some_twice};
+ghost use Rattle.wf_model.specs.Faults.{is_short_name, is_one_of, some_twice};
 
+use name_text::is_short;
 use wf_model::Name;
 use wf_names::Names;
 
@@ -24,32 +25,7 @@ impl Taken for Names {
     }
 }
 
-/// Whether a name is one of 1 to 64 letters, digits, `_` or `-`.
-pub fn is_short(name: &[u8]) -> bool
-    ensures { result ≡ is_short_name name.now }
-{
-    if name.is_empty() {
-        return false;
-    }
-    if name.len() > 64 {
-        return false;
-    }
-    are_of_names(name)
-}
-
-fn are_of_names(bytes: &[u8]) -> bool
-    ensures { result ≡ list_all is_name_byte bytes.now }
-{
-    bytes.iter().all(|b| is_of_name(*b))
-}
-
-fn is_of_name(b: u8) -> bool
-    ensures { result ≡ is_name_byte b }
-{
-    (97 <= b && b <= 122) || (65 <= b && b <= 90) || (48 <= b && b <= 57) || b == 95 || b == 45
-}
-
-/// Whether all names have this form.
+/// Whether all are names of 1 to 64 letters, digits, `_` or `-`.
 pub(crate) fn are_short(names: &[Name]) -> bool
     ensures { result ≡ list_all is_short_name names.now }
 {

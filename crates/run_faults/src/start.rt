@@ -5,7 +5,7 @@ ghost use Rattle.wf_model.specs.declared.event.Event.{Event};
 ghost use Rattle.wf_model.specs.declared.event.Event.TheVariants.{Start};
 ghost use Rattle.wf_model.specs.Faults.{is_nil, fault_of};
 
-use crate::names::is_short;
+use name_text::is_short;
 use wf_model::RunFault;
 
 /// Why a run that has begun or not, of at most `most` instances, refuses a start event; None where it takes it.

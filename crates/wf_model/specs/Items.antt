@@ -1,6 +1,7 @@
 -- The items of a run, and how one depends on another.
-use Rattle.std.specs.Prelude.{ℕ, suc, IsTrue, List, [], ◌∷◌, ◌++◌, map, get_or, flat_map, Option, Some, None, codes}
+use Rattle.std.specs.Prelude.{◌≡◌, ℕ, suc, IsTrue, List, [], ◌∷◌, ◌++◌, map, get_or, flat_map, Option, Some, None, codes}
 use Rattle.wf_model.specs.Grammar.{Grammar, Edge, production_at, module_at, body_of}
+use Rattle.wf_model.specs.WellFormed.{IsShortName}
 use Rattle.wf_model.specs.View.{View}
 use Rattle.wf_model.specs.declared.event.Event.{Event}
 use Rattle.wf_model.specs.declared.event.Event.TheVariants.{Start, Expand}
@@ -17,6 +18,14 @@ pub record Item : Type 0 where
 -- an instance's name, a dot and a port's name
 abbrev pub dotted : List ℕ → List ℕ → List ℕ
 dotted a b = a ++ codes "." ++ b
+
+-- the name is that of an instance and that of a port, with a dot between
+abbrev pub IsNameOf : List ℕ → List ℕ → List ℕ → Type 0
+IsNameOf name instance port = (name ≡ dotted instance port) × IsShortName instance × IsShortName port
+
+-- the name of an item: the names of an instance and of a port, with a dot between
+abbrev pub IsItemName : List ℕ → Type 0
+IsItemName name = (instance : List ℕ) × (port : List ℕ) × IsNameOf name instance port
 
 -- the inputs of the root, from the k-th on
 abbrev pub input_items : List ℕ → ℕ → List (List ℕ) → List Item

@@ -2,7 +2,7 @@
 ghost use Rattle.std.specs.Prelude.{IfOk, IfErr};
 ghost use Rattle.wf_query.specs.Line.{IsQuery, IsNoQuery};
 
-use crate::item::{cut, split_item};
+use name_text::{cut, split_item};
 
 /// Two item names: the question is whether the second item depends on the first.
 #[derive(Clone, Copy)]

@@ -7,9 +7,6 @@ fn lines_are_read(rt: HostRuntime) -> Result<(), Fail> {
     let query = read_query(b"run.seqs run-2.tree_b")?;
     assert_eq!(rt; query.first, b"run.seqs".as_slice());
     assert_eq!(rt; query.second, b"run-2.tree_b".as_slice());
-    let (instance, port) = split_item(query.second).unwrap_or((b"", b""));
-    assert_eq!(rt; instance, b"run-2".as_slice());
-    assert_eq!(rt; port, b"tree_b".as_slice());
     Ok(())
 }
 

@@ -1,37 +1,13 @@
 // Names of 1 to 64 letters, digits, `_` and `-`.
 ghost use Rattle.std.specs.Prelude.{◌≡◌, ◌&&◌};
 ghost use Rattle.std.specs.List.{list_all};
-ghost use Rattle.wf_model.specs.Faults.{is_name_byte, is_short_name};
+ghost use Rattle.wf_model.specs.Faults.{is_short_name};
 ghost use Rattle.wf_spec.specs.Rules.{each, HasShortNames, HasShortPositions, IsFirstFailing};
 ghost use Rattle.wf_spec.specs.declared.fault.Spot.TheVariants.{Module as AtModule, Production as AtProduction};
 ghost use Rattle.wf_spec.specs.declared.fault.FormFault.TheVariants.{NameBad};
 
+use name_text::is_short;
 use wf_model::{ModulePart, Name, PosPart, ProdPart};
-
-fn is_of_name(b: u8) -> bool
-    ensures { result ≡ is_name_byte b }
-{
-    (97 <= b && b <= 122) || (65 <= b && b <= 90) || (48 <= b && b <= 57) || b == 95 || b == 45
-}
-
-fn are_of_names(bytes: &[u8]) -> bool
-    ensures { result ≡ list_all is_name_byte bytes.now }
-{
-    bytes.iter().all(|b| is_of_name(*b))
-}
-
-/// Whether a name is one of 1 to 64 letters, digits, `_` and `-`.
-fn is_short(name: &[u8]) -> bool
-    ensures { result ≡ is_short_name name.now }
-{
-    if name.is_empty() {
-        return false;
-    }
-    if name.len() > 64 {
-        return false;
-    }
-    are_of_names(name)
-}
 
 fn are_short(names: &[Name]) -> bool
     ensures { result ≡ list_all is_short_name names.now }

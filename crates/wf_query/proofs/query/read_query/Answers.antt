@@ -1,7 +1,7 @@
 use Rattle.std.proofs.Common.{subst}
-use Rattle.wf_query.specs.Line.{IsItemName}
-use Rattle.wf_query.proofs.Cuts.{stands}
-use Rattle.wf_query.proofs.Names.{one_query}
+use Rattle.wf_model.specs.Items.{IsItemName}
+use Rattle.name_text.proofs.Cuts.{stands}
+use Rattle.wf_query.proofs.Queries.{one_query}
 use Rattle.wf_query.proofs.query.read_query.Goals as goal
 
 pub returns-in_default-clause-wrong : goal.returns-in_default-clause-wrong

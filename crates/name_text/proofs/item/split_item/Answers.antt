@@ -1,9 +1,9 @@
 use Rattle.std.proofs.Common.{◌≡◌, sym, ◌∙◌, true, arith}
 use Rattle.wf_model.proofs.Taking.{short_gives, short_from}
 use Rattle.wf_model.specs.Faults.{is_short_name}
-use Rattle.wf_query.proofs.Cuts.{stands}
-use Rattle.wf_query.proofs.Names.{one_name, dotted_at}
-use Rattle.wf_query.proofs.item.split_item.Goals as goal
+use Rattle.name_text.proofs.Cuts.{stands}
+use Rattle.name_text.proofs.Names.{one_name, dotted_at}
+use Rattle.name_text.proofs.item.split_item.Goals as goal
 
 pub returns-in_default-clause-none : goal.returns-in_default-clause-none
 returns-in_default-clause-none c = λ h. c.in_default.ensures.none (stands 46 c.args.name.now h.0 h.1 (h.2.0 ∙ dotted_at h.0 h.1))

@@ -1,6 +1,6 @@
 use Rattle.std.proofs.Common.{◌==◌, sym, ◌∙◌}
-use Rattle.wf_query.proofs.Cuts.{none_passes, none_before, whole_cut, same_number}
-use Rattle.wf_query.proofs.item.cut.Goals as goal
+use Rattle.name_text.proofs.Cuts.{none_passes, none_before, whole_cut, same_number}
+use Rattle.name_text.proofs.item.cut.Goals as goal
 
 pub returns-in_default-clause-none : goal.returns-in_default-clause-none
 returns-in_default-clause-none c = λ h. none_passes (λ b. b == c.args.at) c.args.at c.args.bytes.now (sym c.place_of.ensures ∙ c.in_default.is) (same_number c.args.at) h

@@ -1,13 +1,13 @@
--- The bytes that no name has, and how names and lines are split.
+-- The bytes that no name has, and how item names are split.
 use Rattle.std.proofs.Common.{◌≡◌, ℕ, List, ◌∷◌, ◌++◌, sym, ◌∙◌, subst, inl, inr, arith, append_assoc}
 use Rattle.std.specs.Prelude.{codes}
 use Rattle.wf_model.specs.Lists.{IsIn}
 use Rattle.wf_model.specs.Run.{IsNameByte}
 use Rattle.wf_model.specs.WellFormed.{IsShortName}
-use Rattle.wf_model.specs.Items.{dotted}
+use Rattle.wf_model.specs.Items.{dotted, IsItemName, IsNameOf}
 use Rattle.wf_model.proofs.Lists.{in_append_cases}
-use Rattle.wf_query.specs.Line.{IsItemName, IsNameOf, IsQuery, NameLaw, QueryLaw}
-use Rattle.wf_query.proofs.Cuts.{one_cut}
+use Rattle.name_text.specs.Names.{NameLaw}
+use Rattle.name_text.proofs.Cuts.{one_cut}
 
 dot_no_byte : IsNameByte 46 → ⊥
 dot_no_byte h = grind (arith, h)
@@ -38,12 +38,5 @@ item_no_space n h i =
 pub one_name : (n a b c d : List ℕ) → IsNameOf n a b → n ≡ c ++ 46 ∷ d → (IsIn 46 c → ⊥) → (a ≡ c) × (b ≡ d)
 one_name n a b c d h e k = one_cut 46 a b c d (no_dot a h.1) k (sym (dotted_at a b) ∙ sym h.0 ∙ e)
 
--- a line is split in one way
-pub one_query : (l a b c d : List ℕ) → IsQuery l a b → l ≡ c ++ 32 ∷ d → (IsIn 32 c → ⊥) → (a ≡ c) × (b ≡ d)
-one_query l a b c d h e k = one_cut 32 a b c d (item_no_space a h.1) k (sym h.0 ∙ e)
-
 pub name_law : NameLaw
 name_law n a b c d h k = one_name n a b c d h (k.0 ∙ dotted_at c d) (no_dot c k.1)
-
-pub query_law : QueryLaw
-query_law l a b c d h k = one_query l a b c d h k.0 (item_no_space c k.1)

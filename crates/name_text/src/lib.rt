@@ -1,0 +1,13 @@
+//! Names as bytes: whether bytes are a name, and the two names that the name of an item is made of.
+#![tactic(auto)]
+
+mod item;
+mod law;
+mod short;
+
+pub use item::{cut, split_item};
+pub use law::name_law;
+pub use short::is_short;
+
+#[cfg(test)]
+mod tests;
