@@ -22,7 +22,7 @@ entry_listed g before e x h =
 
 -- the name of an item has at most 129 bytes: two names of at most 64, and a dot
 item_name_short : (name : List ℕ) → IsItemName name → length name ≤ 129
-item_name_short name (instance, port, is, short, short') =
+item_name_short name (instance, port, (is, short, short')) =
     let n : length name ≡ length (instance ++ codes ".") + length port = ap length is ∙ length-append (instance ++ codes ".") port in
     let m : length (instance ++ codes ".") ≡ length instance + 1 = length-append instance (codes ".") in
     let i : length instance ≤ 64 = short.1 in

@@ -59,11 +59,11 @@ module _ (g : Grammar) (wf : IsWellFormed g) (events : List Event) (acc : IsAcce
       let n : IsIn t.0.name (item_names g r.0) = subst (IsIn t.0.name) (names-by g events r.0) (in_map (λ (z : Entry). z.name) (entry_of t) (map entry_of (labelled_by g events r.0)) (in_map entry_of t (labelled_by g events r.0) r.2)) in
       let k = taken g g.start events [] r.0 acc.0 r.1 in
       let o = owned g wf k.before r.0 k.extends t.0.name n in
-      (o.owner, o.port, o.dots, (o.good, acc.2 o.owner (made_here r.0 o.owner r.1 o.made)), o.short)
+      (o.owner, o.port, (o.dots, (o.good, acc.2 o.owner (made_here r.0 o.owner r.1 o.made)), o.short))
 
   -- a name of an item has room for its length
   name_room : (n : List ℕ) → IsItemName n → length n < 2 ^ 8
-  name_room n q = let a = ap length q.2 in omega (arith, a, q.3.1, q.4.1, length-append (q.0 ++ codes ".") q.1, length-append q.0 (codes "."))
+  name_room n q = let a = ap length q.2.0 in omega (arith, a, q.2.1.1, q.2.2.1, length-append (q.0 ++ codes ".") q.1, length-append q.0 (codes "."))
 
   -- a label's bytes have room
   label_room : IsLinear g → (l : Label) → IsLabel g l → length (packed (label_bits l)) < 2 ^ 16

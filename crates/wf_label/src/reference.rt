@@ -41,6 +41,16 @@ impl<'a> LabelRef<'a> {
         self.bytes
     }
 
+    /// The same label, in the same bytes. Takes no memory.
+    pub fn copied(&self) -> LabelRef<'a>
+        ensures { result ≡ self.now }
+    {
+        LabelRef {
+            bytes: self.bytes,
+            end: self.end,
+        }
+    }
+
     /// How many bits there are, without those that fill the last byte.
     pub fn length(&self) -> u32
         ensures { result ≡ length self.now }

@@ -1,0 +1,93 @@
+// The entries of a label file, found by name.
+ghost use Rattle.std.specs.Prelude.{◌≡◌, ◌<◌, ◌≤◌, ◌^◌, length, get_or, IfOk, IfErr, IfSome, IfNone};
+ghost use Rattle.wf_model.specs.Lists.{IsIn};
+ghost use Rattle.wf_model.specs.Linear.{IsLinear};
+ghost use Rattle.wf_recur.specs.Cycles.{AreCyclesOf};
+ghost use Rattle.label_file.specs.Stored.{IsStoreFault, IsStoreOf, names_held, no_entry};
+
+use crate::fault::StoreFault;
+use indexmap::IndexMap;
+use std::alloc::Global;
+use std::marker::Model;
+use wf_label::LabelRef;
+use wf_recur::Cycles;
+use wf_spec::Grammar;
+
+/// The entries of a label file, in the order of the file, found by name. It keeps no copy of a name or of a label: all are parts of the bytes of the file.
+#[derive(Drop)]
+pub struct Store<'a> {
+    entries: IndexMap<&'a [u8], LabelRef<'a>>,
+}
+
+impl<'a> Model for Store<'a> {
+    ghost use Rattle.std.specs.Prelude.{◌<◌, ◌^◌, List, length, map};
+    ghost use Rattle.label_file.specs.Stored.{EntryHeld};
+
+    ghost Value = { List EntryHeld };
+
+    ghost view = { λ s. map (λ e. record { name = e.0.now; bits = e.1 }) s.entries.entries };
+
+    ghost invariant = { λ s. length s.entries.entries < 2 ^ 32 };
+}
+
+impl<'a> Store<'a> {
+    /// Reads the label file of a grammar with this digest.
+    ///
+    /// Of each entry it is tried in this order whether it is whole, whether its name is that of an item, whether no entry before has the name, and whether its label is one of the grammar.
+    ///
+    /// Cost: linear in the bytes; a name is found by hashing.
+    pub fn open(
+        alloc: Global,
+        g: &Grammar,
+        cycles: &Cycles,
+        digest: &[u8; 32],
+        bytes: &'a [u8],
+    ) -> Result<Store<'a>, StoreFault>
+        requires linear { IsLinear g.now.core }
+        requires cycles { AreCyclesOf g.now.core cycles.now }
+        requires few { length bytes.now ≤ 2 ^ 30 }
+        ensures store { IfOk result (λ s. IsStoreOf g.now.core digest.now bytes.now s) }
+        ensures fault { IfErr result (λ f. IsStoreFault g.now.core digest.now bytes.now f) }
+    {
+        Err(StoreFault::NoMemory)
+    }
+
+    /// The label of the entry of this name; None where no entry has it.
+    ///
+    /// Cost: one look-up by hashing. Takes no memory.
+    pub fn get(&self, name: &[u8]) -> Option<LabelRef<'a>>
+        ensures found { IfSome result (λ l. IsIn (record { name = name.now; bits = l }) self.now) }
+        ensures none { IfNone result (IsIn name.now (names_held self.now) → ⊥) }
+    {
+        let Some(label) = self.entries.get(name) else {
+            return None;
+        };
+        Some(label.copied())
+    }
+
+    /// How many entries there are. Takes no memory.
+    pub fn length(&self) -> u32
+        ensures { result ≡ length self.now }
+    {
+        self.entries.len() as u32
+    }
+
+    /// The name of the entry of this number, from 0. Takes no memory.
+    pub fn name_at(&self, entry: u32) -> &'a [u8]
+        requires { entry < length self.now }
+        ensures { result.now ≡ (get_or self.now entry no_entry).name }
+    {
+        match self.entries.get_index(entry as usize) {
+            Some((name, _)) => name,
+            None => &[],
+        }
+    }
+
+    /// The label of the entry of this number, from 0. Takes no memory.
+    pub fn label_at(&self, entry: u32) -> LabelRef<'a>
+        requires { entry < length self.now }
+        ensures { result ≡ (get_or self.now entry no_entry).bits }
+    {
+        self.entries[entry as usize].copied()
+    }
+}
