@@ -1,6 +1,6 @@
 -- What a store of the entries of a label file holds, and what its faults tell of the bytes.
 use Rattle.std.specs.Prelude.{◌≡◌, ℕ, Bool, List, [], ◌∷◌, map}
-use Rattle.wf_model.specs.Lists.{IsIn}
+use Rattle.wf_model.specs.Lists.{IsIn, AllDiffer}
 use Rattle.wf_model.specs.Grammar.{Grammar}
 use Rattle.bit_pack.specs.Bits.{Holds}
 use Rattle.label_model.specs.Files.{Entry, Opens, Accepted, NotLabels, OtherSpec, Truncated, BadName, NameTwice, BadLabel}
@@ -34,9 +34,10 @@ AreHeldOf g [] (h ∷ hs) = ⊥
 AreHeldOf g (e ∷ es) [] = ⊥
 AreHeldOf g (e ∷ es) (h ∷ hs) = IsHeldOf g e h × AreHeldOf g es hs
 
--- all that is held are bits of labels of the grammar
-abbrev pub HoldsLabels : Grammar → List EntryHeld → Type 0
-HoldsLabels g hs = (h : EntryHeld) → IsIn h hs → AreLabelBits g h.bits
+-- what a store of the grammar holds: names that differ, and bits of labels of the grammar
+pub record IsStoreFor (g : Grammar) (hs : List EntryHeld) : Type 0 where
+  pub labels : (h : EntryHeld) → IsIn h hs → AreLabelBits g h.bits
+  pub differ : AllDiffer (names_held hs)
 
 -- bytes are a label file of the grammar with this digest, and its entries are held
 pub record IsStoreOf (g : Grammar) (digest bytes : List ℕ) (hs : List EntryHeld) : Type 0 where

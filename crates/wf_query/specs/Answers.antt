@@ -9,8 +9,8 @@ use Rattle.label_model.specs.Files.{Entry, names_of_entries}
 use Rattle.verdict_model.specs.declared.verdict.Verdict.{Verdict}
 use Rattle.verdict_model.specs.declared.verdict.Verdict.TheVariants.{Hidden1, Hidden2, Clash as ClashTold, Yes as YesTold, No as NoTold}
 use Rattle.verdict_model.specs.Verdicts.{IsVerdict}
-use Rattle.wf_query.specs.declared.answer.Answer.{Answer}
-use Rattle.wf_query.specs.declared.answer.Answer.TheVariants.{Unknown, Hidden, Clash, Yes, No}
+use Rattle.wf_query.specs.declared.answers.Answer.{Answer}
+use Rattle.wf_query.specs.declared.answers.Answer.TheVariants.{Unknown, Hidden, Clash, Yes, No}
 
 -- an entry of this name has the bytes of this label of the grammar
 abbrev pub HasEntry : Grammar → List Entry → List ℕ → Label → Type 0
@@ -28,13 +28,23 @@ pub record AreDecided (g : Grammar) (u : View) (entries : List Entry) (first sec
   pub second_entry : HasEntry g entries second y
   pub verdict : IsVerdict g u x y v
 
--- The answer to a query of two names. It is unknown where either has no entry, and else told by the verdict on the labels of the two entries
+-- the answer that a verdict is: it is not told which of the two items is hidden
+abbrev pub answer_of : Verdict → Answer
+answer_of Hidden1 = Hidden
+answer_of Hidden2 = Hidden
+answer_of ClashTold = Clash
+answer_of YesTold = Yes
+answer_of NoTold = No
+
+-- a name of the two has no entry
+abbrev pub LacksEntry : List Entry → List ℕ → List ℕ → Type 0
+LacksEntry entries first second = HasNoEntry entries first ⊎ HasNoEntry entries second
+
+-- The answer to a query of two names: unknown where either has no entry, and else that of the verdict on the labels of the two entries
 abbrev pub IsAnswer : Grammar → View → List Entry → List ℕ → List ℕ → Answer → Type 0
-IsAnswer g u entries first second Unknown = HasNoEntry entries first ⊎ HasNoEntry entries second
-IsAnswer g u entries first second Hidden = AreDecided g u entries first second Hidden1 ⊎ AreDecided g u entries first second Hidden2
-IsAnswer g u entries first second Clash = AreDecided g u entries first second ClashTold
-IsAnswer g u entries first second Yes = AreDecided g u entries first second YesTold
-IsAnswer g u entries first second No = AreDecided g u entries first second NoTold
+IsAnswer g u entries first second a =
+    (LacksEntry entries first second × (a ≡ Unknown)) ⊎
+    ((v : Verdict) × AreDecided g u entries first second v × (a ≡ answer_of v))
 
 -- the word of an answer
 abbrev pub answer_text : Answer → List ℕ

@@ -3,27 +3,31 @@ use Rattle.std.specs.Prelude.{◌≡◌, ◌⊎◌, ℕ, true, false, List, [], 
 use Rattle.wf_io.specs.Told.{Appended}
 use Rattle.wf_io.specs.Lines.{Line, is_too_long, text_of}
 use Rattle.wf_query.specs.Line.{IsQuery, IsNoQuery}
-use Rattle.wf_query.specs.declared.batch.BatchFault.{BatchFault}
-use Rattle.wf_query.specs.declared.batch.BatchFault.TheVariants.{LineWrong, LineTooLong, WriteFault}
+use Rattle.wf_query.specs.declared.batching.BatchFault.{BatchFault}
+use Rattle.wf_query.specs.declared.batching.BatchFault.TheVariants.{LineWrong, LineTooLong, WriteFault, NoMemory}
 
--- how lines of queries end: all are answered; or the line of a number is no query, or is too long
+-- how lines of queries end: all are answered; or the line of a number asks nothing, or is too long
 pub data Ended : Type 0 where
   All : Ended
   WrongAt : ℕ → Ended
   TooLongAt : ℕ → Ended
 
--- the line is not too long, and asks whether the second item depends on the first
-abbrev pub IsQueryLine : Line → List ℕ → List ℕ → Type 0
-IsQueryLine l first second = (is_too_long l.raw ≡ false) × IsQuery (text_of l.raw) first second
+-- a relation between two names and the word that answers them has one word at most
+abbrev pub IsOneWord : (List ℕ → List ℕ → List ℕ → Type 0) → Type 0
+IsOneWord Answers = (first second x y : List ℕ) → Answers first second x → Answers first second y → x ≡ y
 
--- a line of query, and the line that is written of it: an answer and a newline
-pub record IsAnswered (Answers : List ℕ → List ℕ → List ℕ → Type 0) (l : Line) (written : List ℕ) : Type 0 where
+-- the text of a query, and the line that is written of it: a word that answers it, and a newline
+pub record IsAsked (Answers : List ℕ → List ℕ → List ℕ → Type 0) (text written : List ℕ) : Type 0 where
   pub first : List ℕ
   pub second : List ℕ
-  pub query : IsQueryLine l first second
+  pub query : IsQuery text first second
   pub answer : List ℕ
   pub is : Answers first second answer
   pub line : written ≡ answer ++ codes "\n"
+
+-- a line is not too long and asks, and this is written of it
+abbrev pub IsAnswered : (List ℕ → List ℕ → List ℕ → Type 0) → Line → List ℕ → Type 0
+IsAnswered Answers l written = (is_too_long l.raw ≡ false) × IsAsked Answers (text_of l.raw) written
 
 -- why a line is not answered: it is too long; or it is not, and asks nothing
 abbrev pub IsRefused : Line → Ended → Type 0
@@ -38,14 +42,26 @@ AreAnswered Answers (l ∷ ls) ending text =
     (IsRefused l ending × (text ≡ [])) ⊎
     ((written : List ℕ) × (rest : List ℕ) × IsAnswered Answers l written × (text ≡ written ++ rest) × AreAnswered Answers ls ending rest)
 
--- how lines ended, by what a call answers
+-- how the lines ended, where a fault ended them; a fault of writing and want of memory tell nothing of them
+abbrev pub ended_at : BatchFault → Option Ended
+ended_at (LineWrong line) = Some (WrongAt line)
+ended_at (LineTooLong line) = Some (TooLongAt line)
+ended_at WriteFault = None
+ended_at NoMemory = None
+
+-- how they ended by what a call answers
 abbrev pub ended_by : {N : Type 0} → Result N BatchFault → Option Ended
 ended_by (Ok n) = Some All
-ended_by (Err (LineWrong line)) = Some (WrongAt line)
-ended_by (Err (LineTooLong line)) = Some (TooLongAt line)
-ended_by (Err WriteFault) = None
+ended_by (Err fault) = ended_at fault
 
--- What was put of the answers to lines. But for a fault of writing all of them were, up to where the lines ended; and whatever comes, a beginning
+-- What was put of the answers to lines: all of them, up to where the lines ended; and whatever ended them, a beginning of the answers
 pub record ArePut (Answers : List ℕ → List ℕ → List ℕ → Type 0) (lines : List Line) (ending : Option Ended) (old new : Option (List ℕ)) : Type 0 where
   pub whole : (e : Ended) → ending ≡ Some e → (text : List ℕ) × AreAnswered Answers lines e text × Appended text old new
   pub begun : (e : Ended) (text : List ℕ) → AreAnswered Answers lines e text → (k : ℕ) × Appended (take k text) old new
+
+-- why the line of a number ends the lines: its text asks nothing, its answer was put in part, or memory was wanting before it was put
+abbrev pub EndsAt : (List ℕ → List ℕ → List ℕ → Type 0) → ℕ → List ℕ → BatchFault → Option (List ℕ) → Option (List ℕ) → Type 0
+EndsAt Answers number text (LineWrong line) old new = (line ≡ number) × IsNoQuery text × (new ≡ old)
+EndsAt Answers number text (LineTooLong line) old new = ⊥
+EndsAt Answers number text WriteFault old new = (written : List ℕ) × IsAsked Answers text written × ((k : ℕ) × Appended (take k written) old new)
+EndsAt Answers number text NoMemory old new = new ≡ old

@@ -1,13 +1,15 @@
 //! Query lines, and their answers from the entries of a label file.
 #![tactic(auto)]
 
-mod answer;
-mod batch;
+mod answering;
+mod answers;
+mod batching;
 mod law;
 mod query;
 
-pub use answer::{Answer, answer};
-pub use batch::{BatchFault, batch};
+pub use answering::answer;
+pub use answers::Answer;
+pub use batching::{BatchFault, batch};
 pub use law::query_law;
 pub use query::{LineWrong, Query, read_query};
 

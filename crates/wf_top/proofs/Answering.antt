@@ -9,7 +9,8 @@ use Rattle.wf_io.specs.Lines.{Line, is_too_long, text_of}
 use Rattle.wf_top.specs.Endings.{End, Done, Usage, Refused, ReadFault, WriteFault, NoMemory}
 use Rattle.wf_top.specs.declared.ending.Place.TheVariants.{Queries}
 use Rattle.wf_top.specs.Outcome.{IsQueryLine, IsAnswered, AreAnswered}
-use Rattle.wf_top.specs.Meets.{Appended, EndsBy}
+use Rattle.wf_io.specs.Told.{Appended}
+use Rattle.wf_top.specs.Meets.{EndsBy}
 use Rattle.wf_query.specs.Line.{IsQuery}
 use Rattle.wf_top.specs.Prepared.{IsAnswerLine}
 use Rattle.wf_top.specs.Asked.{IsAsked, EndsAt}

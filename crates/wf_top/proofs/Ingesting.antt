@@ -16,7 +16,8 @@ use Rattle.wf_top.specs.RunTold.{IsEventText, IsEventLine, AreEvents, RefusesTex
 use Rattle.wf_top.specs.Ingested.{file_of, file_head, IngestsLines, refused, done}
 use Rattle.wf_top.specs.Labelled.{bytes_by, IsLabelled, StopsAtLine}
 use Rattle.wf_top.specs.Outcome.{instance_most}
-use Rattle.wf_top.specs.Meets.{Appended, EndsBehind}
+use Rattle.wf_io.specs.Told.{Appended}
+use Rattle.wf_top.specs.Meets.{EndsBehind}
 use Rattle.wf_top.proofs.Putting.{appended_none, appended_twice, begun_longer, begun_after}
 use Rattle.wf_top.proofs.TakenLines.{told_on, told_both, goes_on}
 

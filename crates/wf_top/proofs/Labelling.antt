@@ -22,7 +22,7 @@ use Rattle.wf_top.specs.Telling.{AtLine}
 use Rattle.wf_top.specs.RunTold.{RefusesText}
 use Rattle.wf_top.specs.Labelled.{HaveRoom, IsTakenInto, IsLabelled, StopsPut, StopsAtLine}
 use Rattle.wf_top.specs.Outcome.{instance_most}
-use Rattle.wf_top.specs.Meets.{Appended}
+use Rattle.wf_io.specs.Told.{Appended}
 use Rattle.wf_top.specs.Stages.{Declines}
 
 -- one of the entries that have room has room

@@ -15,7 +15,8 @@ use Rattle.wf_top.specs.Endings.{End, Done, WriteFault}
 use Rattle.wf_recur.specs.Cycles.{OnSeen, CyclesSeen, AreCyclesOf}
 use Rattle.wf_top.specs.CheckText.{is_composite, cycle_text, check_line, check_text_of}
 use Rattle.wf_top.specs.Outcome.{IsChecked}
-use Rattle.wf_top.specs.Meets.{Appended, EndsBy}
+use Rattle.wf_io.specs.Told.{Appended}
+use Rattle.wf_top.specs.Meets.{EndsBy}
 use Rattle.wf_top.proofs.OneCycles.{one_told}
 
 pub same_number : (a b : ℕ) → (a == b) ≡ true → a ≡ b

@@ -4,9 +4,9 @@ use Rattle.std.specs.Prelude.{Result, Ok, Err, IsErrAnd, codes, decimal}
 use Rattle.std.proofs.Math.Seq.{take-append-add}
 use Rattle.std.proofs.lemmas.List.{take-append-le, take_min, drop_more}
 use Rattle.wf_model.specs.declared.numbers.ProdNo.{ProdNo}
-use Rattle.wf_io.specs.Told.{Rose}
+use Rattle.wf_io.specs.Told.{Rose, Appended}
 use Rattle.wf_top.specs.Refusals.{numbers_text}
-use Rattle.wf_top.specs.Meets.{Appended, IsPut, Puts}
+use Rattle.wf_top.specs.Meets.{IsPut, Puts}
 
 -- nothing was appended
 pub appended_none : (old new : Option (List ℕ)) → new ≡ old → Appended [] old new

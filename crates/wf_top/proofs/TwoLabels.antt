@@ -12,7 +12,8 @@ use Rattle.verdict_model.specs.Verdicts.{IsVerdict}
 use Rattle.wf_top.specs.declared.ending.Place.TheVariants.{FirstLabel, SecondLabel}
 use Rattle.wf_top.specs.Endings.{End, Done, Refused, WriteFault}
 use Rattle.wf_top.specs.Decided.{AreOfLabel, verdict_text, DecidesLabels, first_malformed, second_malformed, decided}
-use Rattle.wf_top.specs.Meets.{Appended, EndsBy, IsWritten}
+use Rattle.wf_io.specs.Told.{Appended}
+use Rattle.wf_top.specs.Meets.{EndsBy, IsWritten}
 use Rattle.wf_top.proofs.Stages.{nothing_put}
 use Rattle.wf_top.proofs.Writing.{whole_written, part_written, ends_alike}
 use Rattle.wf_top.proofs.OneDecision.{one_decision}

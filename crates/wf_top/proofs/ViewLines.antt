@@ -3,7 +3,8 @@ use Rattle.std.proofs.Common.{◌≡◌, ℕ, Bool, true, cond, List, [], ◌++�
 use Rattle.bool_mat.specs.Matrix.{has}
 use Rattle.wf_model.specs.Meaning.{bit_of, pairs_of}
 use Rattle.wf_top.specs.Endings.{WriteFault}
-use Rattle.wf_top.specs.Meets.{Appended, EndsBy, IsWritten}
+use Rattle.wf_io.specs.Told.{Appended}
+use Rattle.wf_top.specs.Meets.{EndsBy, IsWritten}
 use Rattle.wf_top.proofs.Writing.{part_written}
 
 -- a pair is assigned to a module where its row has the column

@@ -2,7 +2,8 @@
 use Rattle.std.proofs.Common.{◌≡◌, ℕ, Bool, List, ◌++◌, length, take, Option, refl, sym, ap, ◌∙◌, subst, arith, append_assoc}
 use Rattle.std.proofs.lemmas.List.{take_all}
 use Rattle.wf_top.specs.Endings.{End, Done, WriteFault}
-use Rattle.wf_top.specs.Meets.{Appended, EndsBy, IsWritten}
+use Rattle.wf_io.specs.Told.{Appended}
+use Rattle.wf_top.specs.Meets.{EndsBy, IsWritten}
 use Rattle.wf_top.specs.Stages.{IsWritingCause}
 use Rattle.wf_top.proofs.Putting.{begun_longer, begun_after}
 

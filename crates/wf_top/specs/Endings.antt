@@ -3,7 +3,7 @@ use Rattle.std.specs.Prelude.{ℕ, List, [], ◌++◌, Option, Some, None, Resul
 use Rattle.wf_top.specs.declared.ending.Ending.{Ending}
 use Rattle.wf_top.specs.declared.ending.Ending.TheVariants.{Done as HasDone, Usage as HasUsage, Refused as HasRefused, ReadFault as HasReadFault, WriteFault as HasWriteFault, NoMemory as HasNoMemory}
 use Rattle.wf_top.specs.declared.ending.Place.{Place}
-use Rattle.wf_top.specs.declared.ending.Place.TheVariants.{Spec, View, Events, Queries, FirstLabel, SecondLabel}
+use Rattle.wf_top.specs.declared.ending.Place.TheVariants.{Spec, View, Events, Labels, Queries, FirstLabel, SecondLabel}
 use Rattle.wf_top.specs.declared.status.Status.{Status}
 use Rattle.wf_top.specs.declared.status.Status.TheVariants.{Done as IsDone, Usage as IsUsage, Refused as IsRefused, ReadFault as IsReadFault, WriteFault as IsWriteFault, NoMemory as IsNoMemory}
 use Rattle.wf_top.specs.Refusals.{refusal_text}
@@ -45,6 +45,7 @@ abbrev pub word_of : Place → List ℕ
 word_of Spec = codes "spec"
 word_of View = codes "view"
 word_of Events = codes "events"
+word_of Labels = codes "labels"
 word_of Queries = codes "queries"
 word_of FirstLabel = codes "label 1"
 word_of SecondLabel = codes "label 2"

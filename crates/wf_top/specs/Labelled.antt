@@ -11,7 +11,7 @@ use Rattle.wf_top.specs.declared.ending.Place.TheVariants.{Events}
 use Rattle.wf_top.specs.Endings.{End, Done, Usage, Refused, ReadFault, WriteFault, NoMemory}
 use Rattle.wf_top.specs.Telling.{AtLine}
 use Rattle.wf_top.specs.RunTold.{IsEventText, RefusesText}
-use Rattle.wf_top.specs.Meets.{Appended}
+use Rattle.wf_io.specs.Told.{Appended}
 
 -- entries with room for their lengths
 abbrev pub HaveRoom : List Entry → Type 0

@@ -1,14 +1,42 @@
 -- Laws of the outcome.
-use Rattle.std.specs.Prelude.{◌≡◌, ◌⊎◌, ◌≤◌, ℕ, false, List, [], ◌∷◌, ◌++◌, length, codes}
+use Rattle.std.specs.Prelude.{◌≡◌, ◌⊎◌, ◌↔◌, ◌≤◌, ℕ, false, List, [], ◌∷◌, ◌++◌, length, codes}
+use Rattle.wf_model.specs.declared.event.Event.{Event}
+use Rattle.wf_model.specs.Grammar.{Grammar}
+use Rattle.wf_model.specs.WellFormed.{IsWellFormed}
+use Rattle.wf_model.specs.Proper.{IsProper}
+use Rattle.wf_model.specs.Linear.{IsLinear}
+use Rattle.wf_model.specs.View.{View}
+use Rattle.wf_model.specs.Safe.{IsSafe}
+use Rattle.wf_model.specs.Run.{IsAccepted}
+use Rattle.wf_model.specs.Finishing.{ExpandsComposites}
 use Rattle.wf_io.specs.Told.{File}
+use Rattle.label_model.specs.Files.{Entry}
+use Rattle.wf_query.specs.Answers.{IsAnswerText}
+use Rattle.wf_top.specs.Answers.{IsAnswer}
+use Rattle.wf_top.specs.Ingested.{file_of}
+use Rattle.wf_top.specs.LabelsTold.{TellsEntries}
 use Rattle.wf_top.specs.Endings.{End, Done}
-use Rattle.wf_top.specs.Outcome.{IsOutcome, long_most}
+use Rattle.wf_top.specs.Outcome.{IsOutcome, long_most, instance_most}
 
 -- words and files have one outcome at most: one end and one text
 abbrev pub OneOutcomeLaw : Type 0
 OneOutcomeLaw =
     (files : List ℕ → File) (words : List (List ℕ)) (d e : End) (t s : List ℕ) →
     IsOutcome files words d t → IsOutcome files words e s → (d ≡ e) × (t ≡ s)
+
+-- What the labels of a run tell, the run tells. Under a safe view a query is answered from the entries of the label file of an accepted run by a word exactly if this word answers it in each finishing of the run
+abbrev pub LabelsTellLaw : Type 0
+LabelsTellLaw =
+    (g : Grammar) (u : View) → IsWellFormed g → IsProper g → IsLinear g → ExpandsComposites g u → IsSafe g u →
+    (e : List Event) → IsAccepted g instance_most e → (entries : List Entry) → TellsEntries g (file_of g e) entries →
+    (first second word : List ℕ) → IsAnswerText g u entries first second word ↔ IsAnswer g u e first second word
+
+-- What `ask` writes over the label file that `ingest` wrote is what `trace` writes over the events, and both end in the same way. The label file is whole, and not too long
+abbrev pub AskIsTraceLaw : Type 0
+AskIsTraceLaw =
+    (files : List ℕ → File) (spec view events labels queries t s r : List ℕ) (d e : End) →
+    IsOutcome files (codes "ingest" ∷ spec ∷ events ∷ []) Done t → (files labels).bytes ≡ t → length t ≤ long_most → (files labels).broken ≡ false →
+    IsOutcome files (codes "trace" ∷ spec ∷ view ∷ events ∷ queries ∷ []) d s → IsOutcome files (codes "ask" ∷ spec ∷ view ∷ labels ∷ queries ∷ []) e r → (d ≡ e) × (s ≡ r)
 
 -- no line is open at the end of bytes: there are none, or the last is a newline
 abbrev pub EndWithALine : List ℕ → Type 0

@@ -15,7 +15,8 @@ pub mod Stages
 pub mod Viewed
 pub mod ViewTold
 pub mod ViewText
+pub mod Batched
 pub mod Prepared
-pub mod Asked
 pub mod Labelled
+pub mod LabelsTold
 pub mod Laws

@@ -1,13 +1,9 @@
 -- How a call stands to the outcome: what was put, and the line for err.
 use Rattle.std.specs.Prelude.{◌≡◌, ◌≢◌, ◌⊎◌, ℕ, Bool, List, ◌++◌, take, Option, Some, option_map, Result, MatchResult}
-use Rattle.wf_io.specs.Told.{File, Rose}
+use Rattle.wf_io.specs.Told.{File, Rose, Appended}
 use Rattle.wf_top.specs.declared.status.Status.{Status}
 use Rattle.wf_top.specs.Endings.{End, Done, WriteFault, NoMemory, status_of, line_of}
 use Rattle.wf_top.specs.Outcome.{IsOutcome}
-
--- a sink that tells its bytes has got these too
-abbrev pub Appended : List ℕ → Option (List ℕ) → Option (List ℕ) → Type 0
-Appended text old new = new ≡ option_map (λ b. b ++ text) old
 
 -- a text was put whole, and the count of faults is as it was; or the count rose, and a beginning of the text was put
 abbrev pub IsPut : List ℕ → Option (List ℕ) → Option (List ℕ) → ℕ → ℕ → Bool → Type 0

@@ -6,29 +6,32 @@ use Rattle.wf_model.specs.View.{View as ViewOf}
 use Rattle.wf_model.specs.Grammar.{Assignment}
 use Rattle.wf_model.specs.Safe.{IsFull}
 use Rattle.wf_io.specs.Told.{File}
-use Rattle.wf_io.specs.Lines.{Line, is_too_long, text_of, lines_of}
-use Rattle.wf_query.specs.Line.{IsQuery}
+use Rattle.wf_io.specs.Lines.{Line, lines_of}
+use Rattle.wf_query.specs.Answers.{IsAnswerText}
+use Rattle.wf_query.specs.Lines.{Ended, All, WrongAt, TooLongAt, AreAnswered}
 use Rattle.wf_check.specs.Proper.{Ranking, IsRankingOf}
 use Rattle.wf_recur.specs.Cycles.{CyclesSeen, AreCyclesOf}
 use Rattle.wf_top.specs.declared.ending.Place.{Place}
-use Rattle.wf_top.specs.declared.ending.Place.TheVariants.{Spec, View, Events, Queries, FirstLabel, SecondLabel}
+use Rattle.wf_top.specs.declared.ending.Place.TheVariants.{Spec, View, Events, Labels, Queries, FirstLabel, SecondLabel}
 use Rattle.wf_top.specs.Endings.{End, Done, Usage, Refused, ReadFault}
 use Rattle.wf_top.specs.Specification.{TellsGrammar, RefusesSpec}
 use Rattle.wf_top.specs.ViewTold.{TellsView, RefusesView}
 use Rattle.wf_top.specs.ViewText.{IsSeenTest, view_text_of}
-use Rattle.wf_top.specs.Telling.{IsNotBuilt, OfWhole}
+use Rattle.wf_top.specs.Telling.{OfWhole, RefusesNone}
+use Rattle.wf_top.specs.LabelsTold.{TellsEntries, RefusesLabels}
 use Rattle.wf_top.specs.RunTold.{TellsRun, RefusesRun}
 use Rattle.wf_top.specs.CheckText.{check_text_of}
 use Rattle.wf_top.specs.Answers.{IsAnswer}
 use Rattle.wf_top.specs.Ingested.{IngestsLines, file_of}
 use Rattle.wf_top.specs.Decided.{DecidesLabels}
-use Rattle.wf_top.specs.Words.{Command, Check, View as ViewCommand, Ingest, Trace, Decide, command_of}
+use Rattle.wf_top.specs.Words.{Command, Check, View as ViewCommand, Ingest, Trace, Ask, Decide, command_of}
 
 -- the fault of a file that is too long; a label is refused otherwise
 abbrev pub long_fault : Place → List ℕ
 long_fault Spec = codes "TooLong"
 long_fault View = codes "TooLong"
 long_fault Events = codes "NotBuilt"
+long_fault Labels = codes "TooLong"
 long_fault Queries = codes "NotBuilt"
 long_fault FirstLabel = codes "TooLong"
 long_fault SecondLabel = codes "TooLong"
@@ -41,25 +44,15 @@ pub data Stage {A : Type 0} (most : ℕ) (place : Place) (file : File) (Tells : 
   refused : length file.bytes ≤ most → file.broken ≡ false → (line : Option ℕ) (fault : List ℕ) → Refuses file.bytes line fault → ending ≡ Refused place line fault → text ≡ [] → Stage most place file Tells Refuses Next ending text
   goes_on : length file.bytes ≤ most → file.broken ≡ false → (a : A) → Tells file.bytes a → Next a ending text → Stage most place file Tells Refuses Next ending text
 
--- the line is not too long, and asks whether the second item depends on the first
-abbrev pub IsQueryLine : Line → List ℕ → List ℕ → Type 0
-IsQueryLine l first second = (is_too_long l.raw ≡ false) × IsQuery (text_of l.raw) first second
+-- how the program ends where lines of queries ended so
+abbrev pub end_of_lines : Ended → End
+end_of_lines All = Done
+end_of_lines (WrongAt n) = Refused Queries (Some n) (codes "LineWrong")
+end_of_lines (TooLongAt n) = Refused Queries (Some n) (codes "LineTooLong")
 
--- a line of query and its line of answer
-pub record IsAnswered (g : Grammar) (u : ViewOf) (e : List Event) (l : Line) (written : List ℕ) : Type 0 where
-  pub first : List ℕ
-  pub second : List ℕ
-  pub query : IsQueryLine l first second
-  pub answer : List ℕ
-  pub is : IsAnswer g u e first second answer
-  pub line : written ≡ answer ++ codes "\n"
-
--- Lines of queries are answered one by one, up to the first that is none
-abbrev pub AreAnswered : Grammar → ViewOf → List Event → List Line → End → List ℕ → Type 0
-AreAnswered g u e [] ending text = (ending ≡ Done) × (text ≡ [])
-AreAnswered g u e (l ∷ ls) ending text =
-    (((first second : List ℕ) → IsQueryLine l first second → ⊥) × (ending ≡ Refused Queries None (codes "NotBuilt")) × (text ≡ [])) ⊎
-    ((written : List ℕ) × (rest : List ℕ) × IsAnswered g u e l written × (text ≡ written ++ rest) × AreAnswered g u e ls ending rest)
+-- lines of queries are answered by this relation of two names and a word, up to the first that is too long or asks nothing
+abbrev pub AnswersLines : (List ℕ → List ℕ → List ℕ → Type 0) → List Line → End → List ℕ → Type 0
+AnswersLines Answers lines ending text = (e : Ended) × AreAnswered Answers lines e text × (ending ≡ end_of_lines e)
 
 -- the bytes hold these lines
 abbrev pub TellsLines : List ℕ → List Line → Type 0
@@ -100,13 +93,13 @@ IsViewWritten g u ending text =
 abbrev pub Views : File → File → End → List ℕ → Type 0
 Views spec view = SpecStage spec (λ g. ViewStage g view (IsViewWritten g))
 
--- QUERIES, answered on a run under a view
-abbrev pub AnswersQueries : Grammar → ViewOf → List Event → File → End → List ℕ → Type 0
-AnswersQueries g u e queries = Stage long_most Queries queries TellsLines (OfWhole (IsNotBuilt TellsLines)) (AreAnswered g u e)
+-- QUERIES, answered by a relation of two names and a word
+abbrev pub QueriesStage : (List ℕ → List ℕ → List ℕ → Type 0) → File → End → List ℕ → Type 0
+QueriesStage Answers queries = Stage long_most Queries queries TellsLines RefusesNone (AnswersLines Answers)
 
 -- EVENTS and QUERIES under a view
 abbrev pub AnswersRun : Grammar → ViewOf → File → File → End → List ℕ → Type 0
-AnswersRun g u events queries = Stage long_most Events events (TellsRun g u instance_most) (RefusesRun g u instance_most) (λ e. AnswersQueries g u e queries)
+AnswersRun g u events queries = Stage long_most Events events (TellsRun g instance_most) (RefusesRun g instance_most) (λ e. QueriesStage (IsAnswer g u e) queries)
 
 -- VIEW, EVENTS and QUERIES of a grammar
 abbrev pub AnswersView : Grammar → File → File → File → End → List ℕ → Type 0
@@ -115,6 +108,14 @@ AnswersView g view events queries = ViewStage g view (λ u. AnswersRun g u event
 -- `trace` over the four files
 abbrev pub Traces : File → File → File → File → End → List ℕ → Type 0
 Traces spec view events queries = SpecStage spec (λ g. AnswersView g view events queries)
+
+-- LABELS and QUERIES under a view
+abbrev pub AnswersLabels : Grammar → ViewOf → File → File → End → List ℕ → Type 0
+AnswersLabels g u labels queries = Stage long_most Labels labels (TellsEntries g) (OfWhole (RefusesLabels g)) (λ entries. QueriesStage (IsAnswerText g u entries) queries)
+
+-- `ask` over the four files
+abbrev pub Asks : File → File → File → File → End → List ℕ → Type 0
+Asks spec view labels queries = SpecStage spec (λ g. ViewStage g view (λ u. AnswersLabels g u labels queries))
 
 -- EVENTS of a grammar, ingested: the label file of no events where the file is too long or broken, and else that of the lines that are taken
 pub data IngestsEvents (g : Grammar) (events : File) (ending : End) (text : List ℕ) : Type 0 where
@@ -137,6 +138,7 @@ Does files (Some (Check s)) ending text = Checks (files s) ending text
 Does files (Some (ViewCommand s v)) ending text = Views (files s) (files v) ending text
 Does files (Some (Ingest s e)) ending text = Ingests (files s) (files e) ending text
 Does files (Some (Trace s v e q)) ending text = Traces (files s) (files v) (files e) (files q) ending text
+Does files (Some (Ask s v l q)) ending text = Asks (files s) (files v) (files l) (files q) ending text
 Does files (Some (Decide s v x y)) ending text = Decides (files s) (files v) x y ending text
 
 -- how the program ends over files, and the text that it writes to out

@@ -24,8 +24,10 @@ use Rattle.wf_view.specs.declared.fault.ViewFault.TheVariants.{UnknownModule as 
 use Rattle.wf_view.specs.Viewing.{name_of, input_name, output_name}
 use Rattle.wf_safe.specs.declared.witness.Choice.{Choice}
 use Rattle.wf_safe.specs.declared.witness.Witness.{Witness}
+use Rattle.label_file.specs.declared.fault.StoreFault.{StoreFault}
+use Rattle.label_file.specs.declared.fault.StoreFault.TheVariants.{NotLabels, OtherSpec, Truncated, BadName, NameTwice as NameTwiceOfStore, BadLabel, NoMemory as NoMemoryOfStore}
 use Rattle.wf_top.specs.declared.refusal.Refusal.{Refusal}
-use Rattle.wf_top.specs.declared.refusal.Refusal.TheVariants.{TooLong, LineTooLong, NotJson, WrongShape, WrongEvent, Form, Check, Recur, View, Unsafe, Run, Malformed, NotBuilt}
+use Rattle.wf_top.specs.declared.refusal.Refusal.TheVariants.{TooLong, LineTooLong, NotJson, WrongShape, WrongEvent, Form, Check, Recur, View, Unsafe, Run, Store, Malformed, LineWrong, NotBuilt}
 
 -- the word of a member
 abbrev pub member_word : Member → List ℕ
@@ -191,6 +193,16 @@ joined_choice_text g w = joined_text w.joined_by_one ++ (codes " choice" ++ choi
 abbrev pub unsafe_text : Grammar → Witness → List ℕ
 unsafe_text g w = productions_text g w ++ (ports_text g w ++ joined_choice_text g w)
 
+-- Why bytes are no label file of a grammar. What is wrong with an entry is one fault, whatever it is
+abbrev pub store_name : StoreFault → List ℕ
+store_name NotLabels = codes "NotLabels"
+store_name OtherSpec = codes "OtherSpec"
+store_name (Truncated offset) = codes "Damaged"
+store_name (BadName entry) = codes "Damaged"
+store_name (NameTwiceOfStore entry) = codes "Damaged"
+store_name (BadLabel entry) = codes "Damaged"
+store_name NoMemoryOfStore = codes "NoMemory"
+
 -- the text of a refusal
 abbrev pub refusal_text : Refusal → List ℕ
 refusal_text TooLong = codes "TooLong"
@@ -204,5 +216,7 @@ refusal_text (Recur g f) = recur_text g.core f
 refusal_text (View f) = view_text f
 refusal_text (Unsafe g w) = unsafe_text g.core w
 refusal_text (Run f) = run_name f
+refusal_text (Store f) = store_name f
 refusal_text Malformed = codes "Malformed"
+refusal_text LineWrong = codes "LineWrong"
 refusal_text NotBuilt = codes "NotBuilt"

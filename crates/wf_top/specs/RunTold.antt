@@ -1,11 +1,10 @@
--- What the bytes of events tell: a finished run, or why they are refused.
+-- What the bytes of events tell: a run, or why they are refused.
 use Rattle.std.specs.Prelude.{◌≡◌, ◌⊎◌, ℕ, true, false, List, [], ◌∷◌, ◌++◌, Option, Some, None, codes}
 use Rattle.serde_json.specs.Data.{Data}
 use Rattle.wf_model.specs.declared.event.Event.{Event}
 use Rattle.wf_model.specs.declared.event.RunFault.{RunFault}
 use Rattle.wf_model.specs.Grammar.{Grammar}
-use Rattle.wf_model.specs.View.{View as ViewOf}
-use Rattle.wf_model.specs.Run.{IsAccepted, IsFinished}
+use Rattle.wf_model.specs.Run.{IsAccepted}
 use Rattle.wf_model.specs.Faults.{fault_of}
 use Rattle.wf_io.specs.Lines.{Line, is_too_long, text_of, lines_of}
 use Rattle.wf_json.specs.Reading.{IsReading, HasNoReading}
@@ -28,11 +27,10 @@ AreEvents [] (e ∷ es) = ⊥
 AreEvents (l ∷ ls) [] = ⊥
 AreEvents (l ∷ ls) (e ∷ es) = IsEventLine l e × AreEvents ls es
 
--- the bytes tell a run that is accepted with this limit on its instances, and finished under the view
-pub record TellsRun (g : Grammar) (u : ViewOf) (limit : ℕ) (bytes : List ℕ) (events : List Event) : Type 0 where
+-- the bytes tell a run that is accepted with this limit on its instances
+pub record TellsRun (g : Grammar) (limit : ℕ) (bytes : List ℕ) (events : List Event) : Type 0 where
   pub read : AreEvents (lines_of bytes) events
   pub accepted : IsAccepted g limit events
-  pub finished : IsFinished g u g.start events
 
 -- why a text tells no event: it has no reading; or the value that it reads as has not the form of an event
 abbrev pub RefusesForm : List ℕ → List ℕ → Type 0
@@ -66,12 +64,6 @@ RefusesLines g limit before (l ∷ ls) line fault =
     RefusesLine g limit before l line fault ⊎
     ((e : Event) × IsEventLine l e × (fault_of g limit before e ≡ None) × RefusesLines g limit (before ++ e ∷ []) ls line fault)
 
--- the lines tell an accepted run that is not finished
-abbrev pub IsUnfinished : Grammar → ViewOf → ℕ → List Line → Type 0
-IsUnfinished g u limit ls = (es : List Event) × AreEvents ls es × IsAccepted g limit es × (¬ IsFinished g u g.start es)
-
--- why bytes are refused as events: a line of them is; or they tell a run that is not finished
-abbrev pub RefusesRun : Grammar → ViewOf → ℕ → List ℕ → Option ℕ → List ℕ → Type 0
-RefusesRun g u limit bytes line fault =
-    RefusesLines g limit [] (lines_of bytes) line fault ⊎
-    (IsUnfinished g u limit (lines_of bytes) × (line ≡ None) × (fault ≡ codes "NotBuilt"))
+-- why bytes are refused as events: a line of them is
+abbrev pub RefusesRun : Grammar → ℕ → List ℕ → Option ℕ → List ℕ → Type 0
+RefusesRun g limit bytes line fault = RefusesLines g limit [] (lines_of bytes) line fault

@@ -74,7 +74,3 @@ IsStop NoMemory = Unit {0}
 -- the bytes are held as they are
 abbrev pub Holds : List ℕ → List ℕ → Type 0
 Holds bytes held = held ≡ bytes
-
--- no bytes are refused
-abbrev pub RefusesNone : List ℕ → Option ℕ → List ℕ → Type 0
-RefusesNone bytes line fault = ⊥

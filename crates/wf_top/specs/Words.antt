@@ -9,6 +9,7 @@ pub data Command : Type 0 where
   View : List ℕ → List ℕ → Command
   Ingest : List ℕ → List ℕ → Command
   Trace : List ℕ → List ℕ → List ℕ → List ℕ → Command
+  Ask : List ℕ → List ℕ → List ℕ → List ℕ → Command
   Decide : List ℕ → List ℕ → List ℕ → List ℕ → Command
 
 -- `decide` of two files and of two words, which are hexadecimal digits of either case, two for each byte of a label
@@ -26,5 +27,16 @@ command_of (c ∷ s ∷ v ∷ []) = cond (bytes_eq c (codes "view")) (Some (View
 command_of (c ∷ s ∷ v ∷ e ∷ []) = None
 command_of (c ∷ s ∷ v ∷ e ∷ q ∷ []) =
     cond (bytes_eq c (codes "trace")) (Some (Trace s v e q))
-    (cond (bytes_eq c (codes "decide")) (decide_of s v (decode_of e) (decode_of q)) None)
+    (cond (bytes_eq c (codes "ask")) (Some (Ask s v e q))
+    (cond (bytes_eq c (codes "decide")) (decide_of s v (decode_of e) (decode_of q)) None))
 command_of (c ∷ s ∷ v ∷ e ∷ q ∷ w ∷ ws) = None
+
+-- the command is `ask`
+abbrev pub IsAsk : Option Command → Type 0
+IsAsk None = ⊥
+IsAsk (Some (Check s)) = ⊥
+IsAsk (Some (View s v)) = ⊥
+IsAsk (Some (Ingest s e)) = ⊥
+IsAsk (Some (Trace s v e q)) = ⊥
+IsAsk (Some (Ask s v l q)) = Unit {0}
+IsAsk (Some (Decide s v x y)) = ⊥

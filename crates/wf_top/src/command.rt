@@ -14,6 +14,15 @@ pub struct TraceWords<'w> {
     pub queries: &'w str,
 }
 
+/// The names of the files that `ask` reads, in this order.
+#[derive(Clone, Copy)]
+pub struct AskWords<'w> {
+    pub spec: &'w str,
+    pub view: &'w str,
+    pub labels: &'w str,
+    pub queries: &'w str,
+}
+
 /// The names of the files that `decide` reads, in this order, and the digits of two labels.
 #[derive(Clone, Copy)]
 pub struct DecideWords<'w> {
@@ -30,6 +39,7 @@ pub enum Command<'w> {
     View { spec: &'w str, view: &'w str },
     Ingest { spec: &'w str, events: &'w str },
     Trace { words: TraceWords<'w> },
+    Ask { words: AskWords<'w> },
     Decide { words: DecideWords<'w> },
 }
 
@@ -87,6 +97,15 @@ fn with_four_words<'w>(
                 spec,
                 view,
                 events: third,
+                queries: fourth,
+            },
+        })
+    } else if command == "ask" {
+        Some(Command::Ask {
+            words: AskWords {
+                spec,
+                view,
+                labels: third,
                 queries: fourth,
             },
         })

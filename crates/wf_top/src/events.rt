@@ -1,24 +1,21 @@
-// EVENTS: from bytes to a finished run.
+// EVENTS: from bytes to a run.
 ghost use Rattle.std.specs.Prelude.{◌≡◌, ◌++◌, ◌∷◌, [], Some, None, IfOk, IfErr, OnOk};
-ghost use Rattle.wf_top.specs.Viewed.{IsViewedBy};
 ghost use Rattle.wf_model.specs.Faults.{fault_of};
-ghost use Rattle.wf_io.specs.Lines.{lines_of};
 ghost use Rattle.wf_model.specs.declared.event.Event.{Event};
 ghost use Rattle.wf_flat.specs.Table.{IsRunOf, events_of};
 ghost use Rattle.wf_top.specs.Endings.{end_of, Refused};
 ghost use Rattle.wf_top.specs.Refusals.{refusal_text};
 ghost use Rattle.wf_top.specs.Telling.{AtLine};
-ghost use Rattle.wf_top.specs.RunTold.{IsEventText, AreEvents, TellsRun, RefusesForm, RefusesText, RefusesLines, RefusesRun};
+ghost use Rattle.wf_top.specs.RunTold.{IsEventText, TellsRun, RefusesForm, RefusesText, RefusesRun};
 ghost use Rattle.wf_top.specs.Outcome.{instance_most};
 ghost use Rattle.wf_top.specs.Stages.{Declines};
 ghost use Rattle.wf_top.specs.declared.ending.Place.TheVariants.{Events};
 
-use crate::ending::{Ending, Place, not_built};
+use crate::ending::{Ending, Place};
 use crate::refusal::Refusal;
-use crate::view::Viewed;
 use std::alloc::Global;
 use wf_events::{EventFault, read_event};
-use wf_flat::{PlainRun, is_finished};
+use wf_flat::PlainRun;
 use wf_io::WholeLines;
 use wf_spec::{Event, Grammar, RunFault};
 
@@ -74,11 +71,15 @@ fn take_line(
     }
 }
 
-/// The run that all lines tell, or the refusal of the first line that is refused.
-fn take_lines(alloc: Global, g: &Grammar, bytes: &[u8]) -> Result<PlainRun, Ending>
-    ensures run { IfOk result (λ r. IsRunOf g.now.core r × (r.most ≡ instance_most)) }
-    ensures read { IfOk result (λ r. AreEvents (lines_of bytes.now) (events_of r)) }
-    ensures declines { IfErr result (λ d. Declines Events (RefusesLines g.now.core instance_most [] (lines_of bytes.now)) (end_of d)) }
+/// The run that events tell.
+///
+/// Refused at the first line that is too long, has no reading, has not the form of an event, or tells an event that the run refuses, with its number and the fault. `NoMemory` may come at any line.
+///
+/// Cost: linear in the bytes.
+pub fn run_of_bytes(alloc: Global, g: &Grammar, bytes: &[u8]) -> Result<PlainRun, Ending>
+    ensures run { IfOk result (λ r. IsRunOf g.now.core r) }
+    ensures ok { IfOk result (λ r. TellsRun g.now.core instance_most bytes.now (events_of r)) }
+    ensures declines { IfErr result (λ d. Declines Events (RefusesRun g.now.core instance_most bytes.now) (end_of d)) }
 {
     let mut run = PlainRun::new(alloc, INSTANCES);
     let mut lines = WholeLines::open(bytes);
@@ -91,24 +92,4 @@ fn take_lines(alloc: Global, g: &Grammar, bytes: &[u8]) -> Result<PlainRun, Endi
         };
         take_line(alloc, g, &mut run, lines.line(), line)?;
     }
-}
-
-/// The run that events tell, which is finished under a view.
-///
-/// Refused at the first line that is too long, has no reading, has not the form of an event, or tells an event that the run refuses, with its number and the fault; and at the end where the run is not finished. `NoMemory` may come at any line.
-///
-/// Cost: linear in the bytes.
-pub fn run_of_bytes(alloc: Global, v: &Viewed, bytes: &[u8]) -> Result<PlainRun, Ending>
-    ensures run { IfOk result (λ r. IsRunOf v.now.grammar.core r) }
-    ensures ok { IfOk result (λ r. TellsRun v.now.grammar.core v.now.view.core instance_most bytes.now (events_of r)) }
-    ensures declines { IfErr result (λ e. Declines Events (RefusesRun v.now.grammar.core v.now.view.core instance_most bytes.now) (end_of e)) }
-{
-    let run = take_lines(alloc, &v.grammar, bytes)?;
-    let Ok(finished) = is_finished(alloc, &v.grammar, &run, v.view.marks()) else {
-        return Err(Ending::NoMemory);
-    };
-    if !finished {
-        return Err(not_built(Place::Events));
-    }
-    Ok(run)
 }

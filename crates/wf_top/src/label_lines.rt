@@ -15,7 +15,8 @@ ghost use Rattle.wf_top.specs.RunTold.{RefusesText};
 ghost use Rattle.wf_top.specs.Ingested.{IngestsLines, file_head};
 ghost use Rattle.wf_top.specs.Labelled.{HaveRoom, IsTakenInto, IsLabelled, StopsPut, StopsAtLine};
 ghost use Rattle.wf_top.specs.Outcome.{instance_most};
-ghost use Rattle.wf_top.specs.Meets.{Appended, EndsBehind};
+ghost use Rattle.wf_io.specs.Told.{Appended};
+ghost use Rattle.wf_top.specs.Meets.{EndsBehind};
 ghost use Rattle.wf_top.specs.Stages.{Declines, IsWritingCause};
 
 use crate::ending::Ending;

@@ -2,6 +2,7 @@
 #![tactic(auto)]
 
 mod answer;
+mod asking;
 mod check;
 mod check_text;
 mod command;
@@ -29,7 +30,7 @@ mod verdict;
 mod view;
 mod view_text;
 
-pub use law::{ingest_grows_law, one_outcome_law};
+pub use law::{ask_is_trace_law, ingest_grows_law, labels_tell_law, one_outcome_law};
 pub use program::run;
 pub use status::Status;
 

@@ -1,13 +1,14 @@
 // All that the program does.
 ghost use Rattle.std.specs.Prelude.{◌≡◌, ◌↔◌, ◌≤◌, ℕ, List, Some, None, map, IfErr};
 ghost use Rattle.wf_io.specs.Told.{File, Rose};
-ghost use Rattle.wf_top.specs.Words.{command_of};
+ghost use Rattle.wf_top.specs.Words.{command_of, IsAsk};
 ghost use Rattle.wf_top.specs.Called.{meant, HasDigits};
-ghost use Rattle.wf_top.specs.Endings.{end_of, end_after};
+ghost use Rattle.wf_top.specs.Endings.{end_of, end_after, NoMemory};
 ghost use Rattle.wf_top.specs.Outcome.{Does};
 ghost use Rattle.wf_top.specs.Meets.{HasEnded, EndsAsTold, EndsBy};
 ghost use Rattle.wf_top.specs.Stages.{IsCause, IsStop};
 
+use crate::asking::ask;
 use crate::check::check;
 use crate::command::{Command, command_of};
 use crate::deciding::decide;
@@ -28,6 +29,8 @@ use wf_io::{Shelf, Sink};
 ///
 /// `ingest SPEC EVENTS` writes the label file of a run: the head once SPEC is accepted, and the entries of the items that an event makes before the next event is taken.
 ///
+/// `ask SPEC VIEW LABELS QUERIES` answers each query line from the label file of a run, by `yes`, `no`, `hidden`, `unknown` or `clash`, from the labels of the two items and the view alone. It takes no memory once the first answer is put.
+///
 /// `decide SPEC VIEW HEX HEX` writes what two labels tell under a safe view: `yes` or `no`, whether the item of the second depends on that of the first; `hidden 1` or `hidden 2`, if the view hides one of them; or `clash`, if no run has both.
 ///
 /// `trace SPEC VIEW EVENTS QUERIES` answers each query line by `yes`, `no`, `hidden` or `unknown`: whether the second item depends on the first, however the run is finished under the view.
@@ -43,6 +46,7 @@ pub fn run<H: Shelf, O: Sink, E: Sink>(
     ensures quiet { result ≡ Status.Usage → (O.put_bytes out.new ≡ O.put_bytes out.old) × (H.faults shelf.new ≡ H.faults shelf.old) }
     ensures read { result ≡ Status.ReadFault → Rose (H.faults shelf.old) (H.faults shelf.new) (H.at_last shelf.new) }
     ensures write { result ≡ Status.WriteFault → Rose (O.faults out.old) (O.faults out.new) (O.at_last out.new) × (H.faults shelf.new ≡ H.faults shelf.old) }
+    ensures untouched { result ≡ Status.NoMemory → IsAsk (command_of (map (λ w. w.now) words.now)) → O.put_bytes out.new ≡ O.put_bytes out.old }
     ensures same { H.files shelf.new ≡ H.files shelf.old }
 {
     let ending = perform(alloc, words, shelf, out);
@@ -56,6 +60,7 @@ fn perform<H: Shelf, O: Sink>(alloc: Global, words: &[&str], shelf: &mut H, out:
     ensures usage { (result ≡ Ending.Usage) ↔ (command_of (map (λ w. w.now) words.now) ≡ None) }
     ensures quiet { result ≡ Ending.Usage → (O.put_bytes out.new ≡ O.put_bytes out.old) × (H.faults shelf.new ≡ H.faults shelf.old) }
     ensures cause { IsCause (H.faults shelf.old) (H.faults shelf.new) (H.at_last shelf.new) (O.faults out.old) (O.faults out.new) (O.at_last out.new) (end_of result) }
+    ensures untouched { end_of result ≡ NoMemory → IsAsk (command_of (map (λ w. w.now) words.now)) → O.put_bytes out.new ≡ O.put_bytes out.old }
     ensures same { H.files shelf.new ≡ H.files shelf.old }
 {
     let Some(command) = command_of(words) else {
@@ -77,6 +82,7 @@ fn obey<H: Shelf, O: Sink>(
     requires { HasDigits command.now }
     ensures ends { (f : List ℕ → File) → H.files shelf.old ≡ Some f → EndsBy (Does f (Some (meant command.now))) (end_after result) (O.put_bytes out.old) (O.put_bytes out.new) }
     ensures stop { IfErr result (λ e. IsStop (end_of e)) }
+    ensures untouched { IfErr result (λ e. end_of e ≡ NoMemory → IsAsk (Some (meant command.now)) → O.put_bytes out.new ≡ O.put_bytes out.old) }
     ensures cause { IfErr result (λ e. IsCause (H.faults shelf.old) (H.faults shelf.new) (H.at_last shelf.new) (O.faults out.old) (O.faults out.new) (O.at_last out.new) (end_of e)) }
     ensures same { H.files shelf.new ≡ H.files shelf.old }
     ensures later { H.faults shelf.old ≤ H.faults shelf.new }
@@ -86,6 +92,7 @@ fn obey<H: Shelf, O: Sink>(
         Command::View { spec, view } => show(alloc, spec, view, shelf, out),
         Command::Ingest { spec, events } => ingest(alloc, spec, events, shelf, out),
         Command::Trace { words } => trace(alloc, words, shelf, out),
+        Command::Ask { words } => ask(alloc, words, shelf, out),
         Command::Decide { words } => decide(alloc, words, shelf, out),
     }
 }

@@ -1,67 +1,90 @@
-// QUERIES: lines answered one by one.
+// QUERIES of a run: lines answered one by one by the search in its graph.
 ghost use Rattle.std.specs.Prelude.{◌≡◌, ℕ, List, IfErr, OnOk};
+ghost use Rattle.wf_io.specs.Told.{Appended, Rose};
 ghost use Rattle.wf_io.specs.Lines.{lines_of};
+ghost use Rattle.wf_query.specs.Lines.{ArePut, EndsAt, IsAsked, ended_by};
 ghost use Rattle.wf_flat.specs.Table.{events_of};
-ghost use Rattle.wf_top.specs.Outcome.{AreAnswered};
-ghost use Rattle.wf_top.specs.Endings.{end_of, end_after};
-ghost use Rattle.wf_top.specs.Meets.{Appended, EndsBy};
-ghost use Rattle.wf_top.specs.Stages.{IsWritingCause};
+ghost use Rattle.wf_top.specs.Answers.{IsAnswer};
+ghost use Rattle.wf_top.specs.Batched.{end_at};
+ghost use Rattle.wf_top.specs.Endings.{end_of};
 ghost use Rattle.wf_top.specs.Prepared.{IsPrepared};
-ghost use Rattle.wf_top.specs.Asked.{IsAsked, EndsAt};
 
 use crate::answer::answer;
-use crate::ending::{Ending, Place, not_built};
+use crate::ending::{Ending, Place};
 use crate::prepared::Prepared;
+use crate::refusal::Refusal;
 use std::alloc::Global;
 use wf_io::{Sink, WholeLines};
-use wf_query::read_query;
+use wf_query::{BatchFault, read_query};
 
-/// Answers the query of a line.
-fn answer_line<O: Sink>(
-    alloc: Global,
-    p: &Prepared<'_>,
-    line: &[u8],
-    out: &mut O,
-) -> Result<(), Ending>
-    requires { IsPrepared p.now.viewed.now.grammar.core p.now.viewed.now.view.core p.now.run.now p.now.flat }
-    ensures asked { OnOk result ((written : List ℕ) × IsAsked p.now.viewed.now.grammar.core p.now.viewed.now.view.core (events_of p.now.run.now) line.now written × Appended written (O.put_bytes out.old) (O.put_bytes out.new)) }
-    ensures ends { IfErr result (λ d. EndsAt p.now.viewed.now.grammar.core p.now.viewed.now.view.core (events_of p.now.run.now) line.now (end_of d) (O.put_bytes out.old) (O.put_bytes out.new)) }
-    ensures count { OnOk result (O.faults out.new ≡ O.faults out.old) }
-    ensures cause { IfErr result (λ d. IsWritingCause (O.faults out.old) (O.faults out.new) (O.at_last out.new) (end_of d)) }
-{
-    let Ok(query) = read_query(line) else {
-        return Err(not_built(Place::Queries));
-    };
-    let Ok(text) = answer(alloc, p, query.first, query.second) else {
-        return Err(Ending::NoMemory);
-    };
-    match out.put(text) {
-        Ok(()) => Ok(()),
-        Err(_) => Err(Ending::WriteFault),
+/// The ending at a line of queries that is refused.
+fn refused(line: u64, refusal: Refusal) -> Ending {
+    Ending::Refused {
+        place: Place::Queries,
+        line: Some(line),
+        refusal,
     }
 }
 
-/// Answers all lines, up to the first that is no query.
+/// The ending at a fault of lines of queries.
+pub fn ending_of(fault: BatchFault) -> Ending
+    ensures { end_of result ≡ end_at fault }
+{
+    match fault {
+        BatchFault::LineWrong { line } => refused(line, Refusal::LineWrong),
+        BatchFault::LineTooLong { line } => refused(line, Refusal::LineTooLong),
+        BatchFault::WriteFault => Ending::WriteFault,
+        BatchFault::NoMemory => Ending::NoMemory,
+    }
+}
+
+/// Answers the query of the line of a number.
+fn answer_line<O: Sink>(
+    alloc: Global,
+    p: &Prepared<'_>,
+    number: u64,
+    line: &[u8],
+    out: &mut O,
+) -> Result<(), BatchFault>
+    requires { IsPrepared p.now.viewed.now.grammar.core p.now.viewed.now.view.core p.now.run.now p.now.flat }
+    ensures asked { OnOk result ((written : List ℕ) × IsAsked (IsAnswer p.now.viewed.now.grammar.core p.now.viewed.now.view.core (events_of p.now.run.now)) line.now written × Appended written (O.put_bytes out.old) (O.put_bytes out.new)) }
+    ensures ends { IfErr result (λ f. EndsAt (IsAnswer p.now.viewed.now.grammar.core p.now.viewed.now.view.core (events_of p.now.run.now)) number line.now f (O.put_bytes out.old) (O.put_bytes out.new)) }
+    ensures count { OnOk result (O.faults out.new ≡ O.faults out.old) }
+    ensures cause { IfErr result (λ f. f ≡ BatchFault.WriteFault → Rose (O.faults out.old) (O.faults out.new) (O.at_last out.new)) }
+{
+    let Ok(query) = read_query(line) else {
+        return Err(BatchFault::LineWrong { line: number });
+    };
+    let Ok(text) = answer(alloc, p, query.first, query.second) else {
+        return Err(BatchFault::NoMemory);
+    };
+    match out.put(text) {
+        Ok(()) => Ok(()),
+        Err(_) => Err(BatchFault::WriteFault),
+    }
+}
+
+/// Answers all lines, up to the first that is too long or no query.
 pub fn answer_lines<O: Sink>(
     alloc: Global,
     p: &Prepared<'_>,
     bytes: &[u8],
     out: &mut O,
-) -> Result<(), Ending>
+) -> Result<(), BatchFault>
     requires { IsPrepared p.now.viewed.now.grammar.core p.now.viewed.now.view.core p.now.run.now p.now.flat }
-    ensures ends { EndsBy (AreAnswered p.now.viewed.now.grammar.core p.now.viewed.now.view.core (events_of p.now.run.now) (lines_of bytes.now)) (end_after result) (O.put_bytes out.old) (O.put_bytes out.new) }
-    ensures cause { IfErr result (λ e. IsWritingCause (O.faults out.old) (O.faults out.new) (O.at_last out.new) (end_of e)) }
+    ensures put { ArePut (IsAnswer p.now.viewed.now.grammar.core p.now.viewed.now.view.core (events_of p.now.run.now)) (lines_of bytes.now) (ended_by result) (O.put_bytes out.old) (O.put_bytes out.new) }
+    ensures cause { IfErr result (λ f. f ≡ BatchFault.WriteFault → Rose (O.faults out.old) (O.faults out.new) (O.at_last out.new)) }
 {
     let mut lines = WholeLines::open(bytes);
     loop {
         let Ok(next) = lines.next() else {
-            return Err(not_built(Place::Queries));
+            return Err(BatchFault::LineTooLong { line: lines.line() });
         };
         let Some(line) = next else {
             return Ok(());
         };
-        if let Err(ending) = answer_line(alloc, p, line, out) {
-            return Err(ending);
+        if let Err(fault) = answer_line(alloc, p, lines.line(), line, out) {
+            return Err(fault);
         }
     }
 }

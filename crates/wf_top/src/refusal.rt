@@ -1,4 +1,5 @@
 // Why a file or a label is refused.
+use label_file::StoreFault;
 use wf_check::CheckFault;
 use wf_json::Member;
 use wf_recur::RecurFault;
@@ -31,8 +32,12 @@ pub enum Refusal {
     Unsafe { grammar: Grammar, witness: Witness },
     /// A run refuses the event of a line.
     Run { fault: RunFault },
+    /// The bytes are no label file of the grammar.
+    Store { fault: StoreFault },
     /// The bytes are no label of the grammar.
     Malformed,
+    /// The line is not two item names with one space between.
+    LineWrong,
     /// The file has a form that is not built yet.
     NotBuilt,
 }

@@ -32,6 +32,7 @@ fn word_of(place: Place) -> &'static [u8]
         Place::Spec => b"spec",
         Place::View => b"view",
         Place::Events => b"events",
+        Place::Labels => b"labels",
         Place::Queries => b"queries",
         Place::FirstLabel => b"label 1",
         Place::SecondLabel => b"label 2",

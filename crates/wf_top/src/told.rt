@@ -3,12 +3,13 @@ ghost use Rattle.std.specs.Prelude.{◌≡◌, ◌++◌, Some, map, codes, decim
 ghost use Rattle.wf_model.specs.Grammar.{module_at};
 ghost use Rattle.wf_recur.specs.Cycles.{step_of};
 ghost use Rattle.wf_top.specs.Meets.{Puts};
-ghost use Rattle.wf_top.specs.Refusals.{member_word, spot_text, form_name, form_spot, behind_space, form_text, numbers_text, check_text, step_text, recur_text, run_name, refusal_text};
+ghost use Rattle.wf_top.specs.Refusals.{member_word, spot_text, form_name, form_spot, behind_space, form_text, numbers_text, check_text, step_text, recur_text, run_name, store_name, refusal_text};
 
 use crate::names::{module_name, position_name};
 use crate::put::{put, put_numbered, put_numbers, put_two};
 use crate::refusal::Refusal;
 use crate::told_view::{put_unsafe, put_view};
+use label_file::StoreFault;
 use wf_check::CheckFault;
 use wf_io::{Failed, Sink};
 use wf_json::Member;
@@ -190,6 +191,20 @@ fn run_name(fault: RunFault) -> &'static [u8]
     }
 }
 
+fn store_name(fault: StoreFault) -> &'static [u8]
+    ensures { result.now ≡ store_name fault }
+{
+    match fault {
+        StoreFault::NotLabels => b"NotLabels",
+        StoreFault::OtherSpec => b"OtherSpec",
+        StoreFault::Truncated { .. } => b"Damaged",
+        StoreFault::BadName { .. } => b"Damaged",
+        StoreFault::NameTwice { .. } => b"Damaged",
+        StoreFault::BadLabel { .. } => b"Damaged",
+        StoreFault::NoMemory => b"NoMemory",
+    }
+}
+
 /// Puts the text of a refusal.
 pub fn put_refusal<E: Sink>(err: &mut E, refusal: &Refusal) -> Result<(), Failed>
     ensures { Puts E.put_bytes E.faults E.at_last (refusal_text refusal.now) err.old err.new result }
@@ -206,7 +221,9 @@ pub fn put_refusal<E: Sink>(err: &mut E, refusal: &Refusal) -> Result<(), Failed
         Refusal::View { fault } => put_view(err, *fault),
         Refusal::Unsafe { grammar, witness } => put_unsafe(err, grammar, witness),
         Refusal::Run { fault } => put(err, run_name(*fault)),
+        Refusal::Store { fault } => put(err, store_name(*fault)),
         Refusal::Malformed => put(err, b"Malformed"),
+        Refusal::LineWrong => put(err, b"LineWrong"),
         Refusal::NotBuilt => put(err, b"NotBuilt"),
     }
 }

@@ -1,12 +1,12 @@
 // `trace`: the files in the order of the words, and then the answers.
 ghost use Rattle.std.specs.Prelude.{◌≡◌, ◌≤◌, ℕ, List, Some, IfErr, IfOk, OnOk};
-ghost use Rattle.wf_model.specs.Run.{IsFinished};
 ghost use Rattle.wf_io.specs.Told.{File};
 ghost use Rattle.wf_flat.specs.Table.{IsRunOf, events_of};
 ghost use Rattle.wf_top.specs.declared.ending.Place.TheVariants.{Events, Queries};
+ghost use Rattle.wf_top.specs.Answers.{IsAnswer};
 ghost use Rattle.wf_top.specs.Endings.{end_of, end_after};
 ghost use Rattle.wf_top.specs.RunTold.{TellsRun, RefusesRun};
-ghost use Rattle.wf_top.specs.Outcome.{AnswersQueries, AnswersRun, Traces, long_most, instance_most};
+ghost use Rattle.wf_top.specs.Outcome.{QueriesStage, AnswersRun, Traces, long_most, instance_most};
 ghost use Rattle.wf_top.specs.Meets.{EndsBy};
 ghost use Rattle.wf_top.specs.Stages.{IsTold, StopsAt, IsReadingCause, IsCause, IsStop};
 ghost use Rattle.wf_top.specs.Prepared.{IsPrepared};
@@ -17,7 +17,7 @@ use crate::ending::{Ending, Place};
 use crate::events::run_of_bytes;
 use crate::file::{LONG, read_file};
 use crate::prepared::Prepared;
-use crate::queries::answer_lines;
+use crate::queries::{answer_lines, ending_of};
 use crate::spec::spec_stage;
 use crate::view::{Viewed, view_stage};
 use std::alloc::Global;
@@ -31,23 +31,22 @@ fn events_stage<H: Shelf>(
     name: &str,
     v: &Viewed,
 ) -> Result<PlainRun, Ending>
-    ensures run { IfOk result (λ r. IsRunOf v.now.grammar.core r × IsFinished v.now.grammar.core v.now.view.core v.now.grammar.core.start (events_of r)) }
-    ensures ok { IfOk result (λ r. (f : List ℕ → File) → H.files shelf.old ≡ Some f → IsTold long_most (f name.now) (TellsRun v.now.grammar.core v.now.view.core instance_most) (events_of r)) }
-    ensures stops { IfErr result (λ e. (f : List ℕ → File) → H.files shelf.old ≡ Some f → StopsAt long_most Events (f name.now) (RefusesRun v.now.grammar.core v.now.view.core instance_most) (end_of e)) }
+    ensures run { IfOk result (λ r. IsRunOf v.now.grammar.core r) }
+    ensures ok { IfOk result (λ r. (f : List ℕ → File) → H.files shelf.old ≡ Some f → IsTold long_most (f name.now) (TellsRun v.now.grammar.core instance_most) (events_of r)) }
+    ensures stops { IfErr result (λ e. (f : List ℕ → File) → H.files shelf.old ≡ Some f → StopsAt long_most Events (f name.now) (RefusesRun v.now.grammar.core instance_most) (end_of e)) }
     ensures cause { IfErr result (λ e. IsReadingCause (H.faults shelf.old) (H.faults shelf.new) (H.at_last shelf.new) (end_of e)) }
     ensures count { OnOk result (H.faults shelf.new ≡ H.faults shelf.old) }
     ensures same { H.files shelf.new ≡ H.files shelf.old }
     ensures later { H.faults shelf.old ≤ H.faults shelf.new }
 {
     let bytes = read_file(alloc, shelf, name, LONG, Place::Events)?;
-    run_of_bytes(alloc, v, &bytes)
+    run_of_bytes(alloc, &v.grammar, &bytes)
 }
 
 /// A run with its links, as queries need it. Fails only for want of memory.
 fn prepare<'p>(alloc: Global, v: &'p Viewed, run: &'p PlainRun) -> Result<Prepared<'p>, Ending>
     requires viewed { IsViewedBy v.now.grammar.core v.now.view v.now.full }
     requires run { IsRunOf v.now.grammar.core run.now }
-    requires finished { IsFinished v.now.grammar.core v.now.view.core v.now.grammar.core.start (events_of run.now) }
     ensures viewed { IfOk result (λ p. p.viewed.now ≡ v.now) }
     ensures run { IfOk result (λ p. p.run.now ≡ run.now) }
     ensures prepared { IfOk result (λ p. IsPrepared p.viewed.now.grammar.core p.viewed.now.view.core p.run.now p.flat) }
@@ -72,17 +71,20 @@ fn queries_stage<H: Shelf, O: Sink>(
     out: &mut O,
 ) -> Result<(), Ending>
     requires { IsPrepared p.now.viewed.now.grammar.core p.now.viewed.now.view.core p.now.run.now p.now.flat }
-    ensures ends { (f : List ℕ → File) → H.files shelf.old ≡ Some f → EndsBy (AnswersQueries p.now.viewed.now.grammar.core p.now.viewed.now.view.core (events_of p.now.run.now) (f name.now)) (end_after result) (O.put_bytes out.old) (O.put_bytes out.new) }
+    ensures ends { (f : List ℕ → File) → H.files shelf.old ≡ Some f → EndsBy (QueriesStage (IsAnswer p.now.viewed.now.grammar.core p.now.viewed.now.view.core (events_of p.now.run.now)) (f name.now)) (end_after result) (O.put_bytes out.old) (O.put_bytes out.new) }
     ensures stop { IfErr result (λ e. IsStop (end_of e)) }
     ensures cause { IfErr result (λ e. IsCause (H.faults shelf.old) (H.faults shelf.new) (H.at_last shelf.new) (O.faults out.old) (O.faults out.new) (O.at_last out.new) (end_of e)) }
     ensures same { H.files shelf.new ≡ H.files shelf.old }
     ensures later { H.faults shelf.old ≤ H.faults shelf.new }
 {
     let bytes = read_file(alloc, shelf, name, LONG, Place::Queries)?;
-    answer_lines(alloc, p, &bytes, out)
+    match answer_lines(alloc, p, &bytes, out) {
+        Ok(()) => Ok(()),
+        Err(fault) => Err(ending_of(fault)),
+    }
 }
 
-/// Answers the queries of a file on a finished run.
+/// Answers the queries of a file on a run, under a view.
 fn answer_run<H: Shelf, O: Sink>(
     alloc: Global,
     v: &Viewed,
@@ -93,8 +95,7 @@ fn answer_run<H: Shelf, O: Sink>(
 ) -> Result<(), Ending>
     requires viewed { IsViewedBy v.now.grammar.core v.now.view v.now.full }
     requires run { IsRunOf v.now.grammar.core run.now }
-    requires finished { IsFinished v.now.grammar.core v.now.view.core v.now.grammar.core.start (events_of run.now) }
-    ensures ends { (f : List ℕ → File) → H.files shelf.old ≡ Some f → EndsBy (AnswersQueries v.now.grammar.core v.now.view.core (events_of run.now) (f name.now)) (end_after result) (O.put_bytes out.old) (O.put_bytes out.new) }
+    ensures ends { (f : List ℕ → File) → H.files shelf.old ≡ Some f → EndsBy (QueriesStage (IsAnswer v.now.grammar.core v.now.view.core (events_of run.now)) (f name.now)) (end_after result) (O.put_bytes out.old) (O.put_bytes out.new) }
     ensures stop { IfErr result (λ e. IsStop (end_of e)) }
     ensures cause { IfErr result (λ e. IsCause (H.faults shelf.old) (H.faults shelf.new) (H.at_last shelf.new) (O.faults out.old) (O.faults out.new) (O.at_last out.new) (end_of e)) }
     ensures same { H.files shelf.new ≡ H.files shelf.old }
@@ -123,7 +124,7 @@ fn answer_view<H: Shelf, O: Sink>(
     answer_run(alloc, v, &run, words.queries, shelf, out)
 }
 
-/// Answers the queries on a run of a grammar, which is finished under a safe view, by the search in its graph.
+/// Answers the queries on a run of a grammar, however it is finished under a safe view, by the search in its graph: pending instances have the pairs that each of their expansions joins.
 pub fn trace<H: Shelf, O: Sink>(
     alloc: Global,
     words: &TraceWords<'_>,

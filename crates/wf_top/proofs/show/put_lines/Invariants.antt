@@ -2,7 +2,7 @@ use Rattle.std.proofs.Common.{◌≡◌, [], cond, false, get_or}
 use Rattle.std.specs.Prelude.{flat_map}
 use Rattle.wf_model.specs.Lists.{numbers_from}
 use Rattle.wf_model.specs.Meaning.{pairs_of}
-use Rattle.wf_top.specs.Meets.{Appended}
+use Rattle.wf_io.specs.Told.{Appended}
 use Rattle.wf_top.specs.ViewText.{module_line}
 use Rattle.wf_top.proofs.show.put_lines.Given as goal
 

@@ -4,43 +4,18 @@ ghost use Rattle.wf_model.specs.View.{View};
 ghost use Rattle.label_model.specs.Files.{Entry};
 ghost use Rattle.wf_recur.specs.Cycles.{round_at};
 ghost use Rattle.decode_model.specs.Counts.{most_products};
-ghost use Rattle.label_file.specs.Stored.{AreHeldOf, HoldsLabels};
+ghost use Rattle.label_file.specs.Stored.{AreHeldOf, IsStoreFor};
 ghost use Rattle.wf_vlabel.specs.Seen.{IsLabelOfView};
 ghost use Rattle.wf_decode.specs.Reading.{most_legs};
 ghost use Rattle.wf_query.specs.Answers.{IsAnswer};
 
+use crate::answers::{Answer, told};
 use crate::query::Query;
 use bool_mat::Steps;
 use label_file::Store;
 use std::sync::ledger::Ledger;
-use wf_decode::{Scratch, Verdict, decide};
+use wf_decode::{Scratch, decide};
 use wf_vlabel::ViewLabel;
-
-/// The answer to a query. The first of these that applies:
-#[derive(Clone, Copy, Debug, PartialEq, Eq)]
-pub enum Answer {
-    /// A name has no entry.
-    Unknown,
-    /// The view hides one of the two items.
-    Hidden,
-    /// No run has both labels.
-    Clash,
-    /// The second item depends on the first, however a run that has both is finished.
-    Yes,
-    /// It does not.
-    No,
-}
-
-/// The answer that a verdict is.
-fn told(verdict: Verdict) -> Answer {
-    match verdict {
-        Verdict::Hidden1 => Answer::Hidden,
-        Verdict::Hidden2 => Answer::Hidden,
-        Verdict::Clash => Answer::Clash,
-        Verdict::Yes => Answer::Yes,
-        Verdict::No => Answer::No,
-    }
-}
 
 /// Answers a query from the labels of the two entries and the label of a view alone.
 ///
@@ -52,7 +27,7 @@ pub fn answer<L: Ledger>(
     query: &Query<'_>,
     steps: &mut Steps<L>,
 ) -> Answer
-    requires store { HoldsLabels vl.now.grammar store.now }
+    requires store { IsStoreFor vl.now.grammar store.now }
     requires room { most_legs vl.now.grammar ≤ scratch.old }
     ensures answer { (u : View) (entries : List Entry) → IsLabelOfView vl.now u → AreHeldOf vl.now.grammar entries store.now → IsAnswer vl.now.grammar u entries query.now.first.now query.now.second.now result }
     ensures room { scratch.new ≡ scratch.old }
