@@ -14,7 +14,7 @@ use Rattle.wf_top.specs.Meets.{EndsBy}
 use Rattle.wf_query.specs.Line.{IsQuery}
 use Rattle.wf_top.specs.Prepared.{IsAnswerLine}
 use Rattle.wf_top.specs.Asked.{IsAsked, EndsAt}
-use Rattle.wf_top.proofs.Putting.{appended_twice, begun_longer, begun_after}
+use Rattle.wf_io.proofs.Appending.{appended_twice, begun_longer, begun_after}
 use Rattle.wf_top.proofs.Stages.{nothing_put}
 use Rattle.wf_top.proofs.OneOutcome.{one_written}
 

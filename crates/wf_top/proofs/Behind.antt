@@ -5,7 +5,7 @@ use Rattle.wf_top.specs.declared.ending.Ending.{Ending}
 use Rattle.wf_top.specs.Endings.{End, Done, end_of, end_after}
 use Rattle.wf_io.specs.Told.{Appended}
 use Rattle.wf_top.specs.Meets.{EndsBy, EndsBehind, IsWritten}
-use Rattle.wf_top.proofs.Putting.{appended_twice, begun_longer, begun_after}
+use Rattle.wf_io.proofs.Appending.{appended_twice, begun_longer, begun_after}
 
 module _ (R : End → List ℕ → Type 0) (first : List ℕ) where
   -- an end that is another

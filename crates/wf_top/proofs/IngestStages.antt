@@ -9,7 +9,7 @@ use Rattle.wf_top.specs.Ingested.{IngestsLines, refused, done, file_head}
 use Rattle.wf_top.specs.Outcome.{IngestsEvents, long_events, broken_events, event_lines, long_most, instance_most}
 use Rattle.wf_top.specs.Meets.{EndsBehind}
 use Rattle.wf_top.specs.Stages.{IsTold, StopsAt, Holds, RefusesNone}
-use Rattle.wf_top.proofs.Putting.{appended_none, begun_none}
+use Rattle.wf_io.proofs.Appending.{appended_none, begun_none}
 
 -- each text begins with the head of the label file
 pub head_begins : (g : Grammar) (events : File) (e : End) (text : List ℕ) → IngestsEvents g events e text → (rest : List ℕ) × (text ≡ file_head g ++ rest)

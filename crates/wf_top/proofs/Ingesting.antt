@@ -18,7 +18,7 @@ use Rattle.wf_top.specs.Labelled.{bytes_by, IsLabelled, StopsAtLine}
 use Rattle.wf_top.specs.Outcome.{instance_most}
 use Rattle.wf_io.specs.Told.{Appended}
 use Rattle.wf_top.specs.Meets.{EndsBehind}
-use Rattle.wf_top.proofs.Putting.{appended_none, appended_twice, begun_longer, begun_after}
+use Rattle.wf_io.proofs.Appending.{appended_none, appended_twice, begun_longer, begun_after}
 use Rattle.wf_top.proofs.TakenLines.{told_on, told_both, goes_on}
 
 -- a longer accepted run has a longer label file

@@ -1,41 +1,12 @@
--- What was appended to a sink that may tell its bytes.
-use Rattle.std.proofs.Common.{◌≡◌, ℕ, ◌+◌, ◌<◌, Bool, List, [], ◌++◌, length, get_or, map, flat_map, take, drop, Option, Some, None, option_map, min, refl, sym, ap, ◌∙◌, subst, inl, inr, arith, append_assoc, append-nil}
+-- Pieces of text that were put one after the other.
+use Rattle.std.proofs.Common.{◌≡◌, ℕ, ◌+◌, ◌<◌, Bool, List, ◌++◌, length, get_or, map, flat_map, take, drop, Option, sym, ap, ◌∙◌, subst, inl, inr}
 use Rattle.std.specs.Prelude.{Result, Ok, Err, IsErrAnd, codes, decimal}
-use Rattle.std.proofs.Math.Seq.{take-append-add}
-use Rattle.std.proofs.lemmas.List.{take-append-le, take_min, drop_more}
+use Rattle.std.proofs.lemmas.List.{drop_more}
 use Rattle.wf_model.specs.declared.numbers.ProdNo.{ProdNo}
 use Rattle.wf_io.specs.Told.{Rose, Appended}
+use Rattle.wf_io.proofs.Appending.{appended_twice, begun_longer, begun_after}
 use Rattle.wf_top.specs.Refusals.{numbers_text}
 use Rattle.wf_top.specs.Meets.{IsPut, Puts}
-
--- nothing was appended
-pub appended_none : (old new : Option (List ℕ)) → new ≡ old → Appended [] old new
-appended_none None new e = e
-appended_none (Some b) new e = e ∙ ap Some (sym (append-nil b))
-
--- so also as the first 0 bytes of a text
-pub begun_none : (text : List ℕ) (old new : Option (List ℕ)) → new ≡ old → (k : ℕ) × Appended (take k text) old new
-begun_none text old new e = (0, appended_none old new e)
-
--- one text after another
-pub appended_twice : (xs ys : List ℕ) (a b c : Option (List ℕ)) → Appended xs a b → Appended ys b c → Appended (xs ++ ys) a c
-appended_twice xs ys None b c p q = q ∙ ap (option_map (λ l. l ++ ys)) p
-appended_twice xs ys (Some l) b c p q = q ∙ (ap (option_map (λ l. l ++ ys)) p ∙ ap Some (append_assoc l xs ys))
-
--- a beginning of a text is one of a longer text
-pub shorter : (k : ℕ) (xs ys : List ℕ) → (j : ℕ) × (take j (xs ++ ys) ≡ take k xs)
-shorter k xs ys = (min k (length xs), take-append-le (min k (length xs)) xs ys (omega arith) ∙ take_min k xs)
-
-pub begun_longer : (k : ℕ) (xs ys : List ℕ) (a b : Option (List ℕ)) → Appended (take k xs) a b → (j : ℕ) × Appended (take j (xs ++ ys)) a b
-begun_longer k xs ys a b p = let s = shorter k xs ys in (s.0, subst (λ l. Appended l a b) (sym s.1) p)
-
--- so is it one of the same text
-pub begun_same : (xs ys : List ℕ) (a b : Option (List ℕ)) → xs ≡ ys → (k : ℕ) × Appended (take k xs) a b → (k : ℕ) × Appended (take k ys) a b
-begun_same xs ys a b e = subst (λ l. (k : ℕ) × Appended (take k l) a b) e
-
--- a text, and then the beginning of another
-pub begun_after : (xs ys : List ℕ) (k : ℕ) (a b c : Option (List ℕ)) → Appended xs a b → Appended (take k ys) b c → (j : ℕ) × Appended (take j (xs ++ ys)) a c
-begun_after xs ys k a b c p q = (length xs + k, subst (λ l. Appended l a c) (sym (take-append-add xs ys k)) (appended_twice xs (take k ys) a b c p q))
 
 -- the texts of a list begin with that of the first
 pub texts_next : {A : Type 0} (f : A → List ℕ) (xs : List A) (k : ℕ) (d : A) → k < length xs → flat_map f (drop k xs) ≡ f (get_or xs k d) ++ flat_map f (drop (k + 1) xs)

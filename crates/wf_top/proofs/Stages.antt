@@ -9,7 +9,7 @@ use Rattle.wf_top.specs.Telling.{IsNotBuilt, OfWhole}
 use Rattle.wf_top.specs.Outcome.{Stage, too_long, broken, refused, goes_on}
 use Rattle.wf_top.specs.Meets.{EndsBy, IsOfOutcome}
 use Rattle.wf_top.specs.Stages.{IsTold, StopsAt, Declines, Holds, RefusesNone, IsCause}
-use Rattle.wf_top.proofs.Putting.{appended_none, begun_none}
+use Rattle.wf_io.proofs.Appending.{appended_none, begun_none}
 
 -- an end with nothing put, of which it is told when it is the outcome's
 pub nothing_put : (R : End → List ℕ → Type 0) (e : End) (old new : Option (List ℕ)) → new ≡ old → (IsOfOutcome e → R e []) → EndsBy R e old new

@@ -11,7 +11,7 @@ use Rattle.wf_top.specs.Viewed.{IsViewedBy}
 use Rattle.wf_top.specs.Outcome.{IsViewWritten}
 use Rattle.wf_io.specs.Told.{Appended}
 use Rattle.wf_top.specs.Meets.{EndsBy, IsWritten}
-use Rattle.wf_top.proofs.Putting.{appended_twice}
+use Rattle.wf_io.proofs.Appending.{appended_twice}
 use Rattle.wf_top.proofs.NumberedTexts.{texts_tested, texts_split, text_more}
 use Rattle.wf_top.proofs.Writing.{whole_written, put_by_end, piece_ends, ends_alike}
 use Rattle.wf_top.proofs.OneViewText.{one_view_text}

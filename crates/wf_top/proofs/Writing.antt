@@ -5,7 +5,7 @@ use Rattle.wf_top.specs.Endings.{End, Done, WriteFault}
 use Rattle.wf_io.specs.Told.{Appended}
 use Rattle.wf_top.specs.Meets.{EndsBy, IsWritten}
 use Rattle.wf_top.specs.Stages.{IsWritingCause}
-use Rattle.wf_top.proofs.Putting.{begun_longer, begun_after}
+use Rattle.wf_io.proofs.Appending.{begun_longer, begun_after}
 
 -- a text was put whole
 pub whole_written : (text : List ℕ) (old new : Option (List ℕ)) → Appended text old new → EndsBy (IsWritten text) Done old new

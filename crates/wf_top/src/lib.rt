@@ -35,6 +35,8 @@ pub use program::run;
 pub use status::Status;
 
 #[cfg(test)]
+mod ask_tests;
+#[cfg(test)]
 mod decide_tests;
 #[cfg(test)]
 mod event_tests;

@@ -138,12 +138,8 @@ const ROWS: [(&str, Status, &str, &str); 41] = [
     ("trace spec view events empty", Done, "", ""),
     ("trace spec view events two-ends", Done, "yes\nno\n", ""),
     ("trace spec view empty whole", Done, "unknown\n", ""),
-    (
-        "trace spec view start-alone queries",
-        Refused,
-        "",
-        "refused: events: NotBuilt\n",
-    ),
+    // Nothing is expanded yet, and the output rests on the input however it will be.
+    ("trace spec view start-alone whole", Done, "yes\n", ""),
     (
         "trace inside-itself view events queries",
         Refused,
@@ -202,7 +198,7 @@ const ROWS: [(&str, Status, &str, &str); 41] = [
         "trace spec view events third-wrong",
         Refused,
         "yes\nno\n",
-        "refused: queries: NotBuilt\n",
+        "refused: queries line 3: LineWrong\n",
     ),
     (
         "trace none view events queries",
@@ -416,10 +412,10 @@ fn sinks_may_be_full(rt: HostRuntime) -> Result<(), Fail> {
             64,
             Refused,
             "yes\nno\n",
-            "refused: queries: NotBuilt\n",
+            "refused: queries line 3: LineWrong\n",
         ),
         (
-            "trace spec view start-alone queries",
+            "trace spec view queries queries",
             5,
             8,
             Refused,
@@ -427,7 +423,7 @@ fn sinks_may_be_full(rt: HostRuntime) -> Result<(), Fail> {
             "refused:",
         ),
         (
-            "trace spec view start-alone queries",
+            "trace spec view queries queries",
             5,
             11,
             Refused,

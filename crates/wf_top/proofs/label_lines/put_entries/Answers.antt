@@ -1,7 +1,7 @@
 use Rattle.std.proofs.Common.{◌++◌, map, flat_map, refl, ap, ◌∙◌}
 use Rattle.label_model.specs.Files.{entry_bytes}
 use Rattle.wf_labeller.specs.Entries.{entry_seen}
-use Rattle.wf_top.proofs.Putting.{begun_same}
+use Rattle.wf_io.proofs.Appending.{begun_same}
 use Rattle.wf_top.proofs.label_lines.put_entries.Goals as goal
 
 pub returns-in-Err-clause-stops : goal.returns-in-Err-clause-stops
