@@ -1,7 +1,7 @@
 -- Answers line by line: how what is put of the lines that are left makes that of all.
 use Rattle.std.proofs.Common.{◌≡◌, ℕ, true, false, List, [], ◌∷◌, ◌++◌, take, Option, Some, None, refl, sym, ap, ◌∙◌, subst, inl, inr, true≢false}
 use Rattle.std.specs.Prelude.{codes}
-use Rattle.std.proofs.lemmas.Option.{some_injective}
+use Rattle.std.proofs.Math.Option.{some-injective}
 use Rattle.wf_io.specs.Told.{Appended}
 use Rattle.wf_io.specs.Lines.{Line, is_too_long, text_of}
 use Rattle.wf_io.proofs.Appending.{appended_none, begun_none, appended_twice, begun_longer, begun_after}
@@ -53,7 +53,7 @@ module _ (Answers : List ℕ → List ℕ → List ℕ → Type 0) (one : IsOneW
   -- the first line ends the lines
   line_ends : (l : Line) (ls : List Line) (f : BatchFault) (old new : Option (List ℕ)) → is_too_long l.raw ≡ false → EndsAt Answers l.number (text_of l.raw) f old new → ArePut Answers (l ∷ ls) (ended_at f) old new
   line_ends l ls (LineWrong n) old new short h =
-      nothing_put (l ∷ ls) (Some (WrongAt n)) old new h.2 (λ x q. inl (inr (short, h.1, sym (some_injective q) ∙ ap WrongAt h.0), refl))
+      nothing_put (l ∷ ls) (Some (WrongAt n)) old new h.2 (λ x q. inl (inr (short, h.1, sym (some-injective _ _ q) ∙ ap WrongAt h.0), refl))
   line_ends l ls (LineTooLong n) old new short h = absurd h
   line_ends l ls WriteFault old new short h = answered_part l ls h.0 (short, h.1) old new h.2
   line_ends l ls NoMemory old new short h = nothing_put (l ∷ ls) None old new h (λ x q. absurd q)
@@ -65,12 +65,12 @@ Leads Answers all old left now = (e : Option Ended) (new : Option (List ℕ)) �
 module _ (Answers : List ℕ → List ℕ → List ℕ → Type 0) (one : IsOneWord Answers) (all : List Line) (old : Option (List ℕ)) where
   -- the lines are at their end
   pub done_leads : (left : List Line) (now : Option (List ℕ)) → Leads Answers all old left now → left ≡ [] → ArePut Answers all (Some All) old now
-  done_leads left now leads none = leads (Some All) now (subst (λ ls. ArePut Answers ls (Some All) now now) (sym none) (nothing_put Answers one [] (Some All) now now refl (λ x q. (sym (some_injective q), refl))))
+  done_leads left now leads none = leads (Some All) now (subst (λ ls. ArePut Answers ls (Some All) now now) (sym none) (nothing_put Answers one [] (Some All) now now refl (λ x q. (sym (some-injective _ _ q), refl))))
 
   -- the next line is too long
   pub long_leads : (left rest : List Line) (l : Line) (now : Option (List ℕ)) → Leads Answers all old left now → left ≡ l ∷ rest → is_too_long l.raw ≡ true → (n : ℕ) → n ≡ l.number → ArePut Answers all (ended_at (LineTooLong n)) old now
   long_leads left rest l now leads next long n number = leads (Some (TooLongAt n)) now (subst (λ ls. ArePut Answers ls (Some (TooLongAt n)) now now) (sym next)
-      (nothing_put Answers one (l ∷ rest) (Some (TooLongAt n)) now now refl (λ x q. inl (inl (long, sym (some_injective q) ∙ ap TooLongAt number), refl))))
+      (nothing_put Answers one (l ∷ rest) (Some (TooLongAt n)) now now refl (λ x q. inl (inl (long, sym (some-injective _ _ q) ∙ ap TooLongAt number), refl))))
 
   module _ (left rest : List Line) (l : Line) (text : List ℕ) (now : Option (List ℕ)) (leads : Leads Answers all old left now) (next : left ≡ l ∷ rest) (short : is_too_long l.raw ≡ false) (same : text ≡ text_of l.raw) where
     -- the next line ends the lines
