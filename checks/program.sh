@@ -350,6 +350,15 @@ long_query() {
 }
 check "a line of queries that is too long is told" long_query
 
+# A label file of the phylogeny, made by hand: its two inputs, and what is made after the greatest number of repetitions.
+asks_far() {
+    (head -c 36 examples/phylogeny/labels; printf '\x08run.seqs\x00\x01\x20\x07run.cfg\x00\x01\x10\x06far.m2\x00\x08\xe8\x00\x00\x02\x00\x00\x00\xc0') >"$work/far"
+    for _ in {1..5000}; do printf 'run.seqs far.m2\nrun.cfg far.m2\n'; done >"$work/far_queries"
+    for _ in {1..5000}; do printf 'yes\nno\n'; done >"$work/far_answers"
+    run ask examples/phylogeny/spec examples/phylogeny/view "$work/far" "$work/far_queries" && ended 0 "$work/far_answers" "$nothing"
+}
+check "ten thousand questions on the longest chain are answered, though no run is so long" asks_far
+
 full_verdict() {
     [ -w /dev/full ] || return 0
     local status=0
