@@ -1,1 +1,2 @@
 pub mod EntryFronts
+pub mod HeadReadings
