@@ -1,2 +1,3 @@
 pub mod EntryFronts
 pub mod HeadReadings
+pub mod NamedEntries
