@@ -1,5 +1,5 @@
 // The entries of a label file, found by name.
-ghost use Rattle.std.specs.Prelude.{◌≡◌, ◌↔◌, ◌<◌, ◌≤◌, ◌+◌, ◌^◌, ◌∷◌, ◌++◌, [], length, get_or, IsTrue, OnOk, IfOk, IfErr, IfSome, IfNone};
+ghost use Rattle.std.specs.Prelude.{◌≡◌, ◌↔◌, ◌<◌, ◌≤◌, ◌+◌, ◌^◌, ◌∷◌, ◌++◌, [], length, get_or, IsTrue, OnOk, OnErr, IfOk, IfErr, IfSome, IfNone};
 ghost use Rattle.wf_model.specs.Lists.{IsIn};
 ghost use Rattle.wf_model.specs.Linear.{IsLinear};
 ghost use Rattle.wf_recur.specs.Cycles.{AreCyclesOf};
@@ -24,7 +24,7 @@ fn holds(entries: &IndexMap<&[u8], LabelRef>, name: &[u8]) -> bool
     entries.contains_key(name)
 }
 
-/// Adds an entry with a new name behind the others.
+/// Adds an entry with a new name behind the others. The only error is that memory is refused, and then nothing is added.
 fn put<'a>(
     entries: &mut IndexMap<&'a [u8], LabelRef<'a>>,
     name: &'a [u8],
@@ -32,6 +32,7 @@ fn put<'a>(
 ) -> Result<(), AllocError>
     requires new_name { IsIn name.now (names_held (held entries.old.entries)) → ⊥ }
     ensures added { OnOk result (held entries.new.entries ≡ held entries.old.entries ++ record { name = name.now; bits = label.entry } ∷ []) }
+    ensures err { OnErr result (entries.new.entries ≡ entries.old.entries) }
 {
     match entries.insert(name, label) {
         Ok(_) => Ok(()),
