@@ -1,8 +1,9 @@
 // An entry, cut from the front of bytes.
-ghost use Rattle.std.specs.Prelude.{◌≡◌, ◌≢◌, ◌/◌, ◌%◌, ◌^◌, ◌<◌, ◌∷◌, ◌++◌, ℕ, List, length, IfSome, IfNone};
+ghost use Rattle.std.specs.Prelude.{◌≡◌, ◌≢◌, ◌*◌, ◌/◌, ◌%◌, ◌^◌, ◌<◌, ◌≤◌, ◌∷◌, ◌++◌, ℕ, List, length, IfSome, IfNone};
 ghost use Rattle.label_model.specs.Files.{Entry, IsFront};
 
 /// An entry at the front of bytes, and the bytes behind it.
+#[derive(Clone, Copy)]
 pub(crate) struct Front<'a> {
     pub(crate) name: &'a [u8],
     pub(crate) label: &'a [u8],
@@ -39,4 +40,19 @@ pub(crate) fn cut_front(bytes: &[u8]) -> Option<Front<'_>>
     let (name, behind) = cut_name(bytes)?;
     let (label, rest) = cut_label(behind)?;
     Some(Front { name, label, rest })
+}
+
+/// How many whole entries stand at the front of bytes, one behind the other. Their names and labels are not looked at.
+///
+/// Takes no memory. Cost: linear in the number of entries.
+pub(crate) fn count_entries(bytes: &[u8]) -> usize
+    ensures { 3 * result ≤ length bytes.now }
+{
+    let mut count = 0;
+    let mut left = bytes;
+    while let Some(Front { rest, .. }) = cut_front(left) {
+        left = rest;
+        count += 1;
+    }
+    count
 }

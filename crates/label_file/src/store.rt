@@ -7,7 +7,7 @@ ghost use Rattle.label_file.specs.Stored.{IsStoreFault, IsStoreOf, names_held, n
 ghost use Rattle.label_file.specs.Adding.{held, IsAdded, IsRefused};
 
 use crate::fault::StoreFault;
-use crate::front::{cut_front, Front};
+use crate::front::{Front, count_entries, cut_front};
 use crate::head::behind_head;
 use indexmap::IndexMap;
 use name_text::split_item;
@@ -78,7 +78,7 @@ impl<'a> Store<'a> {
     {
         let mut rest = behind_head(digest, bytes)?;
         let mut store = Store {
-            entries: IndexMap::new(alloc),
+            entries: IndexMap::with_capacity(alloc, count_entries(rest))?,
         };
         while !rest.is_empty() {
             let Some(Front { name, label, rest: behind }) = cut_front(rest) else {
@@ -92,7 +92,7 @@ impl<'a> Store<'a> {
         Ok(store)
     }
 
-    /// Adds the entry that follows.
+    /// Adds an entry behind the others, if its name is that of an item, no entry before has the name, and its label is one of the grammar. This is tried in this order, and after an error nothing is added.
     fn add(
         &mut self,
         g: &Grammar,
@@ -105,6 +105,7 @@ impl<'a> Store<'a> {
         requires room { length self.old + 1 < 2 ^ 32 }
         ensures added { OnOk result (IsAdded g.now.core self.old (record { name = name.now; label = label.now }) self.new) }
         ensures refused { IfErr result (λ f. IsRefused g.now.core self.old (record { name = name.now; label = label.now }) f) }
+        ensures err { OnErr result (self.new ≡ self.old) }
     {
         let entry = self.length();
         if split_item(name).is_none() {
