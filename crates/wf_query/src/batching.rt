@@ -10,8 +10,8 @@ ghost use Rattle.wf_decode.specs.Reading.{most_legs};
 ghost use Rattle.wf_query.specs.Answers.{IsAnswerText, answer_text};
 ghost use Rattle.wf_query.specs.Lines.{ArePut, EndsAt, IsAsked, ended_by};
 
-use crate::answering::answer;
 use crate::answers::Answer;
+use crate::deciding::answer;
 use crate::query::read_query;
 use bool_mat::Steps;
 use label_file::Store;
@@ -99,17 +99,20 @@ fn answer_lines<L: Ledger, O: Sink>(
 {
     let mut steps = Steps::<L>::new(blank);
     let mut lines = WholeLines::open(bytes);
+    let all = bytes.len();
     let mut answered = 0;
     loop {
         let Ok(next) = lines.next() else {
             return Err(BatchFault::LineTooLong { line: lines.line() });
         };
         let Some(line) = next else {
-            return Ok(answered);
+            return Ok(answered as u64);
         };
         if let Err(fault) = answer_line(store, vl, scratch, lines.line(), line, &mut steps, out) {
             return Err(fault);
         }
+        // A line has a byte at least.
+        prove!(answered < all);
         answered += 1;
     }
 }
