@@ -81,7 +81,14 @@ impl<'a> Store<'a> {
             entries: IndexMap::with_capacity(alloc, count_entries(rest))?,
         };
         while !rest.is_empty() {
-            let Some(Front { name, label, rest: behind }) = cut_front(rest) else {
+            let Some(
+                Front {
+                    name,
+                    label,
+                    rest: behind,
+                },
+            ) = cut_front(rest)
+            else {
                 return Err(StoreFault::Truncated {
                     offset: (bytes.len() - rest.len()) as u64,
                 });

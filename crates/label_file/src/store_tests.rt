@@ -1,4 +1,6 @@
 // The label file of a run of the line grammar, whole, cut and changed: the root `r` with its input `a` and its output `b`, and the item `i1.y` of its one edge.
+ghost use Rattle.std.specs.Prelude.{◌≡◌, ◌^◌, ◌≤◌, length, IfOk};
+
 use super::*;
 use std::alloc::{AllocError, Global};
 use std::test::Fail;
@@ -81,7 +83,9 @@ fn line(alloc: Global) -> Result<Grammar, Fail> {
 }
 
 /// The bytes of the label file.
-fn file(alloc: Global) -> Result<Vec<u8>, AllocError> {
+fn file(alloc: Global) -> Result<Vec<u8>, AllocError>
+    ensures { IfOk result (λ v. length v.items ≡ 58) }
+{
     let mut bytes = Vec::from_slice(alloc, b"WFL1")?;
     bytes.extend_from_slice(&DIGEST)?;
     bytes.extend_from_slice(b"\x03r.a\x00\x01\x20")?;
@@ -90,8 +94,25 @@ fn file(alloc: Global) -> Result<Vec<u8>, AllocError> {
     Ok(bytes)
 }
 
-/// The fault of bytes; none where they are a label file.
-fn fault_of(alloc: Global, digest: &[u8; 32], bytes: &[u8]) -> Result<Option<StoreFault>, Fail> {
+/// Whether the entry of this number has this name, by which it is found, and this label of one byte.
+fn is_entry(store: &Store, number: u32, name: &[u8], label: u8) -> bool {
+    if number >= store.length() {
+        return false;
+    }
+    let Some(found) = store.get(name) else {
+        return false;
+    };
+    let bytes = [label];
+    if store.name_at(number) != name {
+        return false;
+    }
+    store.label_at(number).bytes() == bytes.as_slice() && found.bytes() == bytes.as_slice()
+}
+
+/// The fault of bytes; None where they are a label file.
+fn fault_of(alloc: Global, digest: &[u8; 32], bytes: &[u8]) -> Result<Option<StoreFault>, Fail>
+    requires { length bytes.now ≤ 2 ^ 30 }
+{
     let g = line(alloc)?;
     let table = cycles(alloc, &g)?;
     match Store::open(alloc, &g, &table, digest, bytes) {
@@ -102,55 +123,42 @@ fn fault_of(alloc: Global, digest: &[u8; 32], bytes: &[u8]) -> Result<Option<Sto
 
 #[test]
 fn entries_are_found_by_name_and_number(rt: HostRuntime) -> Result<(), Fail> {
-    let alloc = rt.alloc();
-    let g = line(alloc)?;
-    let table = cycles(alloc, &g)?;
-    let bytes = file(alloc)?;
-    let Ok(store) = Store::open(alloc, &g, &table, &DIGEST, &bytes) else {
+    let g = line(rt.alloc())?;
+    let table = cycles(rt.alloc(), &g)?;
+    let bytes = file(rt.alloc())?;
+    let Ok(store) = Store::open(rt.alloc(), &g, &table, &DIGEST, &bytes) else {
         return Err(Fail::new("a label file"));
     };
     assert_eq!(rt; store.length(), 3);
-    let entries: [(&[u8], u8); 3] = [(b"r.a", 0x20), (b"r.b", 0x60), (b"i1.y", 0xb0)];
-    let mut number = 0;
-    for (name, label) in entries {
-        assert_eq!(rt; store.name_at(number), name);
-        assert_eq!(rt; store.label_at(number).bytes(), [label].as_slice());
-        let Some(found) = store.get(name) else {
-            return Err(Fail::new("an entry"));
-        };
-        assert_eq!(rt; found.bytes(), [label].as_slice());
-        number += 1;
-    }
+    assert!(rt; is_entry(&store, 0, b"r.a", 0x20));
+    assert!(rt; is_entry(&store, 1, b"r.b", 0x60));
+    assert!(rt; is_entry(&store, 2, b"i1.y", 0xb0));
     assert!(rt; store.get(b"r.c").is_none());
     Ok(())
 }
 
 #[test]
-fn a_cut_file_is_refused_within_an_entry(rt: HostRuntime) -> Result<(), Fail> {
-    let alloc = rt.alloc();
-    let g = line(alloc)?;
-    let table = cycles(alloc, &g)?;
-    let bytes = file(alloc)?;
-    let Ok(store) = Store::open(alloc, &g, &table, &DIGEST, &bytes[..50]) else {
+fn a_cut_file_is_read_up_to_a_whole_entry(rt: HostRuntime) -> Result<(), Fail> {
+    let g = line(rt.alloc())?;
+    let table = cycles(rt.alloc(), &g)?;
+    let bytes = file(rt.alloc())?;
+    let Ok(store) = Store::open(rt.alloc(), &g, &table, &DIGEST, &bytes[..50]) else {
         return Err(Fail::new("a label file"));
     };
     assert_eq!(rt; store.length(), 2);
-    for (end, fault) in [
-        (36, None),
-        (57, Some(StoreFault::Truncated { offset: 50 })),
-        (52, Some(StoreFault::Truncated { offset: 50 })),
-        (42, Some(StoreFault::Truncated { offset: 36 })),
-        (35, Some(StoreFault::NotLabels)),
-        (0, Some(StoreFault::NotLabels)),
-    ] {
-        assert_eq!(rt; fault_of(alloc, &DIGEST, &bytes[..end])?, fault);
-    }
+    assert!(rt; is_entry(&store, 1, b"r.b", 0x60));
+    let within_third = Some(StoreFault::Truncated { offset: 50 });
+    assert_eq!(rt; fault_of(rt.alloc(), &DIGEST, &bytes[..57])?, within_third);
+    let within_first = Some(StoreFault::Truncated { offset: 36 });
+    assert_eq!(rt; fault_of(rt.alloc(), &DIGEST, &bytes[..37])?, within_first);
+    assert_eq!(rt; fault_of(rt.alloc(), &DIGEST, &bytes[..36])?, None);
+    let within_head = Some(StoreFault::NotLabels);
+    assert_eq!(rt; fault_of(rt.alloc(), &DIGEST, &bytes[..35])?, within_head);
     Ok(())
 }
 
 #[test]
 fn a_changed_file_is_refused(rt: HostRuntime) -> Result<(), Fail> {
-    let alloc = rt.alloc();
     for (at, byte, fault) in [
         (0, b'w', StoreFault::NotLabels),
         (20, 0xaa, StoreFault::OtherSpec),
@@ -158,9 +166,11 @@ fn a_changed_file_is_refused(rt: HostRuntime) -> Result<(), Fail> {
         (45, b'x', StoreFault::BadName { entry: 1 }),
         (57, 0xb1, StoreFault::BadLabel { entry: 2 }),
     ] {
-        let mut bytes = file(alloc)?;
-        bytes[at] = byte;
-        assert_eq!(rt; fault_of(alloc, &DIGEST, &bytes)?, Some(fault));
+        let mut bytes = file(rt.alloc())?;
+        if let Some(place) = bytes.get_mut(at) {
+            *place = byte;
+        }
+        assert_eq!(rt; fault_of(rt.alloc(), &DIGEST, &bytes)?, Some(fault));
     }
     Ok(())
 }
