@@ -94,6 +94,13 @@ fn file(alloc: Global) -> Result<Vec<u8>, AllocError>
     Ok(bytes)
 }
 
+/// The first bytes, as many as there are of so many.
+fn first(bytes: &[u8], end: usize) -> &[u8]
+    ensures { length result.now ≤ length bytes.now }
+{
+    bytes.get(..end).unwrap_or(bytes)
+}
+
 /// Whether the entry of this number has this name, by which it is found, and this label of one byte.
 fn is_entry(store: &Store, number: u32, name: &[u8], label: u8) -> bool {
     if number >= store.length() {
@@ -109,51 +116,47 @@ fn is_entry(store: &Store, number: u32, name: &[u8], label: u8) -> bool {
     store.label_at(number).bytes() == bytes.as_slice() && found.bytes() == bytes.as_slice()
 }
 
-/// The fault of bytes; None where they are a label file.
-fn fault_of(alloc: Global, digest: &[u8; 32], bytes: &[u8]) -> Result<Option<StoreFault>, Fail>
+/// Whether these are the entries that the label file has.
+fn are_entries(store: &Store) -> bool {
+    store.length() == 3
+        && is_entry(store, 0, b"r.a", 0x20)
+        && is_entry(store, 1, b"r.b", 0x60)
+        && is_entry(store, 2, b"i1.y", 0xb0)
+        && store.get(b"r.c").is_none()
+}
+
+/// How many entries a store of the bytes has, and whether they are those of the label file; or the fault of the bytes.
+fn opened(alloc: Global, bytes: &[u8]) -> Result<(u32, bool, Option<StoreFault>), Fail>
     requires { length bytes.now ≤ 2 ^ 30 }
 {
     let g = line(alloc)?;
     let table = cycles(alloc, &g)?;
-    match Store::open(alloc, &g, &table, digest, bytes) {
-        Ok(_) => Ok(None),
-        Err(fault) => Ok(Some(fault)),
+    match Store::open(alloc, &g, &table, &DIGEST, bytes) {
+        Ok(store) => Ok((store.length(), are_entries(&store), None)),
+        Err(fault) => Ok((0, false, Some(fault))),
     }
 }
 
 #[test]
 fn entries_are_found_by_name_and_number(rt: HostRuntime) -> Result<(), Fail> {
-    let g = line(rt.alloc())?;
-    let table = cycles(rt.alloc(), &g)?;
     let bytes = file(rt.alloc())?;
-    let Ok(store) = Store::open(rt.alloc(), &g, &table, &DIGEST, &bytes) else {
-        return Err(Fail::new("a label file"));
-    };
-    assert_eq!(rt; store.length(), 3);
-    assert!(rt; is_entry(&store, 0, b"r.a", 0x20));
-    assert!(rt; is_entry(&store, 1, b"r.b", 0x60));
-    assert!(rt; is_entry(&store, 2, b"i1.y", 0xb0));
-    assert!(rt; store.get(b"r.c").is_none());
+    assert_eq!(rt; opened(rt.alloc(), &bytes)?, (3, true, None));
     Ok(())
 }
 
 #[test]
 fn a_cut_file_is_read_up_to_a_whole_entry(rt: HostRuntime) -> Result<(), Fail> {
-    let g = line(rt.alloc())?;
-    let table = cycles(rt.alloc(), &g)?;
     let bytes = file(rt.alloc())?;
-    let Ok(store) = Store::open(rt.alloc(), &g, &table, &DIGEST, &bytes[..50]) else {
-        return Err(Fail::new("a label file"));
-    };
-    assert_eq!(rt; store.length(), 2);
-    assert!(rt; is_entry(&store, 1, b"r.b", 0x60));
-    let within_third = Some(StoreFault::Truncated { offset: 50 });
-    assert_eq!(rt; fault_of(rt.alloc(), &DIGEST, &bytes[..57])?, within_third);
-    let within_first = Some(StoreFault::Truncated { offset: 36 });
-    assert_eq!(rt; fault_of(rt.alloc(), &DIGEST, &bytes[..37])?, within_first);
-    assert_eq!(rt; fault_of(rt.alloc(), &DIGEST, &bytes[..36])?, None);
-    let within_head = Some(StoreFault::NotLabels);
-    assert_eq!(rt; fault_of(rt.alloc(), &DIGEST, &bytes[..35])?, within_head);
+    for (end, entries, fault) in [
+        (50, 2, None),
+        (36, 0, None),
+        (57, 0, Some(StoreFault::Truncated { offset: 50 })),
+        (37, 0, Some(StoreFault::Truncated { offset: 36 })),
+        (35, 0, Some(StoreFault::NotLabels)),
+    ] {
+        let found = opened(rt.alloc(), first(&bytes, end))?;
+        assert_eq!(rt; found, (entries, false, fault));
+    }
     Ok(())
 }
 
@@ -170,7 +173,8 @@ fn a_changed_file_is_refused(rt: HostRuntime) -> Result<(), Fail> {
         if let Some(place) = bytes.get_mut(at) {
             *place = byte;
         }
-        assert_eq!(rt; fault_of(rt.alloc(), &DIGEST, &bytes)?, Some(fault));
+        let found = opened(rt.alloc(), &bytes)?;
+        assert_eq!(rt; found, (0, false, Some(fault)));
     }
     Ok(())
 }
