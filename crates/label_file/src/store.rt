@@ -62,7 +62,7 @@ impl<'a> Store<'a> {
     ///
     /// Of each entry it is tried in this order whether it is whole, whether its name is that of an item, whether no entry before has the name, and whether its label is one of the grammar.
     ///
-    /// Cost: linear in the bytes; a name is found by hashing.
+    /// Cost: linear in the bytes; a name is found by hashing. Takes memory for the table alone, once, for as many entries as stand there whole.
     pub fn open(
         alloc: Global,
         g: &Grammar,
