@@ -6,6 +6,8 @@ pub mod OneLoops
 pub mod OneFault
 pub mod OneCycles
 pub mod OneRunFault
+pub mod OneWord
+pub mod OneLabels
 pub mod OneText
 pub mod OneViewFault
 pub mod OneViewText
@@ -13,10 +15,10 @@ pub mod ViewComposites
 pub mod CompositeLines
 pub mod SpecSteps
 pub mod ViewSteps
-pub mod Answering
+pub mod AnsweredLines
 pub mod EventLines
-pub mod SeenModules
-pub mod FlatLinks
+pub mod PendingItems
+pub mod PathLines
 pub mod Answered
 pub mod Tracing
 pub mod TakenLines
