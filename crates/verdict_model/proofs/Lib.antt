@@ -9,3 +9,4 @@ pub mod BothLabels
 pub mod ToldPorts
 pub mod Answering
 pub mod WorkedVerdicts
+pub mod OneVerdict

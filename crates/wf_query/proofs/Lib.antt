@@ -1,2 +1,3 @@
 pub mod Queries
 pub mod Answering
+pub mod Entries
