@@ -15,15 +15,15 @@ use Rattle.bit_pack.specs.Bits.{Holds}
 use Rattle.bit_pack.proofs.Packing.{packed_law}
 use Rattle.label_model.specs.Labels.{Label, label_bits}
 use Rattle.label_model.specs.RunLabels.{labelled, HasLabel}
-use Rattle.label_model.specs.Files.{Entry, entry_of, entries_of, names_of_entries}
+use Rattle.label_model.specs.Files.{Entry, entry_of, entries_of, names_of_entries, Accepted}
 use Rattle.label_model.proofs.LabelBits.{whole_law}
 use Rattle.label_model.proofs.AcceptedLabels.{label_law}
+use Rattle.label_model.proofs.FileReadings.{one_reading_law}
 use Rattle.label_model.proofs.GoodFiles.{cut_law}
 use Rattle.verdict_model.proofs.Keeping.{labelled_item}
 use Rattle.wf_query.specs.Answers.{HasEntry, HasNoEntry}
 use Rattle.wf_top.specs.Ingested.{file_of}
 use Rattle.wf_top.specs.LabelsTold.{TellsEntries}
-use Rattle.wf_top.proofs.OneLabels.{one_entries}
 
 -- an entry has its name among those of all
 pub entry_named : (g : Grammar) (entries : List Entry) (n : List ℕ) (l : Label) → HasEntry g entries n l → IsIn n (names_of_entries entries)
@@ -39,7 +39,8 @@ module _ (g : Grammar) (wf : IsWellFormed g) (e : List Event) (acc : IsAccepted 
 
   -- and as no others
   pub file_entries : IsLinear g → (entries : List Entry) → TellsEntries g (file_of g e) entries → entries ≡ entries_of g e
-  file_entries lin entries told = one_entries g (file_of g e) (entries_of g e) entries (file_opens lin) told
+  file_entries lin entries told =
+      let same = one_reading_law g (sha256 (canonical_of g)) (file_of g e) (Accepted entries) (Accepted (entries_of g e)) told (file_opens lin) in (cc)
 
   -- an item has an entry with the bytes of its label
   pub item_entry : (t : Item) → IsIn t (items g g.start e) → (l : Label) × HasLabel g e t l × HasEntry g (entries_of g e) t.name l

@@ -1,5 +1,5 @@
 -- What the labels of a run tell under a safe view, the run tells, however it is finished.
-use Rattle.std.proofs.Common.{◌≡◌, ℕ, ◌⊎◌, Bool, true, false, cond, List, ◌++◌, Option, Some, None, codes, refl, sym, ap, ◌∙◌, subst, inl, inr, ⊎_elim}
+use Rattle.std.proofs.Common.{◌≡◌, ℕ, ◌⊎◌, ◌^◌, Bool, true, false, cond, List, ◌++◌, Option, Some, None, codes, refl, sym, ap, ◌∙◌, subst, inl, inr, ⊎_elim}
 use Rattle.std.specs.Prelude.{◌↔◌, IsTrue}
 use Rattle.wf_model.specs.Lists.{IsIn}
 use Rattle.wf_model.specs.Grammar.{Grammar, Assignment}
@@ -78,10 +78,10 @@ module _ (g : Grammar) (u : View) (wf : IsWellFormed g) (e : List Event) (acc : 
     Decided word = (v : Verdict) × IsVerdictOf g u x y v × (word ≡ answer_text (answer_of v))
 
     shown_verdict : (more : List Event) → IsFinishing g u g.start e more → AreShown g u x y → (word : List ℕ) → IsVerdict g u (e ++ more) s t word → Decided word
-    shown_verdict more f shown word (inl yes) =
-        (Yes, (shown, no_clash_law g wf e acc.0 s t x y first second, one_answer_law g u d wf induced x y shown e more s t (both more f) yes.1), yes.0)
-    shown_verdict more f shown word (inr no) =
-        (No, (shown, no_clash_law g wf e acc.0 s t x y first second, λ always. no.1 (always e more s t (both more f))), no.0)
+    shown_verdict more f shown word (inl p) =
+        (Yes, (shown, no_clash_law g wf e acc.0 s t x y first second, one_answer_law g u d wf induced x y shown e more s t (both more f) p.1), p.0)
+    shown_verdict more f shown word (inr p) =
+        (No, (shown, no_clash_law g wf e acc.0 s t x y first second, λ always. p.1 (always e more s t (both more f))), p.0)
 
     answer_decides : (more : List Event) → IsFinishing g u g.start e more → (word : List ℕ) → IsShown (are_visible g u e s t) g u (e ++ more) s t word → Decided word
     answer_decides more f word h = by_first (either_law g u wf x y first.1 second.1).hidden (either_law g u wf y x second.1 first.1).hidden
@@ -119,11 +119,11 @@ module _ (g : Grammar) (u : View) (wf : IsWellFormed g) (e : List Event) (acc : 
         h.1
     labels_give (Some s) (Some t) found found_too h = ⊎_elim
         (λ p. absurd (⊎_elim
-            (λ lacks. let z = found_entry first s found in lacks (entry_named g (entries_of g e) first z.0 z.2))
-            (λ lacks. let z = found_entry second t found_too in lacks (entry_named g (entries_of g e) second z.0 z.2))
-            p.0))
+        (λ lacks. let z = found_entry first s found in lacks (entry_named g (entries_of g e) first z.0 z.2))
+        (λ lacks. let z = found_entry second t found_too in lacks (entry_named g (entries_of g e) second z.0 z.2))
+        p.0))
         (λ q. subst (λ w. IsShown (are_visible g u e s t) g u (e ++ more) s t w) (sym (h.2 ∙ ap answer_text q.2))
-            (verdict_answers d induced s t q.1.x q.1.y (found_label first s q.1.x found q.1.first_entry) (found_label second t q.1.y found_too q.1.second_entry) q.0 q.1.verdict more f))
+        (verdict_answers d induced s t q.1.x q.1.y (found_label first s q.1.x found q.1.first_entry) (found_label second t q.1.y found_too q.1.second_entry) q.0 q.1.verdict more f))
         h.1
 
     -- and back
