@@ -24,7 +24,7 @@ use Rattle.wf_top.specs.Ingested.{refused as stopped, done, file_of}
 use Rattle.wf_top.specs.Outcome.{too_long, broken, refused, goes_on, TellsLines, AnswersLines, end_of_lines, IngestsEvents, long_events, broken_events, event_lines, Ingests, Traces, Asks, QueriesStage, AnswersRun, AnswersView, AnswersLabels, ViewStage, short_most, long_most, instance_most}
 use Rattle.wf_top.specs.Laws.{AskIsTraceLaw}
 use Rattle.wf_top.proofs.OneOutcome.{one_grammar, one_view, one_run}
-use Rattle.wf_top.proofs.OneFault.{one_refusal, no_refusal}
+use Rattle.wf_top.proofs.OneFault.{no_refusal}
 use Rattle.wf_top.proofs.OneViewFault.{one_refusal_of_view, no_refusal_of_view}
 use Rattle.wf_top.proofs.OneRunFault.{no_refusal_of_run}
 use Rattle.wf_top.proofs.OneLabels.{one_entries, no_refusal_of_labels}

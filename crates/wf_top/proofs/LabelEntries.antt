@@ -1,5 +1,5 @@
 -- The entries of the label file of a run: how they are read, and the items and labels that they are of.
-use Rattle.std.proofs.Common.{◌≡◌, ℕ, ◌^◌, List, [], ◌++◌, length, map, take_all, refl, sym, ap, ◌∙◌, subst, arith, append-nil}
+use Rattle.std.proofs.Common.{◌≡◌, ℕ, ◌^◌, List, [], ◌++◌, length, take_all, refl, sym, ap, ◌∙◌, subst, arith, append-nil}
 use Rattle.sha2.specs.Sha256.{sha256}
 use Rattle.sha2.proofs.Facts256.{length-sha256}
 use Rattle.wf_model.specs.Lists.{IsIn}

@@ -1,16 +1,14 @@
 -- What the labels of a run tell under a safe view, the run tells, however it is finished.
 use Rattle.std.proofs.Common.{◌≡◌, ℕ, ◌⊎◌, ◌^◌, Bool, true, false, cond, List, ◌++◌, Option, Some, None, codes, refl, sym, ap, ◌∙◌, subst, inl, inr, ⊎_elim}
 use Rattle.std.specs.Prelude.{◌↔◌, IsTrue}
-use Rattle.wf_model.specs.Lists.{IsIn}
 use Rattle.wf_model.specs.Grammar.{Grammar, Assignment}
 use Rattle.wf_model.specs.WellFormed.{IsWellFormed}
-use Rattle.wf_model.specs.Proper.{IsProper}
 use Rattle.wf_model.specs.View.{View}
-use Rattle.wf_model.specs.Safe.{IsSafe, IsInduced}
+use Rattle.wf_model.specs.Safe.{IsInduced}
 use Rattle.wf_model.specs.declared.event.Event.{Event}
 use Rattle.wf_model.specs.Run.{IsAccepted}
 use Rattle.wf_model.specs.Items.{Item, items, IsMadeOpen}
-use Rattle.wf_model.specs.Finishing.{ExpandsComposites, IsFinishing}
+use Rattle.wf_model.specs.Finishing.{IsFinishing}
 use Rattle.wf_model.proofs.ItemNames.{item_of_name}
 use Rattle.wf_laws.proofs.Growth.{finishing_law}
 use Rattle.wf_laws.proofs.Full.{full_law, safe_full_law}
@@ -19,12 +17,12 @@ use Rattle.label_model.specs.RunLabels.{HasLabel}
 use Rattle.label_model.specs.Files.{entries_of}
 use Rattle.verdict_model.specs.declared.verdict.Verdict.{Verdict}
 use Rattle.verdict_model.specs.declared.verdict.Verdict.TheVariants.{Hidden1, Hidden2, Clash, Yes, No}
-use Rattle.verdict_model.specs.Verdicts.{IsHidden, AreShown, AreClashing, HasBoth, IsVerdict as IsVerdictOf}
+use Rattle.verdict_model.specs.Verdicts.{IsHidden, AreShown, HasBoth, IsVerdict as IsVerdictOf}
 use Rattle.verdict_model.proofs.Keeping.{visible_shown}
 use Rattle.verdict_model.proofs.Clashing.{either_law, no_clash_law}
 use Rattle.verdict_model.proofs.Answering.{one_answer_law}
 use Rattle.wf_query.specs.declared.answers.Answer.TheVariants.{Unknown}
-use Rattle.wf_query.specs.Answers.{HasEntry, LacksEntry, AreDecided, answer_of, answer_text, IsAnswerText, IsAnswer as IsAnswerOf}
+use Rattle.wf_query.specs.Answers.{HasEntry, answer_of, answer_text, IsAnswerText}
 use Rattle.wf_top.specs.Answers.{item_named, is_made_open, are_visible, IsVerdict, IsShown, IsAnswerFor}
 use Rattle.wf_top.specs.Laws.{LabelsTellLaw}
 use Rattle.wf_top.proofs.NamedItems.{IsFoundBy, found_by}
