@@ -37,3 +37,9 @@ pub mod NumberedTexts
 pub mod ViewLines
 pub mod ViewWritten
 pub mod ViewTaken
+pub mod NamedItems
+pub mod LabelEntries
+pub mod LabelsTell
+pub mod TwoStages
+pub mod AnswersCarried
+pub mod AskIsTrace
