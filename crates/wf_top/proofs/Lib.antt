@@ -35,3 +35,7 @@ pub mod NumberedTexts
 pub mod ViewLines
 pub mod ViewWritten
 pub mod ViewTaken
+pub mod EntryNames
+pub mod LabelsTaken
+pub mod BatchEnds
+pub mod AskUntouched

@@ -5,10 +5,10 @@ use Rattle.wf_io.specs.Told.{File, Appended}
 use Rattle.wf_top.specs.declared.ending.Ending.{Ending}
 use Rattle.wf_top.specs.declared.ending.Place.{Place}
 use Rattle.wf_top.specs.Endings.{End, Done, Usage, Refused, ReadFault, WriteFault, NoMemory, end_of, end_after}
-use Rattle.wf_top.specs.Telling.{IsNotBuilt, OfWhole}
+use Rattle.wf_top.specs.Telling.{OfWhole, RefusesNone}
 use Rattle.wf_top.specs.Outcome.{Stage, too_long, broken, refused, goes_on}
 use Rattle.wf_top.specs.Meets.{EndsBy, IsOfOutcome}
-use Rattle.wf_top.specs.Stages.{IsTold, StopsAt, Declines, Holds, RefusesNone, IsCause}
+use Rattle.wf_top.specs.Stages.{IsTold, StopsAt, Declines, Holds, IsCause}
 use Rattle.wf_io.proofs.Appending.{appended_none, begun_none}
 
 -- an end with nothing put, of which it is told when it is the outcome's
@@ -47,10 +47,6 @@ module _ {A : Type 0} (most : ℕ) (place : Place) (file : File) (Tells : List �
       go d t (broken l b x y) = absurd (true≢false (sym b ∙ told.whole))
       go d t (refused l b line fault r x y) = absurd (none line fault r)
       go d t (goes_on l b c tells next) = ends.begun d t (subst (λ x. Next x d t) (one c tells) next)
-
--- what tells a value is not refused for telling none
-pub tells_one : {A : Type 0} (Tells : List ℕ → A → Type 0) (bytes : List ℕ) (a : A) → Tells bytes a → (line : Option ℕ) (fault : List ℕ) → OfWhole (IsNotBuilt Tells) bytes line fault → ⊥
-tells_one Tells bytes a t line fault h = h.1.0 a t
 
 -- what declines by one refusal declines by another that comes of it
 pub declines_by : (place : Place) (P Q : Option ℕ → List ℕ → Type 0) → ((line : Option ℕ) (fault : List ℕ) → P line fault → Q line fault) → (e : End) → Declines place P e → Declines place Q e

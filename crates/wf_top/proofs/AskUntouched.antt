@@ -1,0 +1,16 @@
+-- Of which command it is told that out is as it was where memory is wanting.
+use Rattle.std.proofs.Common.{◌≡◌, Option, subst}
+use Rattle.std.specs.Prelude.{Result, Ok, Err, IfErr}
+use Rattle.wf_top.specs.declared.ending.Ending.{Ending}
+use Rattle.wf_top.specs.Endings.{NoMemory, end_of}
+use Rattle.wf_top.specs.Words.{Command, IsAsk}
+
+-- of a command that is not `ask` nothing is told
+pub not_ask : {T : Type 0} (r : Result T Ending) (c d : Option Command) (P : Type 0) → c ≡ d → (IsAsk d → ⊥) → IfErr r (λ e. end_of e ≡ NoMemory → IsAsk c → P)
+not_ask (Ok x) c d P same none = tt
+not_ask (Err e) c d P same none = λ w a. absurd (none (subst IsAsk same a))
+
+-- of `ask` it is told
+pub as_ask : {T : Type 0} (r : Result T Ending) (c : Option Command) (P : Type 0) → IfErr r (λ e. end_of e ≡ NoMemory → P) → IfErr r (λ e. end_of e ≡ NoMemory → IsAsk c → P)
+as_ask (Ok x) c P h = tt
+as_ask (Err e) c P h = λ w a. h w

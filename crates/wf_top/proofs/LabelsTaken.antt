@@ -1,0 +1,79 @@
+-- How LABELS ends the program, or is taken on.
+use Rattle.std.proofs.Common.{◌≡◌, ℕ, List, Option, None, refl, sym, ap, subst}
+use Rattle.sha2.specs.Sha256.{sha256}
+use Rattle.wf_model.specs.Lists.{AllDiffer}
+use Rattle.wf_model.specs.Grammar.{Grammar}
+use Rattle.wf_model.specs.View.{View as ViewOf}
+use Rattle.wf_io.specs.Told.{File}
+use Rattle.wf_json.specs.Canonical.{canonical_of}
+use Rattle.label_model.specs.Files.{Entry, Answer, Accepted, NotLabels, OtherSpec, Truncated, BadName, NameTwice, BadLabel, Opens}
+use Rattle.label_model.proofs.FileReadings.{one_reading_law}
+use Rattle.label_file.specs.Stored.{EntryHeld, AreHeldOf, IsStoreFor, IsStoreOf, IsStoreFault}
+use Rattle.label_file.specs.declared.fault.StoreFault.{StoreFault}
+use Rattle.label_file.specs.declared.fault.StoreFault.TheVariants.{NotLabels as IsNoLabels, OtherSpec as IsOfOther, Truncated as IsTruncated, BadName as HasBadName, NameTwice as HasNameTwice, BadLabel as HasBadLabel, NoMemory as HasNoMemory}
+use Rattle.wf_query.specs.Answers.{IsAnswerText}
+use Rattle.wf_query.proofs.Entries.{names_same, held_from}
+use Rattle.wf_top.specs.declared.ending.Place.TheVariants.{Labels}
+use Rattle.wf_top.specs.Endings.{End, Refused}
+use Rattle.wf_top.specs.Refusals.{store_name}
+use Rattle.wf_top.specs.Telling.{OfWhole}
+use Rattle.wf_top.specs.LabelsTold.{OpensFor, TellsEntries, IsFaultText, RefusesLabels}
+use Rattle.wf_top.specs.Outcome.{AnswersLabels, QueriesStage, long_most}
+use Rattle.wf_top.specs.Meets.{EndsBy}
+use Rattle.wf_top.specs.Stages.{IsTold, StopsAt, Declines}
+use Rattle.wf_top.proofs.Stages.{stop_ends, on_ends}
+use Rattle.wf_top.proofs.EntryNames.{entries_differ}
+
+-- the entries that an answer has
+abbrev accepted_or : List Entry → Answer → List Entry
+accepted_or d a = elim a [ Accepted entries ↦ entries | NotLabels ↦ d | OtherSpec ↦ d | Truncated o ↦ d | BadName n ↦ d | NameTwice n ↦ d | BadLabel n ↦ d ]
+
+-- a label file has one list of entries
+pub one_entries : (g : Grammar) (bytes : List ℕ) (es fs : List Entry) → TellsEntries g bytes es → TellsEntries g bytes fs → fs ≡ es
+one_entries g bytes es fs p q = ap (accepted_or es) (one_reading_law g (sha256 (canonical_of g)) bytes (Accepted fs) (Accepted es) q p)
+
+-- what has entries is not refused
+pub no_refusal_of_labels : (g : Grammar) (bytes fault : List ℕ) (es : List Entry) → TellsEntries g bytes es → RefusesLabels g bytes fault → ⊥
+no_refusal_of_labels g bytes fault es told r =
+    subst (λ a. IsFaultText a fault) (one_reading_law g (sha256 (canonical_of g)) bytes r.0 (Accepted es) r.1 told) r.2
+
+module _ (g : Grammar) (u : ViewOf) (labels queries : File) (old new : Option (List ℕ)) (d : End) where
+  -- LABELS ends the program
+  pub labels_end : StopsAt long_most Labels labels (OfWhole (RefusesLabels g)) d → new ≡ old → EndsBy (AnswersLabels g u labels queries) d old new
+  labels_end h s = stop_ends long_most Labels labels (TellsEntries g) (OfWhole (RefusesLabels g)) _ old new d h s
+
+  -- the entries of LABELS are taken on
+  pub labels_go : (entries : List Entry) → IsTold long_most labels (TellsEntries g) entries → EndsBy (QueriesStage (IsAnswerText g u entries) queries) d old new → EndsBy (AnswersLabels g u labels queries) d old new
+  labels_go entries told ends =
+      on_ends long_most Labels labels (TellsEntries g) (OfWhole (RefusesLabels g)) _ old new entries told
+      (λ es t. one_entries g labels.bytes entries es told.tells t) (λ line fault r. no_refusal_of_labels g labels.bytes fault entries told.tells r.1) d ends
+
+module _ (g : Grammar) (digest bytes : List ℕ) (same : digest ≡ sha256 (canonical_of g)) where
+  -- what is read by the digest of the grammar
+  opens_for : (a : Answer) → Opens g digest bytes a → OpensFor g bytes a
+  opens_for a h = subst (λ d. Opens g d bytes a) same h
+
+  -- a store holds the entries that the bytes tell
+  pub store_told : (hs : List EntryHeld) → IsStoreOf g digest bytes hs → (entries : List Entry) × TellsEntries g bytes entries × AreHeldOf g entries hs
+  store_told hs s = (s.entries, opens_for (Accepted s.entries) s.read, s.held)
+
+  -- a fault of a store, but for want of memory, refuses the bytes
+  fault_refuses : (f : StoreFault) → IsStoreFault g digest bytes f → (f ≡ HasNoMemory → ⊥) → RefusesLabels g bytes (store_name f)
+  fault_refuses IsNoLabels h n = (NotLabels, opens_for NotLabels h, refl)
+  fault_refuses IsOfOther h n = (OtherSpec, opens_for OtherSpec h, refl)
+  fault_refuses (IsTruncated o) h n = (Truncated o, opens_for (Truncated o) h, refl)
+  fault_refuses (HasBadName e) h n = (BadName e, opens_for (BadName e) h, refl)
+  fault_refuses (HasNameTwice e) h n = (NameTwice e, opens_for (NameTwice e) h, refl)
+  fault_refuses (HasBadLabel e) h n = (BadLabel e, opens_for (BadLabel e) h, refl)
+  fault_refuses HasNoMemory h n = absurd (n refl)
+
+  -- so it declines them
+  pub store_declines : (f : StoreFault) (e : End) → IsStoreFault g digest bytes f → (f ≡ HasNoMemory → ⊥) → e ≡ Refused Labels None (store_name f) → Declines Labels (OfWhole (RefusesLabels g) bytes) e
+  store_declines f e h n is = subst (Declines Labels (OfWhole (RefusesLabels g) bytes)) (sym is) (refl, (refl, fault_refuses f h n))
+
+-- what holds the entries of a label file is a store of the grammar
+pub store_for : (g : Grammar) (bytes : List ℕ) (entries : List Entry) (hs : List EntryHeld) → TellsEntries g bytes entries → AreHeldOf g entries hs → IsStoreFor g hs
+store_for g bytes entries hs told held = record {
+  labels = λ h i. (held_from g entries hs held h i).2.label;
+  differ = subst AllDiffer (sym (names_same g entries hs held)) (entries_differ g (sha256 (canonical_of g)) bytes entries told);
+}

@@ -1,0 +1,54 @@
+use Rattle.std.proofs.Common.{◌∙◌, refl, sym, subst}
+use Rattle.std.proofs.lemmas.Result.{err_from_is_err_and}
+use Rattle.wf_model.specs.Grammar.{Grammar}
+use Rattle.label_file.specs.Stored.{AreHeldOf, IsStoreFor}
+use Rattle.wf_io.specs.Lines.{lines_of}
+use Rattle.wf_query.specs.Answers.{IsAnswerText}
+use Rattle.wf_query.specs.Lines.{ArePut}
+use Rattle.wf_top.specs.declared.ending.Place.TheVariants.{Queries}
+use Rattle.wf_top.specs.Endings.{end_of}
+use Rattle.wf_top.specs.Telling.{RefusesNone}
+use Rattle.wf_top.specs.Outcome.{TellsLines, long_most}
+use Rattle.wf_top.proofs.Stages.{passed_on, stop_ends, wanting}
+use Rattle.wf_top.proofs.BatchEnds.{all_answered, fault_ended, fault_stops, fault_cause, fault_wants_none}
+use Rattle.wf_top.proofs.asking.answer_queries.Goals as goal
+
+pub returns-in_default-clause-ends : goal.returns-in_default-clause-ends
+returns-in_default-clause-ends g c = λ f entries told held. wanting _ _ _ refl
+
+pub returns-in_default-for_view-clause-ends : goal.returns-in_default-for_view-clause-ends
+returns-in_default-for_view-clause-ends g c = λ f entries told held. wanting _ _ _ refl
+
+pub returns-in_err-bytes-clause-ends : goal.returns-in_err-bytes-clause-ends
+returns-in_err-bytes-clause-ends g c = λ f entries told held.
+    let d = c.in_err-bytes.field-0.0 in
+    passed_on _ c.from_residual.result d _ _ (err_from_is_err_and c.from_residual.result c.from_residual.ensures.1)
+    (stop_ends long_most Queries (f c.args.name.now) TellsLines RefusesNone _ _ _ (end_of d) (c.in_err-bytes.ensures.stops f told) refl)
+
+-- the view label is of the same grammar
+pub batch-requires-clause-store : goal.batch-requires-clause-store
+batch-requires-clause-store g c = subst (λ (x : Grammar). IsStoreFor x c.args.store.now) (sym c.in-Ok.ensures.grammar) c.requires.store
+
+pub returns-in-Ok-batch-clause-ends : goal.returns-in-Ok-batch-clause-ends
+returns-in-Ok-batch-clause-ends g c = λ f entries told held.
+    let same = c.in-Ok.ensures.grammar in
+    let u = c.args.v.now.view.core in
+    let put = c.in-Ok-batch.ensures.put u entries c.in-Ok.ensures.label (subst (λ (x : Grammar). AreHeldOf x entries c.args.store.now) (sym same) held) in
+    all_answered _ _ _ _ (c.in_ok-bytes.ensures.ok f told) c.deref.ensures.value _ _ (subst (λ (x : Grammar). ArePut (IsAnswerText x u entries) _ _ _ _) same put)
+
+pub returns-in-Err-clause-ends : goal.returns-in-Err-clause-ends
+returns-in-Err-clause-ends g c = λ f entries told held.
+    let same = c.in-Ok.ensures.grammar in
+    let u = c.args.v.now.view.core in
+    let put = c.in-Err.ensures.put u entries c.in-Ok.ensures.label (subst (λ (x : Grammar). AreHeldOf x entries c.args.store.now) (sym same) held) in
+    fault_ended _ _ _ _ (c.in_ok-bytes.ensures.ok f told) c.deref.ensures.value _ _ c.in-Err.fault (end_of c.ending_of.result) c.ending_of.ensures (subst (λ (x : Grammar). ArePut (IsAnswerText x u entries) _ _ _ _) same put)
+
+pub returns-in-Err-clause-stop : goal.returns-in-Err-clause-stop
+returns-in-Err-clause-stop g c = fault_stops c.in-Err.fault (end_of c.ending_of.result) c.ending_of.ensures
+
+pub returns-in-Err-clause-cause : goal.returns-in-Err-clause-cause
+returns-in-Err-clause-cause g c =
+    fault_cause _ _ _ _ _ _ c.in-Err.fault (end_of c.ending_of.result) c.ending_of.ensures c.in_ok-bytes.ensures.count c.in-Err.ensures.cause
+
+pub returns-in-Err-clause-untouched : goal.returns-in-Err-clause-untouched
+returns-in-Err-clause-untouched g c = λ wants. absurd (fault_wants_none c.in-Err.fault (end_of c.ending_of.result) c.ending_of.ensures c.in-Err.ensures.memory wants)
