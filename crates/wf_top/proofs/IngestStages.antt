@@ -8,8 +8,8 @@ use Rattle.wf_top.specs.Endings.{End, Done, Usage, Refused, ReadFault, WriteFaul
 use Rattle.wf_top.specs.Ingested.{IngestsLines, refused, done, file_head}
 use Rattle.wf_top.specs.Outcome.{IngestsEvents, long_events, broken_events, event_lines, long_most, instance_most}
 use Rattle.wf_top.specs.Meets.{EndsBehind}
-use Rattle.wf_top.specs.Telling.{RefusesNone}
 use Rattle.wf_top.specs.Stages.{IsTold, StopsAt, Holds}
+use Rattle.wf_top.specs.Telling.{RefusesNone}
 use Rattle.wf_io.proofs.Appending.{appended_none, begun_none}
 
 -- each text begins with the head of the label file

@@ -13,7 +13,7 @@ pub mod ViewComposites
 pub mod CompositeLines
 pub mod SpecSteps
 pub mod ViewSteps
-pub mod Answering
+pub mod AnsweredLines
 pub mod EventLines
 pub mod SeenModules
 pub mod FlatLinks
@@ -37,5 +37,4 @@ pub mod ViewWritten
 pub mod ViewTaken
 pub mod EntryNames
 pub mod LabelsTaken
-pub mod BatchEnds
 pub mod AskUntouched

@@ -2,8 +2,8 @@
 ghost use Rattle.std.specs.Prelude.{◌≡◌, ◌<◌, ◌≤◌, ℕ, List, Some, IfOk, IfErr, OnOk, length};
 ghost use Rattle.wf_io.specs.Told.{File, Rose};
 ghost use Rattle.wf_top.specs.Endings.{end_of};
-ghost use Rattle.wf_top.specs.Telling.{RefusesNone};
 ghost use Rattle.wf_top.specs.Stages.{IsTold, StopsAt, IsReadingCause, Holds};
+ghost use Rattle.wf_top.specs.Telling.{RefusesNone};
 
 use crate::ending::{Ending, Place, too_long};
 use std::alloc::Global;

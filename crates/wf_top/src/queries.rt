@@ -1,12 +1,14 @@
 // QUERIES of a run: lines answered one by one by the search in its graph.
-ghost use Rattle.std.specs.Prelude.{◌≡◌, ℕ, List, IfErr, OnOk};
+ghost use Rattle.std.specs.Prelude.{◌≡◌, ℕ, List, Some, IfErr, OnOk};
 ghost use Rattle.wf_io.specs.Told.{Appended, Rose};
 ghost use Rattle.wf_io.specs.Lines.{lines_of};
 ghost use Rattle.wf_query.specs.Lines.{ArePut, EndsAt, IsAsked, ended_by};
 ghost use Rattle.wf_flat.specs.Table.{events_of};
 ghost use Rattle.wf_top.specs.Answers.{IsAnswer};
 ghost use Rattle.wf_top.specs.Batched.{end_at};
-ghost use Rattle.wf_top.specs.Endings.{end_of};
+ghost use Rattle.wf_top.specs.Endings.{end_of, Refused};
+ghost use Rattle.wf_top.specs.Refusals.{refusal_text};
+ghost use Rattle.wf_top.specs.declared.ending.Place.TheVariants.{Queries};
 ghost use Rattle.wf_top.specs.Prepared.{IsPrepared};
 
 use crate::answer::answer;
@@ -18,7 +20,9 @@ use wf_io::{Sink, WholeLines};
 use wf_query::{BatchFault, read_query};
 
 /// The ending at a line of queries that is refused.
-fn refused(line: u64, refusal: Refusal) -> Ending {
+fn refused(line: u64, refusal: Refusal) -> Ending
+    ensures { end_of result ≡ Refused Queries (Some line) (refusal_text refusal) }
+{
     Ending::Refused {
         place: Place::Queries,
         line: Some(line),

@@ -1,16 +1,16 @@
-use Rattle.std.proofs.Common.{◌∙◌, refl, sym, subst}
+use Rattle.std.proofs.Common.{ℕ, refl, sym, subst}
+use Rattle.std.specs.Prelude.{Result, Ok, Err}
 use Rattle.std.proofs.lemmas.Result.{err_from_is_err_and}
 use Rattle.wf_model.specs.Grammar.{Grammar}
 use Rattle.label_file.specs.Stored.{AreHeldOf, IsStoreFor}
 use Rattle.wf_io.specs.Lines.{lines_of}
+use Rattle.wf_query.specs.declared.batching.BatchFault.{BatchFault}
 use Rattle.wf_query.specs.Answers.{IsAnswerText}
-use Rattle.wf_query.specs.Lines.{ArePut}
-use Rattle.wf_top.specs.declared.ending.Place.TheVariants.{Queries}
+use Rattle.wf_query.specs.Lines.{ArePut, ended_by}
 use Rattle.wf_top.specs.Endings.{end_of}
-use Rattle.wf_top.specs.Telling.{RefusesNone}
-use Rattle.wf_top.specs.Outcome.{TellsLines, long_most}
-use Rattle.wf_top.proofs.Stages.{passed_on, stop_ends, wanting}
-use Rattle.wf_top.proofs.BatchEnds.{all_answered, fault_ended, fault_stops, fault_cause, fault_wants_none}
+use Rattle.wf_top.proofs.Stages.{passed_on, wanting}
+use Rattle.wf_top.proofs.AnsweredLines.{queries_stop, queries_put, fault_stops, fault_caused}
+use Rattle.wf_top.proofs.AskUntouched.{fault_wants_none}
 use Rattle.wf_top.proofs.asking.answer_queries.Goals as goal
 
 pub returns-in_default-clause-ends : goal.returns-in_default-clause-ends
@@ -23,7 +23,7 @@ pub returns-in_err-bytes-clause-ends : goal.returns-in_err-bytes-clause-ends
 returns-in_err-bytes-clause-ends g c = λ f entries told held.
     let d = c.in_err-bytes.field-0.0 in
     passed_on _ c.from_residual.result d _ _ (err_from_is_err_and c.from_residual.result c.from_residual.ensures.1)
-    (stop_ends long_most Queries (f c.args.name.now) TellsLines RefusesNone _ _ _ (end_of d) (c.in_err-bytes.ensures.stops f told) refl)
+    (queries_stop _ _ _ _ (end_of d) (c.in_err-bytes.ensures.stops f told) refl)
 
 -- the view label is of the same grammar
 pub batch-requires-clause-store : goal.batch-requires-clause-store
@@ -33,22 +33,26 @@ pub returns-in-Ok-batch-clause-ends : goal.returns-in-Ok-batch-clause-ends
 returns-in-Ok-batch-clause-ends g c = λ f entries told held.
     let same = c.in-Ok.ensures.grammar in
     let u = c.args.v.now.view.core in
+    let all : Result ℕ BatchFault = Ok 0 in
     let put = c.in-Ok-batch.ensures.put u entries c.in-Ok.ensures.label (subst (λ (x : Grammar). AreHeldOf x entries c.args.store.now) (sym same) held) in
-    all_answered _ _ _ _ (c.in_ok-bytes.ensures.ok f told) c.deref.ensures.value _ _ (subst (λ (x : Grammar). ArePut (IsAnswerText x u entries) _ _ _ _) same put)
+    queries_put _ _ _ _ _ _ (c.in_ok-bytes.ensures.ok f told) c.deref.ensures.value all
+    (subst (λ (x : Grammar). ArePut (IsAnswerText x u entries) (lines_of c.deref.result.now) (ended_by all) _ _) same put) _ refl
 
 pub returns-in-Err-clause-ends : goal.returns-in-Err-clause-ends
 returns-in-Err-clause-ends g c = λ f entries told held.
     let same = c.in-Ok.ensures.grammar in
     let u = c.args.v.now.view.core in
+    let some : Result ℕ BatchFault = Err c.in-Err.fault in
     let put = c.in-Err.ensures.put u entries c.in-Ok.ensures.label (subst (λ (x : Grammar). AreHeldOf x entries c.args.store.now) (sym same) held) in
-    fault_ended _ _ _ _ (c.in_ok-bytes.ensures.ok f told) c.deref.ensures.value _ _ c.in-Err.fault (end_of c.ending_of.result) c.ending_of.ensures (subst (λ (x : Grammar). ArePut (IsAnswerText x u entries) _ _ _ _) same put)
+    queries_put _ _ _ _ _ _ (c.in_ok-bytes.ensures.ok f told) c.deref.ensures.value some
+    (subst (λ (x : Grammar). ArePut (IsAnswerText x u entries) (lines_of c.deref.result.now) (ended_by some) _ _) same put) (end_of c.ending_of.result) c.ending_of.ensures
 
 pub returns-in-Err-clause-stop : goal.returns-in-Err-clause-stop
 returns-in-Err-clause-stop g c = fault_stops c.in-Err.fault (end_of c.ending_of.result) c.ending_of.ensures
 
 pub returns-in-Err-clause-cause : goal.returns-in-Err-clause-cause
 returns-in-Err-clause-cause g c =
-    fault_cause _ _ _ _ _ _ c.in-Err.fault (end_of c.ending_of.result) c.ending_of.ensures c.in_ok-bytes.ensures.count c.in-Err.ensures.cause
+    fault_caused _ _ _ _ _ _ c.in-Err.fault (end_of c.ending_of.result) c.ending_of.ensures c.in_ok-bytes.ensures.count c.in-Err.ensures.cause
 
 pub returns-in-Err-clause-untouched : goal.returns-in-Err-clause-untouched
 returns-in-Err-clause-untouched g c = λ wants. absurd (fault_wants_none c.in-Err.fault (end_of c.ending_of.result) c.ending_of.ensures c.in-Err.ensures.memory wants)
