@@ -29,6 +29,7 @@ pub mod EdgeSources
 pub mod GrammarLimits
 pub mod LabelRoom
 pub mod FileReadings
+pub mod OpenedNames
 pub mod CutFiles
 pub mod NamesDiffer
 pub mod GoodFiles

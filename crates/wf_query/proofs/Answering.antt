@@ -13,7 +13,7 @@ use Rattle.wf_query.proofs.Queries.{query_law}
 
 module _ (Answers : List ℕ → List ℕ → List ℕ → Type 0) (one : IsOneWord Answers) where
   -- of a text one line is written
-  one_written : (text x y : List ℕ) → IsAsked Answers text x → IsAsked Answers text y → x ≡ y
+  pub one_written : (text x y : List ℕ) → IsAsked Answers text x → IsAsked Answers text y → x ≡ y
   one_written text x y p q =
       let s = query_law text p.first p.second q.first q.second p.query q.query in
       p.line ∙ (ap (λ a. a ++ codes "\n") (one q.first q.second p.answer q.answer (subst (λ n. Answers q.first n p.answer) s.1 (subst (λ n. Answers n p.second p.answer) s.0 p.is)) q.is) ∙ sym q.line)

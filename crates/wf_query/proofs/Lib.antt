@@ -1,3 +1,4 @@
 pub mod Queries
 pub mod Answering
 pub mod Entries
+pub mod OneEnding

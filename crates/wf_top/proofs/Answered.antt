@@ -1,20 +1,20 @@
--- Answers to queries on a finished run under a view.
-use Rattle.std.proofs.Common.{◌≡◌, ◌≢◌, ℕ, ◌<◌, Bool, true, false, cond, List, [], ◌∷◌, ◌++◌, map, length, Option, Some, None, option_map, bytes_eq, codes, refl, sym, ap, ◌∙◌, subst, inl, inr, ⊎_elim, true≢false}
+-- Answers to queries on a run under a view.
+use Rattle.std.proofs.Common.{◌≡◌, ◌⊎◌, ℕ, ◌<◌, Bool, true, false, cond, List, [], ◌∷◌, ◌++◌, map, length, Option, Some, None, option_map, bytes_eq, codes, refl, sym, ap, ◌∙◌, subst, inl, inr, ⊎_elim, true≢false}
 use Rattle.std.specs.Prelude.{◌↔◌, IsTrue, IfSome}
 use Rattle.std.proofs.lemmas.List.{length-map}
 use Rattle.wf_model.specs.Lists.{IsIn, AllDiffer}
-use Rattle.wf_model.specs.Grammar.{Grammar}
+use Rattle.wf_model.specs.Grammar.{Grammar, Assignment}
 use Rattle.wf_model.specs.WellFormed.{IsWellFormed}
 use Rattle.wf_model.specs.View.{View}
 use Rattle.wf_model.specs.declared.event.Event.{Event}
-use Rattle.wf_model.specs.Run.{names_of, IsRun, IsFinished}
-use Rattle.wf_model.specs.Links.{Port, Path, perceived, links}
-use Rattle.wf_model.specs.Items.{Item, items, IsMadeOpen, IsVisible, PathBetween}
+use Rattle.wf_model.specs.Safe.{IsInduced}
+use Rattle.wf_model.specs.Run.{names_of, IsRun}
+use Rattle.wf_model.specs.Links.{Port, Link, Path, links_with}
+use Rattle.wf_model.specs.Items.{Item, items, IsMadeOpen, IsVisible}
 use Rattle.wf_model.specs.Finishing.{IsFinishing}
 use Rattle.wf_model.proofs.Lists.{same_bytes, bytes_same}
 use Rattle.wf_model.proofs.Differ.{made_differ}
 use Rattle.wf_model.proofs.ItemNames.{item_of_name}
-use Rattle.wf_model.proofs.Idle.{finishing_shows_the_same}
 use Rattle.wf_view.proofs.Flagged.{same_tests}
 use Rattle.wf_flat.specs.declared.table.Inst.{Inst}
 use Rattle.wf_flat.specs.declared.graph.Port.{Port as PortHeld}
@@ -24,8 +24,11 @@ use Rattle.wf_flat.specs.Graph.{named_port, named_links}
 use Rattle.wf_flat.specs.Item.{named_item, IsItemWithin}
 use Rattle.wf_flat.specs.Flat.{FlatSeen, AreWithin, is_shown}
 use Rattle.wf_flat.proofs.Shown.{shown_visible}
+use Rattle.wf_query.specs.Line.{IsQuery}
+use Rattle.wf_query.specs.Lines.{IsAsked}
 use Rattle.wf_top.specs.Answers.{item_named, is_made_open, are_visible, IsVerdict, IsShown, IsAnswerFor, IsAnswer}
-use Rattle.wf_top.specs.Prepared.{IsPrepared, IsVerdictLine, IsAnswerLine}
+use Rattle.wf_top.specs.Prepared.{IsPrepared, PathIn, IsPathLine, IsAnswerLine}
+use Rattle.wf_top.proofs.PendingItems.{pending_depends}
 
 -- the first item of a name, where there is one item of this name
 named_found : (ts : List Item) (n : List ℕ) (t : Item) → ((s : Item) → IsIn s ts → s.name ≡ n → s ≡ t) → IsIn t ts → t.name ≡ n → item_named ts n ≡ Some t
@@ -46,16 +49,19 @@ named_none (x ∷ ts) n lacks = go (named_none ts n (λ t i. lacks t (inr i))) (
     go ih true q = absurd (lacks x (inl refl) (same_bytes x.name n q))
     go ih false q = ih
 
--- a run that has an item has an event
-started : (g : Grammar) (e : List Event) (t : Item) → IsIn t (items g g.start e) → e ≢ []
-started g [] t h = λ q. h
-started g (d ∷ e) t h = λ q. absurd (cc)
+-- what the test tells is made open
+made_open : (g : Grammar) (u : View) (e : List Event) (o : Option (List ℕ)) → IsTrue (is_made_open g u e o) → IsMadeOpen g u g.start e o
+made_open g u e None h = tt
+made_open g u e (Some k) h = h
 
--- where the links are the same, so are the paths
-same_between : (g : Grammar) (u : View) (m : ℕ) (e f : List Event) → links g u m f ≡ links g u m e → (x y : Option (Port (List ℕ))) → PathBetween g u m e x y ↔ PathBetween g u m f x y
-same_between g u m e f same None y = (λ h. h, λ h. h)
-same_between g u m e f same (Some x) None = (λ h. h, λ h. h)
-same_between g u m e f same (Some x) (Some y) = (subst (λ ls. Path ls x y) (sym same), subst (λ ls. Path ls x y) same)
+-- and the test tells it
+open_made : (g : Grammar) (u : View) (e : List Event) (o : Option (List ℕ)) → IsMadeOpen g u g.start e o → IsTrue (is_made_open g u e o)
+open_made g u e None h = refl
+open_made g u e (Some k) h = h
+
+-- a word tells whether a path of links leads from where an item is consumed to where another is produced
+abbrev TellsPath : List (Link (List ℕ)) → Item → Item → List ℕ → Type 0
+TellsPath ls s t word = ((word ≡ codes "yes") × PathIn ls s.consumed t.produced) ⊎ ((word ≡ codes "no") × ¬ PathIn ls s.consumed t.produced)
 
 module _ (g : Grammar) (u : View) (wf : IsWellFormed g) (e : List Event) (run : IsRun g g.start e) where
   found_named : (n : List ℕ) (t : Item) → IsIn t (items g g.start e) → t.name ≡ n → item_named (items g g.start e) n ≡ Some t
@@ -83,14 +89,14 @@ module _ (g : Grammar) (u : View) (wf : IsWellFormed g) (e : List Event) (run : 
     both_hidden : are_visible g u e s t ≡ false → IsAnswer g u e first second (codes "hidden")
     both_hidden shut = both_known (codes "hidden") (λ more f. subst (λ b. IsShown b g u (e ++ more) s t (codes "hidden")) (sym shut) refl)
 
-    -- both are visible, and the run is finished: each finishing of it has its links
-    both_visible : IsFinished g u g.start e → are_visible g u e s t ≡ true → (line : List ℕ) → IsVerdict g u e s t line → IsAnswer g u e first second line
-    both_visible finished shown line v = both_known line (λ more f. subst (λ b. IsShown b g u (e ++ more) s t line) (sym shown) (stands more f v))
+    -- both are visible, and whether the second depends on the first in each finishing is told by the links
+    both_visible : (full : Assignment) → IsInduced g u full → is_made_open g u e s.maker ≡ true → is_made_open g u e t.maker ≡ true → (word : List ℕ) → TellsPath (links_with g u full g.start e) s t word → IsAnswer g u e first second word
+    both_visible full induced seen seen_too word v =
+        both_known word (λ more f. subst (λ b. IsShown b g u (e ++ more) s t word) (sym (ap (λ z. cond z (is_made_open g u e t.maker) false) seen ∙ seen_too)) (stands more f v))
       where
-        stands : (more : List Event) → IsFinishing g u g.start e more → IsVerdict g u e s t line → IsVerdict g u (e ++ more) s t line
+        stands : (more : List Event) → IsFinishing g u g.start e more → TellsPath (links_with g u full g.start e) s t word → IsVerdict g u (e ++ more) s t word
         stands more f =
-            let all = finishing_shows_the_same g u g.start e more (started g e s h) finished f in
-            let same = same_between g u g.start e (e ++ more) (all.links (perceived u)) s.consumed t.produced in
+            let same = pending_depends g u wf full induced e run s t h (made_open g u e s.maker seen) i (made_open g u e t.maker seen_too) more f in
             ⊎_elim (λ a. inl (a.0, same.0 a.1)) (λ a. inr (a.0, λ d. a.1 (same.1 d)))
 
 -- whether an item is visible, by the flags
@@ -99,12 +105,8 @@ flag_tells g u t flat p name i w =
     let seen = shown_visible g t u flat.opens p.opens name i w in
     same_tests _ _ (λ h. seen.1 (test.0 h)) (λ h. test.1 (seen.0 h))
   where
-    by : (o : Option (List ℕ)) → IsTrue (is_made_open g u (events_of t) o) ↔ IsMadeOpen g u g.start (events_of t) o
-    by None = (λ h. tt, λ h. refl)
-    by (Some k) = (λ h. h, λ h. h)
-
     test : IsTrue (is_made_open g u (events_of t) (named_item (names_in t.instances) name i).maker) ↔ IsVisible g u g.start (events_of t) (named_item (names_in t.instances) name i)
-    test = by (named_item (names_in t.instances) name i).maker
+    test = (made_open g u (events_of t) (named_item (names_in t.instances) name i).maker, open_made g u (events_of t) (named_item (names_in t.instances) name i).maker)
 
 -- two items that were found
 module _ (g : Grammar) (u : View) (t : Table) (flat : FlatSeen) (p : IsPrepared g u t flat) (first second : List ℕ) (a b : ItemHeld)
@@ -137,43 +139,22 @@ module _ (g : Grammar) (u : View) (t : Table) (flat : FlatSeen) (p : IsPrepared 
     second_hidden shut = hidden_line (both_flags ∙ shut)
 
     -- both are visible
-    pub verdict_answers : is_shown flat.opens b.maker ≡ true → (line : List ℕ) → IsVerdictLine g u (events_of t) one.consumed other.produced line → IsAnswerLine g u (events_of t) first second line
-    verdict_answers open_too line = ⊎_elim
-        (λ v. record { answer = codes "yes"; is = answered (codes "yes") (inl (refl, v.1)); ends = v.0 })
-        (λ v. record { answer = codes "no"; is = answered (codes "no") (inr (refl, v.1)); ends = v.0 })
+    pub path_answers : is_shown flat.opens b.maker ≡ true → (line : List ℕ) → IsPathLine (named_links (names_in t.instances) flat.links) one.consumed other.produced line → IsAnswerLine g u (events_of t) first second line
+    path_answers open_too line = ⊎_elim
+        (λ v. record { answer = codes "yes"; is = answered (codes "yes") (inl (refl, moved v.1)); ends = v.0 })
+        (λ v. record { answer = codes "no"; is = answered (codes "no") (inr (refl, λ h. v.1 (back h))); ends = v.0 })
       where
-        answered : (word : List ℕ) → IsVerdict g u (events_of t) one other word → IsAnswer g u (events_of t) first second word
-        answered word v = both_visible g u p.formed (events_of t) p.run.accepted.0 first second one other a_in refl b_in refl p.finished (both_flags ∙ open_too) word v
+        moved : PathIn (named_links (names_in t.instances) flat.links) one.consumed other.produced → PathIn (links_with g u p.full g.start (events_of t)) one.consumed other.produced
+        moved = subst (λ ls. PathIn ls one.consumed other.produced) p.links
 
--- the names of a run's instances differ, in the table too
-pub names_differ : (g : Grammar) (t : Table) → IsRunOf g t → AllDiffer (names_in t.instances)
-names_differ g t run =
-    subst AllDiffer (sym (names_made t.instances)) (subst (λ l. AllDiffer (names_of l)) (sym run.made) (made_differ g g.start [] (events_of t) tt run.accepted.0))
-  where
-    names_made : (xs : List Inst) → names_in xs ≡ names_of (map instance_of xs)
-    names_made [] = refl
-    names_made (x ∷ xs) = ap (λ l. x.name ∷ l) (names_made xs)
+        back : PathIn (links_with g u p.full g.start (events_of t)) one.consumed other.produced → PathIn (named_links (names_in t.instances) flat.links) one.consumed other.produced
+        back = subst (λ ls. PathIn ls one.consumed other.produced) (sym p.links)
 
-module _ (g : Grammar) (u : View) (t : Table) (flat : FlatSeen) (p : IsPrepared g u t flat) (x y : Option PortHeld) (from to : PortHeld) (first : x ≡ Some from) (second : y ≡ Some to)
-    (x_within : IfSome x (λ z. z.instance < length t.instances)) (y_within : IfSome y (λ z. z.instance < length t.instances)) (b : Bool)
-    (by_name : (names : List (List ℕ)) → AllDiffer names → AreWithin (length names) flat.links → from.instance < length names → to.instance < length names → IsTrue b ↔ Path (named_links names flat.links) (named_port names from) (named_port names to)) where
-  abbrev port_of : Option PortHeld → Option (Port (List ℕ))
-  port_of z = option_map (named_port (names_in t.instances)) z
+        answered : (word : List ℕ) → TellsPath (links_with g u p.full g.start (events_of t)) one other word → IsAnswer g u (events_of t) first second word
+        answered word v =
+            both_visible g u p.formed (events_of t) p.run.accepted.0 first second one other a_in refl b_in refl p.full p.induced
+            (flag_tells g u t flat p first a a_within ∙ shown) (flag_tells g u t flat p second b b_within ∙ open_too) word v
 
-  joins : IsTrue b ↔ PathBetween g u g.start (events_of t) (port_of x) (port_of y)
-  joins =
-      let c : length t.instances ≡ length (names_in t.instances) = sym (length-map t.instances (λ (z : Inst). z.name)) in
-      let fx : from.instance < length t.instances = subst (λ (o : Option PortHeld). IfSome o (λ z. z.instance < length t.instances)) first x_within in
-      let fy : to.instance < length t.instances = subst (λ (o : Option PortHeld). IfSome o (λ z. z.instance < length t.instances)) second y_within in
-      subst (λ (o : Option PortHeld). IsTrue b ↔ PathBetween g u g.start (events_of t) (port_of o) (port_of y)) (sym first)
-      (subst (λ (o : Option PortHeld). IsTrue b ↔ PathBetween g u g.start (events_of t) (Some (named_port (names_in t.instances) from)) (port_of o)) (sym second)
-      (subst (λ ls. IsTrue b ↔ Path ls (named_port (names_in t.instances) from) (named_port (names_in t.instances) to)) p.links
-      (by_name (names_in t.instances) (names_differ g t p.run) (subst (λ n. AreWithin n flat.links) c p.within) (subst (λ n. from.instance < n) c fx) (subst (λ n. to.instance < n) c fy))))
-
-  -- the line where the ports are joined
-  pub joined_line : b ≡ true → IsVerdictLine g u (events_of t) (port_of x) (port_of y) (codes "yes\n")
-  joined_line e = inl (refl, joins.0 e)
-
-  -- and where they are not
-  pub apart_line : b ≡ false → IsVerdictLine g u (events_of t) (port_of x) (port_of y) (codes "no\n")
-  apart_line e = inr (refl, λ h. true≢false (sym (joins.1 h) ∙ e))
+-- a query and the line of its answer
+pub asked_of : (g : Grammar) (u : View) (e : List Event) (text first second written : List ℕ) → IsQuery text first second → IsAnswerLine g u e first second written → IsAsked (IsAnswer g u e) text written
+asked_of g u e text first second written q a = record { first = first; second = second; query = q; answer = a.answer; is = a.is; line = a.ends }

@@ -8,7 +8,7 @@ use Rattle.wf_query.specs.Lines.{Ended, All, WrongAt, TooLongAt, ArePut, ended_b
 use Rattle.wf_query.specs.declared.batching.BatchFault.{BatchFault}
 use Rattle.wf_query.specs.declared.batching.BatchFault.TheVariants.{LineWrong, LineTooLong, WriteFault as WritingFailed, NoMemory as WantedMemory}
 use Rattle.wf_top.specs.declared.ending.Place.TheVariants.{Queries}
-use Rattle.wf_top.specs.Endings.{End, WriteFault}
+use Rattle.wf_top.specs.Endings.{End}
 use Rattle.wf_top.specs.Telling.{RefusesNone}
 use Rattle.wf_top.specs.Outcome.{end_of_lines, AnswersLines, TellsLines, QueriesStage, long_most}
 use Rattle.wf_top.specs.Batched.{end_at, end_by}

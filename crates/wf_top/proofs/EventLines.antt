@@ -1,12 +1,11 @@
 -- Events taken line by line: what the lines so far tell, and why a line is refused.
-use Rattle.std.proofs.Common.{◌≡◌, ◌⊎◌, ℕ, Bool, false, List, [], ◌∷◌, ◌++◌, Option, Some, None, refl, sym, ap, ◌∙◌, subst, inl, inr, ⊎_elim, true≢false, append-nil, append_assoc}
-use Rattle.std.specs.Prelude.{IsTrue, ◌↔◌, Result, Err, IfErr, codes}
+use Rattle.std.proofs.Common.{◌≡◌, ◌⊎◌, ℕ, List, [], ◌∷◌, ◌++◌, Option, Some, None, refl, sym, ap, ◌∙◌, subst, inl, inr, ⊎_elim, append-nil, append_assoc}
+use Rattle.std.specs.Prelude.{Result, Err, IfErr, codes}
 use Rattle.wf_model.specs.declared.event.Event.{Event}
 use Rattle.wf_model.specs.declared.event.RunFault.{RunFault}
 use Rattle.wf_model.specs.declared.event.RunFault.TheVariants.{NoMemory as NoMemoryOfRun}
 use Rattle.wf_model.specs.Grammar.{Grammar}
-use Rattle.wf_model.specs.View.{View}
-use Rattle.wf_model.specs.Run.{IsAccepted, IsFinished}
+use Rattle.wf_model.specs.Run.{IsAccepted}
 use Rattle.wf_model.specs.Faults.{fault_of}
 use Rattle.wf_io.specs.Lines.{Line, LinesLeft, Lends, Ends, Refuses, text_of, lines_of}
 use Rattle.wf_flat.specs.Table.{Table, IsRunOf, events_of}
@@ -17,7 +16,7 @@ use Rattle.wf_top.specs.declared.ending.Place.TheVariants.{Events}
 use Rattle.wf_top.specs.Endings.{End, Refused, end_of}
 use Rattle.wf_top.specs.Refusals.{run_name}
 use Rattle.wf_top.specs.Telling.{AtLine}
-use Rattle.wf_top.specs.RunTold.{IsEventText, AreEvents, RefusesText, RefusesLines, RefusesRun}
+use Rattle.wf_top.specs.RunTold.{IsEventText, AreEvents, TellsRun, RefusesText, RefusesLines}
 use Rattle.wf_top.specs.Outcome.{instance_most}
 use Rattle.wf_top.specs.Stages.{Declines}
 use Rattle.wf_top.proofs.Stages.{declines_by}
@@ -56,7 +55,7 @@ taken_none g all left t is same = subst (λ s. IsTaken g all left s) (sym is) (s
 
 module _ (g : Grammar) (all : List Line) (old new : LinesLeft) (t : Table) (taken : IsTaken g all old.left t) where
   -- no line is left
-  pub all_taken : Ends old new → AreEvents all (events_of t)
+  all_taken : Ends old new → AreEvents all (events_of t)
   all_taken ends = subst (AreEvents all) (append-nil (events_of t)) (taken.forth [] (subst (λ k. AreEvents k []) (sym ends.none) tt))
 
   -- the next line is too long
@@ -89,11 +88,9 @@ module _ (g : Grammar) (all : List Line) (old new : LinesLeft) (t : Table) (take
         told : IsEventText (text_of lends.first.raw) h.0
         told = subst (λ x. IsEventText x h.0) lends.text_is h.1
 
--- lines tell an accepted run that is not finished
-pub unfinished : (g : Grammar) (u : View) (bytes : List ℕ) (t : Table) (b : Bool) → IsRunOf g t → t.most ≡ instance_most → AreEvents (lines_of bytes) (events_of t) → IsTrue b ↔ IsFinished g u g.start (events_of t) → b ≡ false → RefusesRun g u instance_most bytes None (codes "NotBuilt")
-unfinished g u bytes t b run most read test open_end =
-    inr ((events_of t, read, subst (λ m. IsAccepted g m (events_of t)) most run.accepted, λ q. true≢false (sym (test.1 q) ∙ open_end)), refl, refl)
-
--- what a line refuses the bytes refuse
-pub by_line : (g : Grammar) (u : View) (bytes : List ℕ) (d : End) → Declines Events (RefusesLines g instance_most [] (lines_of bytes)) d → Declines Events (RefusesRun g u instance_most bytes) d
-by_line g u bytes d h = declines_by Events (RefusesLines g instance_most [] (lines_of bytes)) (RefusesRun g u instance_most bytes) (λ line fault r. inl r) d h
+-- where no line of bytes is left, the bytes tell the run
+pub run_told : (g : Grammar) (bytes : List ℕ) (old new : LinesLeft) (t : Table) → IsTaken g (lines_of bytes) old.left t → Ends old new → TellsRun g instance_most bytes (events_of t)
+run_told g bytes old new t taken ends = record {
+  read = all_taken g (lines_of bytes) old new t taken ends;
+  accepted = subst (λ m. IsAccepted g m (events_of t)) taken.most taken.run.accepted;
+}

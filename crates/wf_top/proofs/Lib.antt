@@ -6,6 +6,8 @@ pub mod OneLoops
 pub mod OneFault
 pub mod OneCycles
 pub mod OneRunFault
+pub mod OneWord
+pub mod OneLabels
 pub mod OneText
 pub mod OneViewFault
 pub mod OneViewText
@@ -15,8 +17,8 @@ pub mod SpecSteps
 pub mod ViewSteps
 pub mod AnsweredLines
 pub mod EventLines
-pub mod SeenModules
-pub mod FlatLinks
+pub mod PendingItems
+pub mod PathLines
 pub mod Answered
 pub mod Tracing
 pub mod TakenLines

@@ -1,13 +1,10 @@
 -- What bytes tell, they tell of one value alone.
-use Rattle.std.proofs.Common.{◌≡◌, ℕ, Bool, true, false, List, [], ◌∷◌, ◌++◌, Option, Some, None, unwrap_or, refl, sym, ap, ◌∙◌, subst, inl, inr, append-nil}
-use Rattle.std.specs.Prelude.{Result, Ok, Err, codes}
+use Rattle.std.proofs.Common.{◌≡◌, ℕ, List, [], ◌∷◌, ◌++◌, Option, Some, None, unwrap_or, refl, sym, ap, ◌∙◌}
+use Rattle.std.specs.Prelude.{Result, Ok, Err}
 use Rattle.serde_json.specs.Data.{Data}
 use Rattle.wf_model.specs.declared.event.Event.{Event}
 use Rattle.wf_model.specs.Grammar.{Grammar}
 use Rattle.wf_model.specs.View.{View}
-use Rattle.wf_model.specs.Run.{IsRun, IsFinished}
-use Rattle.wf_model.specs.Items.{Item}
-use Rattle.wf_model.specs.Finishing.{IsFinishing}
 use Rattle.wf_io.specs.Lines.{Line, text_of}
 use Rattle.wf_json.specs.declared.fault.Member.{Member}
 use Rattle.wf_json.specs.Reading.{IsReading}
@@ -16,12 +13,9 @@ use Rattle.wf_json.specs.ViewForm.{view_of as parts_in}
 use Rattle.wf_events.specs.EventForm.{event_of}
 use Rattle.wf_spec.specs.Forming.{grammar_of}
 use Rattle.wf_view.specs.Viewing.{view_of}
-use Rattle.wf_query.proofs.Names.{query_law}
-use Rattle.wf_top.specs.Answers.{are_visible, IsShown, IsAnswerFor, IsAnswer}
 use Rattle.wf_top.specs.Specification.{TellsGrammar}
 use Rattle.wf_top.specs.ViewTold.{TellsView}
 use Rattle.wf_top.specs.RunTold.{IsEventText, AreEvents, TellsRun}
-use Rattle.wf_top.specs.Outcome.{IsAnswered}
 
 pub some_same : {A : Type 0} (x y : A) → Some x ≡ Some y → x ≡ y
 some_same x y e = ap (λ o. unwrap_or o x) e
@@ -71,32 +65,5 @@ one_list (l ∷ ls) (e ∷ es) [] p q = absurd q
 one_list (l ∷ ls) (e ∷ es) (f ∷ fs) p q =
     ap (λ x. x ∷ es) (one_event (text_of l.raw) e f p.0.1 q.0.1) ∙ ap (λ xs. f ∷ xs) (one_list ls es fs p.1 q.1)
 
-pub one_run : (g : Grammar) (u : View) (limit : ℕ) (bytes : List ℕ) (es fs : List Event) → TellsRun g u limit bytes es → TellsRun g u limit bytes fs → fs ≡ es
-one_run g u limit bytes es fs p q = one_list _ fs es q.read p.read
-
-one_shown : (t : Bool) (g : Grammar) (u : View) (f : List Event) (a b : Item) (x y : List ℕ) → IsShown t g u f a b x → IsShown t g u f a b y → x ≡ y
-one_shown false g u f a b x y p q = p ∙ sym q
-one_shown true g u f a b x y (inl p) (inl q) = p.0 ∙ sym q.0
-one_shown true g u f a b x y (inl p) (inr q) = absurd (q.1 p.1)
-one_shown true g u f a b x y (inr p) (inl q) = absurd (p.1 q.1)
-one_shown true g u f a b x y (inr p) (inr q) = p.0 ∙ sym q.0
-
-one_for : (g : Grammar) (u : View) (e f : List Event) (a b : Option Item) (x y : List ℕ) → IsAnswerFor g u e f a b x → IsAnswerFor g u e f a b y → x ≡ y
-one_for g u e f None b x y p q = p ∙ sym q
-one_for g u e f (Some a) None x y p q = p ∙ sym q
-one_for g u e f (Some a) (Some b) x y p q = one_shown (are_visible g u e a b) g u f a b x y p q
-
--- a run that is finished has an answer at most
-pub one_answer : (g : Grammar) (u : View) (e : List Event) (first second x y : List ℕ) → IsRun g g.start e → IsFinished g u g.start e → IsAnswer g u e first second x → IsAnswer g u e first second y → x ≡ y
-one_answer g u e first second x y run finished p q =
-    let own : IsFinishing g u g.start e [] = record {
-      run = subst (IsRun g g.start) (sym (append-nil e)) run;
-      finished = subst (IsFinished g u g.start) (sym (append-nil e)) finished;
-    } in
-    one_for g u e (e ++ []) _ _ x y (p [] own) (q [] own)
-
--- a line of query has one line of answer
-pub one_written : (g : Grammar) (u : View) (e : List Event) (l : Line) (x y : List ℕ) → IsRun g g.start e → IsFinished g u g.start e → IsAnswered g u e l x → IsAnswered g u e l y → x ≡ y
-one_written g u e l x y run finished p q =
-    let s = query_law _ p.first p.second q.first q.second p.query.1 q.query.1 in
-    p.line ∙ (ap (λ a. a ++ codes "\n") (one_answer g u e q.first q.second p.answer q.answer run finished (subst (λ n. IsAnswer g u e q.first n p.answer) s.1 (subst (λ n. IsAnswer g u e n p.second p.answer) s.0 p.is)) q.is) ∙ sym q.line)
+pub one_run : (g : Grammar) (limit : ℕ) (bytes : List ℕ) (es fs : List Event) → TellsRun g limit bytes es → TellsRun g limit bytes fs → fs ≡ es
+one_run g limit bytes es fs p q = one_list _ fs es q.read p.read

@@ -1,9 +1,8 @@
--- Events have one refusal at most, and none where they tell a finished run.
+-- Events have one refusal at most, and none where they tell a run.
 use Rattle.std.proofs.Common.{◌≡◌, ℕ, ◌+◌, ◌≤◌, false, List, [], ◌∷◌, ◌++◌, length, Option, Some, None, sym, ap, ◌∙◌, subst, inl, inr, arith, true≢false, append_assoc, length-append}
 use Rattle.wf_model.specs.declared.event.Event.{Event}
 use Rattle.wf_model.specs.Grammar.{Grammar}
-use Rattle.wf_model.specs.View.{View}
-use Rattle.wf_model.specs.Run.{made, names_of, IsAccepted, IsFinished}
+use Rattle.wf_model.specs.Run.{made, names_of, IsAccepted}
 use Rattle.wf_model.specs.Lists.{IsIn}
 use Rattle.wf_model.specs.Faults.{fault_of}
 use Rattle.wf_model.proofs.Lists.{in_append_left}
@@ -13,7 +12,7 @@ use Rattle.wf_io.specs.Lines.{Line, is_too_long, text_of, lines_of}
 use Rattle.wf_events.specs.EventForm.{event_of}
 use Rattle.wf_top.specs.Refusals.{run_name}
 use Rattle.wf_top.specs.RunTold.{IsEventText, IsEventLine, AreEvents, TellsRun, RefusesForm, RefusesEvent, RefusesText, RefusesBytes, RefusesLine, RefusesLines, RefusesRun}
-use Rattle.wf_top.proofs.OneOutcome.{some_same, one_reading, one_event, one_list}
+use Rattle.wf_top.proofs.OneOutcome.{some_same, one_reading, one_event}
 use Rattle.wf_top.proofs.OneRefusal.{unread}
 
 -- what has not the form of an event tells none
@@ -98,15 +97,10 @@ module _ (g : Grammar) (limit : ℕ) where
       none_refused ks es (before ++ e ∷ []) l x read.1 (subst (IsAccepted g limit) (sym (append_assoc before (e ∷ []) es)) acc)
       (subst (λ d. RefusesLines g limit (before ++ d ∷ []) ks l x) (one_event (text_of k.raw) p.0 e p.1.1 read.0.1) p.3)
 
-  module _ (u : View) (bytes : List ℕ) where
-    -- the bytes of events have one refusal
-    pub one_refusal_of_run : (l m : Option ℕ) (x y : List ℕ) → RefusesRun g u limit bytes l x → RefusesRun g u limit bytes m y → (l ≡ m) × (x ≡ y)
-    one_refusal_of_run l m x y (inl p) (inl q) = one_lines_fault (lines_of bytes) [] l m x y p q
-    one_refusal_of_run l m x y (inl p) (inr q) = absurd (none_refused (lines_of bytes) q.0.0 [] l x q.0.1 q.0.2 p)
-    one_refusal_of_run l m x y (inr p) (inl q) = absurd (none_refused (lines_of bytes) p.0.0 [] m y p.0.1 p.0.2 q)
-    one_refusal_of_run l m x y (inr p) (inr q) = (p.1 ∙ sym q.1, p.2 ∙ sym q.2)
+  -- the bytes of events have one refusal
+  pub one_refusal_of_run : (bytes : List ℕ) (l m : Option ℕ) (x y : List ℕ) → RefusesRun g limit bytes l x → RefusesRun g limit bytes m y → (l ≡ m) × (x ≡ y)
+  one_refusal_of_run bytes l m x y p q = one_lines_fault (lines_of bytes) [] l m x y p q
 
-    -- bytes that tell a finished run have none
-    pub no_refusal_of_run : (es : List Event) (l : Option ℕ) (x : List ℕ) → TellsRun g u limit bytes es → RefusesRun g u limit bytes l x → ⊥
-    no_refusal_of_run es l x t (inl p) = none_refused (lines_of bytes) es [] l x t.read t.accepted p
-    no_refusal_of_run es l x t (inr p) = p.0.3 (subst (IsFinished g u g.start) (one_list (lines_of bytes) es p.0.0 t.read p.0.1) t.finished)
+  -- bytes that tell a run have none
+  pub no_refusal_of_run : (bytes : List ℕ) (es : List Event) (l : Option ℕ) (x : List ℕ) → TellsRun g limit bytes es → RefusesRun g limit bytes l x → ⊥
+  no_refusal_of_run bytes es l x t p = none_refused (lines_of bytes) es [] l x t.read t.accepted p

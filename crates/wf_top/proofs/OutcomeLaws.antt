@@ -1,29 +1,35 @@
 -- Words and files have one outcome at most.
-use Rattle.std.proofs.Common.{◌≡◌, ℕ, ◌<◌, ◌≤◌, List, [], ◌∷◌, ◌++◌, Option, Some, None, sym, ap, ◌∙◌, subst, inl, inr, arith, true≢false}
-use Rattle.wf_model.specs.declared.event.Event.{Event}
+use Rattle.std.proofs.Common.{◌≡◌, ℕ, ◌<◌, ◌≤◌, List, Option, Some, None, sym, ap, ◌∙◌, subst, arith, true≢false}
 use Rattle.wf_model.specs.Grammar.{Grammar}
 use Rattle.wf_model.specs.View.{View as ViewOf}
-use Rattle.wf_model.specs.Run.{IsRun, IsFinished}
 use Rattle.wf_model.specs.Proper.{IsProper}
 use Rattle.wf_model.specs.Linear.{IsLinear}
 use Rattle.wf_model.specs.WellFormed.{IsWellFormed}
 use Rattle.wf_io.specs.Told.{File}
 use Rattle.wf_io.specs.Lines.{Line, lines_of}
+use Rattle.wf_query.specs.Answers.{IsAnswerText}
+use Rattle.wf_query.specs.Lines.{IsOneWord}
+use Rattle.wf_query.proofs.OneEnding.{one_ending}
+use Rattle.wf_query.proofs.Entries.{one_word}
 use Rattle.wf_top.specs.declared.ending.Place.{Place}
-use Rattle.wf_top.specs.declared.ending.Place.TheVariants.{Spec, View, Events, Queries}
+use Rattle.wf_top.specs.declared.ending.Place.TheVariants.{Spec, View, Events, Labels, Queries}
 use Rattle.wf_top.specs.Endings.{End, Refused}
-use Rattle.wf_top.specs.Words.{Command, Check, View as ViewCommand, Ingest, Trace, Decide, command_of}
+use Rattle.wf_top.specs.Words.{Command, Check, View as ViewCommand, Ingest, Trace, Ask, Decide, command_of}
 use Rattle.wf_top.specs.Specification.{TellsGrammar, RefusesSpec}
-use Rattle.wf_top.specs.Telling.{IsNotBuilt, OfWhole}
+use Rattle.wf_top.specs.Telling.{OfWhole, RefusesNone}
 use Rattle.wf_top.specs.ViewTold.{TellsView, RefusesView}
 use Rattle.wf_top.specs.RunTold.{TellsRun, RefusesRun}
+use Rattle.wf_top.specs.LabelsTold.{TellsEntries, RefusesLabels}
+use Rattle.wf_top.specs.Answers.{IsAnswer}
 use Rattle.wf_top.specs.Ingested.{IngestsLines, refused as stopped, done, file_of}
-use Rattle.wf_top.specs.Outcome.{Stage, too_long, broken, refused, goes_on, TellsLines, AreAnswered, SpecStage, ViewStage, IsChecked, IsViewWritten, IngestsEvents, long_events, broken_events, event_lines, Checks, Views, Ingests, Traces, Decides, Does, short_most, long_most, instance_most}
+use Rattle.wf_top.specs.Outcome.{Stage, too_long, broken, refused, goes_on, TellsLines, AnswersLines, end_of_lines, SpecStage, ViewStage, QueriesStage, IsChecked, IsViewWritten, IngestsEvents, long_events, broken_events, event_lines, Checks, Views, Ingests, Traces, Asks, Decides, Does, short_most, long_most, instance_most}
 use Rattle.wf_top.specs.Laws.{OneOutcomeLaw}
-use Rattle.wf_top.proofs.OneOutcome.{one_grammar, one_view, one_run, one_written, one_list}
+use Rattle.wf_top.proofs.OneOutcome.{one_grammar, one_view, one_run, one_list}
 use Rattle.wf_top.proofs.OneFault.{one_refusal, no_refusal}
 use Rattle.wf_top.proofs.OneViewFault.{one_refusal_of_view, no_refusal_of_view}
 use Rattle.wf_top.proofs.OneRunFault.{one_refusal_of_run, no_refusal_of_run}
+use Rattle.wf_top.proofs.OneLabels.{one_entries, one_refusal_of_labels, no_refusal_of_labels, told_differ}
+use Rattle.wf_top.proofs.OneWord.{one_run_word}
 use Rattle.wf_top.proofs.OneText.{one_text}
 use Rattle.wf_top.proofs.OneViewText.{one_view_text}
 use Rattle.wf_top.proofs.ViewComposites.{told_composites}
@@ -62,13 +68,6 @@ module _ {A : Type 0} (most : ℕ) (place : Place) (file : File) (Tells : List �
   one_stage d e t s (goes_on l a z k n) (refused m b o f h u v) = absurd (apart z o f k h)
   one_stage d e t s (goes_on l a z k n) (goes_on m b c h o) = next_one z k d e t s n (subst (λ x. Next x e s) (one z c k h) o)
 
-module _ {A : Type 0} (most : ℕ) (place : Place) (file : File) (Tells : List ℕ → A → Type 0) (Next : A → End → List ℕ → Type 0)
-    (one : (a b : A) → Tells file.bytes a → Tells file.bytes b → b ≡ a)
-    (next_one : (a : A) → Tells file.bytes a → (d e : End) (t s : List ℕ) → Next a d t → Next a e s → AreSame d e t s) where
-  -- so has one that refuses what tells no value
-  one_open_stage : (d e : End) (t s : List ℕ) → Stage most place file Tells (OfWhole (IsNotBuilt Tells)) Next d t → Stage most place file Tells (OfWhole (IsNotBuilt Tells)) Next e s → AreSame d e t s
-  one_open_stage = one_stage most place file Tells (OfWhole (IsNotBuilt Tells)) Next one (λ l m x y p q. (p.0 ∙ sym q.0, p.1.1 ∙ sym q.1.1)) (λ a l x t r. r.1.0 a t) next_one
-
 -- so has that of SPEC
 one_spec_stage : (spec : File) (Next : Grammar → End → List ℕ → Type 0) → ((g : Grammar) → TellsGrammar spec.bytes g → (d e : End) (t s : List ℕ) → Next g d t → Next g e s → AreSame d e t s) →
     (d e : End) (t s : List ℕ) → SpecStage spec Next d t → SpecStage spec Next e s → AreSame d e t s
@@ -79,28 +78,35 @@ one_spec_stage spec Next next =
 told_formed : (bytes : List ℕ) (g : Grammar) → TellsGrammar bytes g → IsWellFormed g
 told_formed bytes g t = subst IsWellFormed (sym t.is) t.formed.well_formed
 
+-- and proper
+told_proper : (bytes : List ℕ) (g : Grammar) → TellsGrammar bytes g → IsProper g
+told_proper bytes g t = subst IsProper (sym t.is) t.proper
+
 -- the stage of VIEW has one outcome where what follows has
 one_view_stage : (bytes : List ℕ) (g : Grammar) → TellsGrammar bytes g → (view : File) (Next : ViewOf → End → List ℕ → Type 0) → ((u : ViewOf) → TellsView g view.bytes u → (d e : End) (t s : List ℕ) → Next u d t → Next u e s → AreSame d e t s) →
     (d e : End) (t s : List ℕ) → ViewStage g view Next d t → ViewStage g view Next e s → AreSame d e t s
 one_view_stage bytes g told view Next next =
     one_stage short_most View view (TellsView g) (OfWhole (RefusesView g)) Next (one_view g view.bytes) (λ l m x y p q. (p.0 ∙ sym q.0, one_refusal_of_view g (told_formed bytes g told) view.bytes x y p.1 q.1)) (λ u l x t r. no_refusal_of_view g view.bytes x u t r.1) next
 
-one_answers : (g : Grammar) (u : ViewOf) (e : List Event) → IsRun g g.start e → IsFinished g u g.start e → (ls : List Line) (d f : End) (t s : List ℕ) → AreAnswered g u e ls d t → AreAnswered g u e ls f s → AreSame d f t s
-one_answers g u e run fin [] d f t s p q = (p.0 ∙ sym q.0, p.1 ∙ sym q.1)
-one_answers g u e run fin (l ∷ ls) d f t s (inl p) (inl q) = (p.1 ∙ sym q.1, p.2 ∙ sym q.2)
-one_answers g u e run fin (l ∷ ls) d f t s (inl p) (inr q) = absurd (p.0 q.2.first q.2.second q.2.query)
-one_answers g u e run fin (l ∷ ls) d f t s (inr p) (inl q) = absurd (q.0 p.2.first p.2.second p.2.query)
-one_answers g u e run fin (l ∷ ls) d f t s (inr p) (inr q) =
-    let rest = one_answers g u e run fin ls d f p.1 q.1 p.4 q.4 in
-    let first = one_written g u e l p.0 q.0 run fin p.2 q.2 in
-    (rest.0, p.3 ∙ (ap (λ w. w ++ p.1) first ∙ (ap (λ r. q.0 ++ r) rest.1 ∙ sym q.3)))
+-- so has that of QUERIES, where a query has one word
+one_queries_stage : (Answers : List ℕ → List ℕ → List ℕ → Type 0) → IsOneWord Answers → (queries : File) (d e : End) (t s : List ℕ) → QueriesStage Answers queries d t → QueriesStage Answers queries e s → AreSame d e t s
+one_queries_stage Answers one queries =
+    one_stage long_most Queries queries TellsLines RefusesNone (AnswersLines Answers) (λ a b x y. y ∙ sym x) (λ l m x y p q. absurd p) (λ a l x t r. r)
+    (λ ls h d e t s p q. let r = one_ending Answers one ls p.0 q.0 t s p.1 q.1 in (p.2 ∙ (ap end_of_lines r.0 ∙ sym q.2), r.1))
 
 one_trace : (spec view events queries : File) (d e : End) (t s : List ℕ) → Traces spec view events queries d t → Traces spec view events queries e s → AreSame d e t s
 one_trace spec view events queries =
     one_spec_stage spec _ (λ g p.
     one_view_stage spec.bytes g p view _ (λ u q.
-    one_stage long_most Events events (TellsRun g u _) (RefusesRun g u _) _ (one_run g u _ events.bytes) (one_refusal_of_run g _ u events.bytes) (no_refusal_of_run g _ u events.bytes) (λ r told.
-    one_open_stage long_most Queries queries TellsLines _ (λ a b x y. y ∙ sym x) (λ ls h. one_answers g u r told.accepted.0 told.finished ls))))
+    one_stage long_most Events events (TellsRun g instance_most) (RefusesRun g instance_most) _ (one_run g instance_most events.bytes) (one_refusal_of_run g instance_most events.bytes) (no_refusal_of_run g instance_most events.bytes) (λ r told.
+    one_queries_stage (IsAnswer g u r) (one_run_word g u r (told_proper spec.bytes g p) (told_composites g (told_formed spec.bytes g p) view.bytes u q) told.accepted.0) queries)))
+
+one_ask : (spec view labels queries : File) (d e : End) (t s : List ℕ) → Asks spec view labels queries d t → Asks spec view labels queries e s → AreSame d e t s
+one_ask spec view labels queries =
+    one_spec_stage spec _ (λ g p.
+    one_view_stage spec.bytes g p view _ (λ u q.
+    one_stage long_most Labels labels (TellsEntries g) (OfWhole (RefusesLabels g)) _ (one_entries g labels.bytes) (one_refusal_of_labels g labels.bytes) (no_refusal_of_labels g labels.bytes) (λ es told.
+    one_queries_stage (IsAnswerText g u es) (one_word g u es (told_differ g labels.bytes es told)) queries)))
 
 -- lines of events are ingested in one way
 one_ingested : (g : Grammar) (limit : ℕ) (ls : List Line) (d e : End) (t s : List ℕ) → IngestsLines g limit ls d t → IngestsLines g limit ls e s → AreSame d e t s
@@ -131,7 +137,7 @@ one_check spec = one_spec_stage spec IsChecked (λ g told d e t s p q.
 one_views : (spec view : File) (d e : End) (t s : List ℕ) → Views spec view d t → Views spec view e s → AreSame d e t s
 one_views spec view = one_spec_stage spec _ (λ g told. one_view_stage spec.bytes g told view (IsViewWritten g) (λ u shown d e t s p q. (
   p.0 ∙ sym q.0,
-  p.1.4 ∙ (one_view_text g u (subst IsProper (sym told.is) told.proper) (told_composites g (told_formed spec.bytes g told) view.bytes u shown)
+  p.1.4 ∙ (one_view_text g u (told_proper spec.bytes g told) (told_composites g (told_formed spec.bytes g told) view.bytes u shown)
       p.1.0 q.1.0 p.1.1 q.1.1 p.1.2 q.1.2 p.1.3 q.1.3 ∙ sym q.1.4),
 )))
 
@@ -144,6 +150,7 @@ one_doing files (Some (Check a)) d e t s p q = one_check (files a) d e t s p q
 one_doing files (Some (ViewCommand a b)) d e t s p q = one_views (files a) (files b) d e t s p q
 one_doing files (Some (Ingest a b)) d e t s p q = one_ingest (files a) (files b) d e t s p q
 one_doing files (Some (Trace a b c f)) d e t s p q = one_trace (files a) (files b) (files c) (files f) d e t s p q
+one_doing files (Some (Ask a b c f)) d e t s p q = one_ask (files a) (files b) (files c) (files f) d e t s p q
 one_doing files (Some (Decide a b x y)) d e t s p q = one_decide (files a) (files b) x y d e t s p q
 
 pub one_outcome_law : OneOutcomeLaw

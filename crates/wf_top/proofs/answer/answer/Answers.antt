@@ -1,7 +1,7 @@
 use Rattle.std.proofs.Common.{codes, refl, sym, ◌∙◌}
 use Rattle.wf_flat.specs.Table.{events_of, names_in}
 use Rattle.wf_flat.specs.Item.{named_item}
-use Rattle.wf_top.proofs.Answered.{first_unknown, second_unknown, first_hidden, second_hidden, verdict_answers}
+use Rattle.wf_top.proofs.Answered.{first_unknown, second_unknown, first_hidden, second_hidden, path_answers}
 use Rattle.wf_top.proofs.answer.answer.Goals as goal
 
 pub returns-in_default : goal.returns-in_default
@@ -37,5 +37,5 @@ returns-then-not-shows-2 c =
 
 pub returns : goal.returns
 returns c =
-    verdict_answers _ _ _ _ c.requires c.args.first.now c.args.second.now c.in-Some.a c.in-Some-find_item.b c.in-Some.ensures.found c.in-Some-find_item.ensures.found c.in-Some.ensures.within c.in-Some-find_item.ensures.within
+    path_answers _ _ _ _ c.requires c.args.first.now c.args.second.now c.in-Some.a c.in-Some-find_item.b c.in-Some.ensures.found c.in-Some-find_item.ensures.found c.in-Some.ensures.within c.in-Some-find_item.ensures.within
     (sym c.shows.ensures ∙ c.if-not-shows.false) (sym c.shows-2.ensures ∙ c.if-not-shows-2.false) c.in_ok-line.line.now c.in_ok-line.ensures

@@ -1,21 +1,35 @@
-use Rattle.std.proofs.Common.{None}
+use Rattle.std.proofs.Common.{Some, ap}
 use Rattle.std.specs.Prelude.{codes}
 use Rattle.std.proofs.lemmas.Result.{err_from_is_err_and}
+use Rattle.wf_io.specs.Lines.{LinesLeft, Lends, Ends, lines_of}
 use Rattle.wf_top.specs.declared.ending.Place.TheVariants.{Events}
 use Rattle.wf_top.specs.Endings.{end_of}
 use Rattle.wf_top.specs.RunTold.{RefusesRun}
 use Rattle.wf_top.specs.Outcome.{instance_most}
-use Rattle.wf_top.proofs.EventLines.{unfinished, declined, by_line, handed_on}
+use Rattle.wf_top.proofs.EventLines.{handed_on, declined, taken_none, taken_more, run_told, long_refused, line_refused}
 use Rattle.wf_top.proofs.events.run_of_bytes.Goals as goal
 
-pub returns-in_err-run-clause-declines : goal.returns-in_err-run-clause-declines
-returns-in_err-run-clause-declines c =
-    let v = c.args.v.now in
-    handed_on Events (RefusesRun v.grammar.core v.view.core instance_most c.args.bytes.now) c.from_residual.result c.in_err-run.field-0.0 (err_from_is_err_and c.from_residual.result c.from_residual.ensures.1)
-    (by_line v.grammar.core v.view.core c.args.bytes.now _ c.in_err-run.ensures.declines)
+pub loop-next-init : goal.loop-next-init
+loop-next-init c =
+    taken_none c.args.g.now.core (lines_of c.args.bytes.now) c.open-lines.result.left c.new-run.result c.new-run.ensures (ap (λ (l : LinesLeft). l.left) c.open-lines.ensures)
 
-pub returns-then-not-finished-clause-declines : goal.returns-then-not-finished-clause-declines
-returns-then-not-finished-clause-declines c =
-    let v = c.args.v.now in
-    declined Events _ (end_of c.not_built.result) None (codes "NotBuilt") c.not_built.ensures
-    (unfinished v.grammar.core v.view.core c.args.bytes.now c.in_ok-run.run' c.in-Ok.finished c.in_ok-run.ensures.run.0 c.in_ok-run.ensures.run.1 c.in_ok-run.ensures.read (c.in-Ok.ensures v.view.core c.marks.ensures) c.if-not-finished.true)
+pub returns-in_default-clause-declines : goal.returns-in_default-clause-declines
+returns-in_default-clause-declines c =
+    declined Events _ (end_of c.refused.result) (Some c.line.result) (codes "LineTooLong") c.refused.ensures
+    (long_refused c.args.g.now.core (lines_of c.args.bytes.now) c.loop-next.lines c.next.new.self c.loop-next.run c.loop-next.invariant _ c.line.ensures c.in_default.ensures.next)
+
+pub returns-in_default-next-clause-ok : goal.returns-in_default-next-clause-ok
+returns-in_default-next-clause-ok c =
+    let h : Ends c.loop-next.lines c.next.new.self = rw c.in_default-next.is at c.in-Ok.ensures.next in
+    run_told c.args.g.now.core c.args.bytes.now c.loop-next.lines c.next.new.self c.loop-next.run c.loop-next.invariant h
+
+pub loop-next-preserved : goal.loop-next-preserved
+loop-next-preserved c =
+    let h : Lends c.loop-next.lines c.in-Some.line.now c.next.new.self = rw c.in-Some.is at c.in-Ok.ensures.next in
+    taken_more c.args.g.now.core (lines_of c.args.bytes.now) c.loop-next.lines c.next.new.self c.loop-next.run c.loop-next.invariant c.in-Some.line.now h c.take_line.new.run c.take_line.ensures.run c.take_line.ensures.most c.in_ok-take_line.ensures.ok
+
+pub returns-in_err-take_line-clause-declines : goal.returns-in_err-take_line-clause-declines
+returns-in_err-take_line-clause-declines c =
+    let h : Lends c.loop-next.lines c.in-Some.line.now c.next.new.self = rw c.in-Some.is at c.in-Ok.ensures.next in
+    handed_on Events (RefusesRun c.args.g.now.core instance_most c.args.bytes.now) c.from_residual.result c.in_err-take_line.field-0.0 (err_from_is_err_and c.from_residual.result c.from_residual.ensures.1)
+    (line_refused c.args.g.now.core (lines_of c.args.bytes.now) c.loop-next.lines c.next.new.self c.loop-next.run c.loop-next.invariant c.in-Some.line.now h _ c.line-in-loop-next.ensures _ c.in_err-take_line.ensures.declines)

@@ -1,5 +1,5 @@
 use Rattle.std.proofs.Common.{refl}
-use Rattle.wf_top.proofs.Answering.{asked_of}
+use Rattle.wf_top.proofs.Answered.{asked_of}
 use Rattle.wf_top.proofs.queries.answer_line.Goals as goal
 
 pub returns-in-Ok-put-clause-asked : goal.returns-in-Ok-put-clause-asked

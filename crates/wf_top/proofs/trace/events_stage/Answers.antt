@@ -7,7 +7,6 @@ use Rattle.wf_top.proofs.trace.events_stage.Goals as goal
 
 pub returns-clause-ok : goal.returns-clause-ok
 returns-clause-ok g c =
-    let v = c.args.v.now in
     IfOk-weaker c.run_of_bytes.result _ _
-    (λ r t f told. told_by long_most (f c.args.name.now) (TellsRun v.grammar.core v.view.core instance_most) _ _ (events_of r) (c.in_ok-bytes.ensures.ok f told) c.deref.ensures.value t)
+    (λ r t f told. told_by long_most (f c.args.name.now) (TellsRun c.args.v.now.grammar.core instance_most) _ _ (events_of r) (c.in_ok-bytes.ensures.ok f told) c.deref.ensures.value t)
     c.run_of_bytes.ensures.ok

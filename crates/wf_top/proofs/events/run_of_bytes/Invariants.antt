@@ -1,7 +1,7 @@
 use Rattle.std.proofs.Common.{length}
 use Rattle.wf_io.specs.Lines.{lines_of}
 use Rattle.wf_top.proofs.EventLines.{IsTaken}
-use Rattle.wf_top.proofs.events.take_lines.Given as goal
+use Rattle.wf_top.proofs.events.run_of_bytes.Given as goal
 
 abbrev pub invariant-loop-next : goal.invariant-loop-next
 invariant-loop-next l = IsTaken l.g.core (lines_of l.bytes) l.lines.left l.run
