@@ -1,5 +1,5 @@
 -- How LABELS ends the program, or is taken on.
-use Rattle.std.proofs.Common.{◌≡◌, ℕ, List, Option, None, refl, sym, ap, subst}
+use Rattle.std.proofs.Common.{◌≡◌, ℕ, List, Option, None, refl, sym, subst}
 use Rattle.sha2.specs.Sha256.{sha256}
 use Rattle.wf_model.specs.Lists.{AllDiffer}
 use Rattle.wf_model.specs.Grammar.{Grammar}
@@ -7,7 +7,6 @@ use Rattle.wf_model.specs.View.{View as ViewOf}
 use Rattle.wf_io.specs.Told.{File}
 use Rattle.wf_json.specs.Canonical.{canonical_of}
 use Rattle.label_model.specs.Files.{Entry, Answer, Accepted, NotLabels, OtherSpec, Truncated, BadName, NameTwice, BadLabel, Opens}
-use Rattle.label_model.proofs.FileReadings.{one_reading_law}
 use Rattle.label_file.specs.Stored.{EntryHeld, AreHeldOf, IsStoreFor, IsStoreOf, IsStoreFault}
 use Rattle.label_file.specs.declared.fault.StoreFault.{StoreFault}
 use Rattle.label_file.specs.declared.fault.StoreFault.TheVariants.{NotLabels as IsNoLabels, OtherSpec as IsOfOther, Truncated as IsTruncated, BadName as HasBadName, NameTwice as HasNameTwice, BadLabel as HasBadLabel, NoMemory as HasNoMemory}
@@ -17,25 +16,12 @@ use Rattle.wf_top.specs.declared.ending.Place.TheVariants.{Labels}
 use Rattle.wf_top.specs.Endings.{End, Refused}
 use Rattle.wf_top.specs.Refusals.{store_name}
 use Rattle.wf_top.specs.Telling.{OfWhole}
-use Rattle.wf_top.specs.LabelsTold.{OpensFor, TellsEntries, IsFaultText, RefusesLabels}
+use Rattle.wf_top.specs.LabelsTold.{OpensFor, TellsEntries, RefusesLabels}
 use Rattle.wf_top.specs.Outcome.{AnswersLabels, QueriesStage, long_most}
 use Rattle.wf_top.specs.Meets.{EndsBy}
 use Rattle.wf_top.specs.Stages.{IsTold, StopsAt, Declines}
 use Rattle.wf_top.proofs.Stages.{stop_ends, on_ends}
-use Rattle.wf_top.proofs.EntryNames.{entries_differ}
-
--- the entries that an answer has
-abbrev accepted_or : List Entry → Answer → List Entry
-accepted_or d a = elim a [ Accepted entries ↦ entries | NotLabels ↦ d | OtherSpec ↦ d | Truncated o ↦ d | BadName n ↦ d | NameTwice n ↦ d | BadLabel n ↦ d ]
-
--- a label file has one list of entries
-pub one_entries : (g : Grammar) (bytes : List ℕ) (es fs : List Entry) → TellsEntries g bytes es → TellsEntries g bytes fs → fs ≡ es
-one_entries g bytes es fs p q = ap (accepted_or es) (one_reading_law g (sha256 (canonical_of g)) bytes (Accepted fs) (Accepted es) q p)
-
--- what has entries is not refused
-pub no_refusal_of_labels : (g : Grammar) (bytes fault : List ℕ) (es : List Entry) → TellsEntries g bytes es → RefusesLabels g bytes fault → ⊥
-no_refusal_of_labels g bytes fault es told r =
-    subst (λ a. IsFaultText a fault) (one_reading_law g (sha256 (canonical_of g)) bytes r.0 (Accepted es) r.1 told) r.2
+use Rattle.wf_top.proofs.OneLabels.{one_entries, no_refusal_of_labels, told_differ}
 
 module _ (g : Grammar) (u : ViewOf) (labels queries : File) (old new : Option (List ℕ)) (d : End) where
   -- LABELS ends the program
@@ -46,7 +32,7 @@ module _ (g : Grammar) (u : ViewOf) (labels queries : File) (old new : Option (L
   pub labels_go : (entries : List Entry) → IsTold long_most labels (TellsEntries g) entries → EndsBy (QueriesStage (IsAnswerText g u entries) queries) d old new → EndsBy (AnswersLabels g u labels queries) d old new
   labels_go entries told ends =
       on_ends long_most Labels labels (TellsEntries g) (OfWhole (RefusesLabels g)) _ old new entries told
-      (λ es t. one_entries g labels.bytes entries es told.tells t) (λ line fault r. no_refusal_of_labels g labels.bytes fault entries told.tells r.1) d ends
+      (λ es t. one_entries g labels.bytes entries es told.tells t) (λ line fault r. no_refusal_of_labels g labels.bytes entries line fault told.tells r) d ends
 
 module _ (g : Grammar) (digest bytes : List ℕ) (same : digest ≡ sha256 (canonical_of g)) where
   -- what is read by the digest of the grammar
@@ -75,5 +61,5 @@ module _ (g : Grammar) (digest bytes : List ℕ) (same : digest ≡ sha256 (cano
 pub store_for : (g : Grammar) (bytes : List ℕ) (entries : List Entry) (hs : List EntryHeld) → TellsEntries g bytes entries → AreHeldOf g entries hs → IsStoreFor g hs
 store_for g bytes entries hs told held = record {
   labels = λ h i. (held_from g entries hs held h i).2.label;
-  differ = subst AllDiffer (sym (names_same g entries hs held)) (entries_differ g (sha256 (canonical_of g)) bytes entries told);
+  differ = subst AllDiffer (sym (names_same g entries hs held)) (told_differ g bytes entries told);
 }

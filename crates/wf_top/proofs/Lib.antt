@@ -37,6 +37,5 @@ pub mod NumberedTexts
 pub mod ViewLines
 pub mod ViewWritten
 pub mod ViewTaken
-pub mod EntryNames
 pub mod LabelsTaken
 pub mod AskUntouched
