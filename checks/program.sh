@@ -184,8 +184,12 @@ check "a folder is a fault of reading" says 3 'fault: reading spec\n' trace $lin
 check "a refused file comes before an absent one" \
     says 2 'refused: spec: NotJson\n' trace "$(text cut '{"start"')" "$work/absent" $line/events $line/queries
 
-check "a run that is not finished is refused" \
-    says 2 'refused: events: NotBuilt\n' trace $line/spec $line/view "$(text begun '{"start":"r"}\n')" $line/queries
+# Of a run in which nothing is expanded the output rests on the input, however it will be expanded.
+begun() {
+    run trace $line/spec $line/view "$(text begun '{"start":"r"}\n')" "$(text ports 'r.a r.b\nr.b r.a\nr.a i1.y\n')" &&
+        ended 0 "$(text expected_out 'yes\nno\nunknown\n')" "$nothing"
+}
+check "a run that is not finished is answered" begun
 # The line example with these events.
 refuses_events() {
     says 2 "refused: events $1\n" trace $line/spec $line/view "$2" $line/queries
@@ -205,7 +209,7 @@ check "an event that does not extend the run is told by its line" \
 
 answered_then_refused() {
     run trace $line/spec $line/view $line/events "$(text some 'r.a r.b\nr.a\nr.b r.a\n')" &&
-        ended 2 "$(text expected_out 'yes\n')" "$(text expected 'refused: queries: NotBuilt\n')"
+        ended 2 "$(text expected_out 'yes\n')" "$(text expected 'refused: queries line 2: LineWrong\n')"
 }
 check "a line that is no query is refused behind the answers before it" answered_then_refused
 
@@ -295,6 +299,65 @@ check "bytes that are no label are refused" says 2 'refused: label 1: Malformed\
 check "the second label is tried, too" says 2 'refused: label 2: Malformed\n' decide $line/spec $line/view 20 ''
 check "an odd number of digits is a usage" says 1 'usage: wfprov COMMAND WORDS\n' decide $line/spec $line/view 2 20
 check "a view is tried before the labels" says 2 'refused: view: NotJson\n' decide $line/spec "$nothing" b1 20
+
+# Whether the label file of an example answers its queries as its run does.
+asks_alike() {
+    run ask "examples/$1/spec" "examples/$1/view" "examples/$1/labels" "examples/$1/queries" &&
+        ended 0 "examples/$1/answers" "$nothing"
+}
+for example in line phylogeny-once phylogeny; do
+    check "the label file of $example answers as its run does" asks_alike "$example"
+done
+
+# Whether what `ingest` writes while a run grows answers what its beginnings ask.
+asks_while_it_grows() {
+    local events
+    for events in 1 2 30 59 61; do
+        head -n "$events" examples/phylogeny/events >"$work/begun"
+        "$program" ingest examples/phylogeny/spec "$work/begun" >"$work/begun_labels" || return 1
+        run trace examples/phylogeny/spec examples/phylogeny/view "$work/begun" examples/phylogeny/queries || return 1
+        cp "$work/out" "$work/traced"
+        run ask examples/phylogeny/spec examples/phylogeny/view "$work/begun_labels" examples/phylogeny/queries
+        ended 0 "$work/traced" "$nothing" || return 1
+    done
+}
+check "a run is answered alike by its events and its labels while it grows" asks_while_it_grows
+
+# The first bytes of the label file of the line.
+labels_cut() {
+    head -c "$1" $line/labels >"$work/cut_labels"
+    echo "$work/cut_labels"
+}
+refuses_labels() {
+    says 2 "refused: labels: $1\n" ask "$2" $line/view "$3" $line/queries
+}
+check "a file that is shorter than a head is no label file" refuses_labels NotLabels $line/spec "$(labels_cut 35)"
+check "an entry that is cut is told" refuses_labels Damaged $line/spec "$(labels_cut 57)"
+check "labels of another grammar are told" refuses_labels OtherSpec examples/phylogeny/spec $line/labels
+check "absent labels are a fault of reading" says 3 'fault: reading labels\n' ask $line/spec $line/view "$work/absent" $line/queries
+check "labels are tried before queries are read" refuses_labels NotLabels $line/spec "$nothing"
+
+asked_then_refused() {
+    run ask $line/spec $line/view $line/labels "$(text some 'r.a r.b\n\nr.a\nr.b r.a\n')" &&
+        ended 2 "$(text expected_out 'yes\n')" "$(text expected 'refused: queries line 3: LineWrong\n')"
+}
+check "a line that asks nothing is told by its number behind the answers before it" asked_then_refused
+
+long_query() {
+    (printf 'r.a r.b\n'; head -c 65537 /dev/zero | tr '\0' 'a'; echo) >"$work/long_query"
+    run ask $line/spec $line/view $line/labels "$work/long_query" &&
+        ended 2 "$(text expected_out 'yes\n')" "$(text expected 'refused: queries line 2: LineTooLong\n')"
+}
+check "a line of queries that is too long is told" long_query
+
+# A label file of the phylogeny, made by hand: its two inputs, and what is made after the greatest number of repetitions.
+asks_far() {
+    (head -c 36 examples/phylogeny/labels; printf '\x08run.seqs\x00\x01\x20\x07run.cfg\x00\x01\x10\x06far.m2\x00\x08\xe8\x00\x00\x02\x00\x00\x00\xc0') >"$work/far"
+    for _ in {1..5000}; do printf 'run.seqs far.m2\nrun.cfg far.m2\n'; done >"$work/far_queries"
+    for _ in {1..5000}; do printf 'yes\nno\n'; done >"$work/far_answers"
+    run ask examples/phylogeny/spec examples/phylogeny/view "$work/far" "$work/far_queries" && ended 0 "$work/far_answers" "$nothing"
+}
+check "ten thousand questions on the longest chain are answered, though no run is so long" asks_far
 
 full_verdict() {
     [ -w /dev/full ] || return 0

@@ -1,0 +1,4 @@
+pub mod EntryFronts
+pub mod HeadReadings
+pub mod NamedEntries
+pub mod ReadSoFar

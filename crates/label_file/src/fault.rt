@@ -1,4 +1,7 @@
 // Why bytes are refused as a label file.
+ghost use Rattle.std.specs.Prelude.{◌≡◌};
+ghost use Rattle.label_file.specs.declared.fault.StoreFault.TheVariants.{NoMemory};
+
 use std::alloc::AllocError;
 use thiserror::Error;
 
@@ -29,6 +32,8 @@ pub enum StoreFault {
 }
 
 impl From<AllocError> for StoreFault {
+    ghost from_gives = { λ _ e. e ≡ NoMemory };
+
     fn from(_fault: AllocError) -> StoreFault {
         StoreFault::NoMemory
     }

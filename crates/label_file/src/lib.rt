@@ -3,11 +3,15 @@
 
 mod append;
 mod fault;
+mod front;
+mod head;
 mod store;
 
 pub use append::{append_entry, append_head};
 pub use fault::StoreFault;
 pub use store::Store;
 
+#[cfg(test)]
+mod store_tests;
 #[cfg(test)]
 mod tests;

@@ -1,17 +1,44 @@
 // The entries of a label file, found by name.
-ghost use Rattle.std.specs.Prelude.{◌≡◌, ◌<◌, ◌≤◌, ◌^◌, length, get_or, IfOk, IfErr, IfSome, IfNone};
+ghost use Rattle.std.specs.Prelude.{◌≡◌, ◌↔◌, ◌<◌, ◌≤◌, ◌+◌, ◌^◌, ◌∷◌, ◌++◌, [], length, get_or, IsTrue, OnOk, OnErr, IfOk, IfErr, IfSome, IfNone};
 ghost use Rattle.wf_model.specs.Lists.{IsIn};
 ghost use Rattle.wf_model.specs.Linear.{IsLinear};
 ghost use Rattle.wf_recur.specs.Cycles.{AreCyclesOf};
 ghost use Rattle.label_file.specs.Stored.{IsStoreFault, IsStoreOf, names_held, no_entry};
+ghost use Rattle.label_file.specs.Adding.{held, IsAdded, IsRefused};
 
 use crate::fault::StoreFault;
+use crate::front::{Front, count_entries, cut_front};
+use crate::head::behind_head;
 use indexmap::IndexMap;
-use std::alloc::Global;
+use name_text::split_item;
+use std::alloc::{AllocError, Global};
 use std::marker::Model;
 use wf_label::LabelRef;
 use wf_recur::Cycles;
 use wf_spec::Grammar;
+
+/// Whether an entry has this name.
+fn holds(entries: &IndexMap<&[u8], LabelRef>, name: &[u8]) -> bool
+    ensures { IsTrue result ↔ IsIn name.now (names_held (held entries.now.entries)) }
+{
+    entries.contains_key(name)
+}
+
+/// Adds an entry with a new name behind the others. The only error is that memory is refused, and then nothing is added.
+fn put<'a>(
+    entries: &mut IndexMap<&'a [u8], LabelRef<'a>>,
+    name: &'a [u8],
+    label: LabelRef<'a>,
+) -> Result<(), AllocError>
+    requires new_name { IsIn name.now (names_held (held entries.old.entries)) → ⊥ }
+    ensures added { OnOk result (held entries.new.entries ≡ held entries.old.entries ++ record { name = name.now; bits = label.entry } ∷ []) }
+    ensures err { OnErr result (entries.new.entries ≡ entries.old.entries) }
+{
+    match entries.insert(name, label) {
+        Ok(_) => Ok(()),
+        Err(_) => Err(AllocError),
+    }
+}
 
 /// The entries of a label file, in the order of the file, found by name. It keeps no copy of a name or of a label: all are parts of the bytes of the file.
 #[derive(Drop)]
@@ -49,7 +76,49 @@ impl<'a> Store<'a> {
         ensures store { IfOk result (λ s. IsStoreOf g.now.core digest.now bytes.now s) }
         ensures fault { IfErr result (λ f. IsStoreFault g.now.core digest.now bytes.now f) }
     {
-        Err(StoreFault::NoMemory)
+        let mut rest = behind_head(digest, bytes)?;
+        let mut store = Store {
+            entries: IndexMap::with_capacity(alloc, count_entries(rest))?,
+        };
+        while !rest.is_empty() {
+            let Some(Front { name, label, rest: behind }) = cut_front(rest) else {
+                return Err(StoreFault::Truncated {
+                    offset: (bytes.len() - rest.len()) as u64,
+                });
+            };
+            store.add(g, cycles, name, label)?;
+            rest = behind;
+        }
+        Ok(store)
+    }
+
+    /// Adds an entry behind the others, if its name is that of an item, no entry before has the name, and its label is one of the grammar. This is tried in this order, and after an error nothing is added.
+    fn add(
+        &mut self,
+        g: &Grammar,
+        cycles: &Cycles,
+        name: &'a [u8],
+        label: &'a [u8],
+    ) -> Result<(), StoreFault>
+        requires linear { IsLinear g.now.core }
+        requires cycles { AreCyclesOf g.now.core cycles.now }
+        requires room { length self.old + 1 < 2 ^ 32 }
+        ensures added { OnOk result (IsAdded g.now.core self.old (record { name = name.now; label = label.now }) self.new) }
+        ensures refused { IfErr result (λ f. IsRefused g.now.core self.old (record { name = name.now; label = label.now }) f) }
+        ensures err { OnErr result (self.new ≡ self.old) }
+    {
+        let entry = self.length();
+        if split_item(name).is_none() {
+            return Err(StoreFault::BadName { entry });
+        }
+        if holds(&self.entries, name) {
+            return Err(StoreFault::NameTwice { entry });
+        }
+        let Ok(label) = LabelRef::check(g, cycles, label) else {
+            return Err(StoreFault::BadLabel { entry });
+        };
+        put(&mut self.entries, name, label)?;
+        Ok(())
     }
 
     /// The label of the entry of this name; None where no entry has it.

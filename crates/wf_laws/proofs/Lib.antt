@@ -27,3 +27,5 @@ pub mod Alike
 pub mod Agreeing
 pub mod Ranked
 pub mod SkewedGrammar
+pub mod PathTests
+pub mod Full

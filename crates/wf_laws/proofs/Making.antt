@@ -15,10 +15,10 @@ use Rattle.wf_laws.proofs.Parts.{opened_run}
 use Rattle.wf_laws.proofs.Growth.{fresh, length-fresh, fresh_long, fresh_differ, fresh_good, IsDone, Settles, settle, settle_list, joined, ends_bound}
 
 -- the name of the root of the expansions that are made here
-abbrev first_name : List ℕ
+abbrev pub first_name : List ℕ
 first_name = 97 ∷ []
 
-first_is_name : IsName first_name
+pub first_is_name : IsName first_name
 first_is_name = (omega arith, λ b h. inl (⊎_elim (λ e. (omega arith, omega arith)) (λ e. absurd e) h))
 
 module _ (g : Grammar) (u : View) (Chosen : ℕ → ℕ → Type 0) where

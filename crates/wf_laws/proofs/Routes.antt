@@ -112,10 +112,10 @@ kids_made g m b (Expand i p new ∷ a) n x h e c k = go (λ q. kids_made g m (b 
         in_append_left c (named new (body_of g p)) (made g m a) (subst (λ (z : Expanded). IsIn c (named z.names (body_of g z.production))) s k)
 
 -- new names for an instance that is not expanded
-fresh_for : Grammar → ℕ → List Event → ℕ → List (List ℕ)
+pub fresh_for : Grammar → ℕ → List Event → ℕ → List (List ℕ)
 fresh_for g m events p = fresh (suc (longest (names_of (made g m events)))) (length (body_of g p))
 
-can_fresh : (g : Grammar) (m : ℕ) (events : List Event) (i : Instance) (p : ℕ) → p < length g.productions → head_of g p ≡ i.module_no → IsIn i (made g m events) → expanded_by events i.name ≡ None → CanExpand g m events i.name p (fresh_for g m events p)
+pub can_fresh : (g : Grammar) (m : ℕ) (events : List Event) (i : Instance) (p : ℕ) → p < length g.productions → head_of g p ≡ i.module_no → IsIn i (made g m events) → expanded_by events i.name ≡ None → CanExpand g m events i.name p (fresh_for g m events p)
 unfolding fresh_for
 can_fresh g m events i p hp hd here none = record {
   in_range = hp;

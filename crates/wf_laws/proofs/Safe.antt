@@ -118,7 +118,7 @@ module _ (g : Grammar) (u : View) (leaf d : Assignment) (r : List ℕ) (p : ℕ)
   )
 
 -- the links of pairs alone: a path from an input to an output is one pair
-pairs_join : (g : Grammar) (s : Assignment) (m : ℕ) (r : List ℕ) (i o : ℕ) → i < inputs_of g m → o < outputs_of g m → IsTrue (s m i o) ↔ Path (pair_links g s m r ++ []) (input r i) (output r o)
+pub pairs_join : (g : Grammar) (s : Assignment) (m : ℕ) (r : List ℕ) (i o : ℕ) → i < inputs_of g m → o < outputs_of g m → IsTrue (s m i o) ↔ Path (pair_links g s m r ++ []) (input r i) (output r o)
 pairs_join g s m r i o hi ho = (
   (λ t. walk_one (in_append_left _ (pair_links g s m r) [] (pair_links_in g s m r i o hi ho t))),
   (λ w. first w refl refl),

@@ -17,5 +17,6 @@ pub use runs::{
     no_other_finishing_law, open_law, order_law, rename_law, sub_run_law, taking_law,
 };
 pub use views::{
-    chosen_law, default_view_law, ends_law, one_test_suffices, safety_law, settled_law,
+    chosen_law, default_view_law, ends_law, full_law, one_test_suffices, safe_full_law, safety_law,
+    settled_law,
 };

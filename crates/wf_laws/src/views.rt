@@ -1,8 +1,8 @@
-// Laws of views: the default one, and safe ones.
+// Laws of views: the default one, safe ones, and the pairs that all expansions join.
 ghost use Rattle.wf_laws.specs.Chosen.{ChosenLaw};
 ghost use Rattle.wf_laws.specs.Ranked.{EndsLaw};
 ghost use Rattle.wf_laws.specs.Settled.{SettledLaw};
-ghost use Rattle.wf_laws.specs.Views.{DefaultViewLaw};
+ghost use Rattle.wf_laws.specs.Views.{DefaultViewLaw, FullLaw, SafeFullLaw};
 ghost use Rattle.wf_model.specs.Safe.{OneTestSuffices, SafetyLaw};
 
 /// The default view expands every composite module and no other, and an atomic module keeps the pairs of the grammar.
@@ -46,4 +46,16 @@ pub fn settled_law()
 /// Source of the idea: Bao, Davidson, Milo, "Labeling Workflow Views with Fine-Grained Dependencies", VLDB 2012 (safe views).
 pub fn safety_law()
     ensures { SafetyLaw }
+{}
+
+/// Where composite modules have ranks, an assignment has exactly the pairs that all expansions join if and only if it is what every production induces.
+///
+/// Each production begins an expansion that goes on to an end. So the test of one production is what expansions that begin with it join.
+pub fn full_law()
+    ensures { FullLaw }
+{}
+
+/// A safe view has a full assignment: one expansion of each module tells the pairs that all join.
+pub fn safe_full_law()
+    ensures { SafeFullLaw }
 {}

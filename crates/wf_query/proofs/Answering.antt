@@ -1,7 +1,6 @@
 -- Answers line by line: how what is put of the lines that are left makes that of all.
-use Rattle.std.proofs.Common.{◌≡◌, ℕ, true, false, List, [], ◌∷◌, ◌++◌, take, Option, Some, None, refl, sym, ap, ◌∙◌, subst, inl, inr, true≢false}
+use Rattle.std.proofs.Common.{◌≡◌, ℕ, Bool, true, false, List, [], ◌∷◌, ◌++◌, take, Option, Some, None, refl, sym, ap, ◌∙◌, subst, inl, inr, true≢false}
 use Rattle.std.specs.Prelude.{codes}
-use Rattle.std.proofs.Math.Option.{some-injective}
 use Rattle.wf_io.specs.Told.{Appended}
 use Rattle.wf_io.specs.Lines.{Line, is_too_long, text_of}
 use Rattle.wf_io.proofs.Appending.{appended_none, begun_none, appended_twice, begun_longer, begun_after}
@@ -10,6 +9,22 @@ use Rattle.wf_query.specs.Lines.{Ended, All, WrongAt, TooLongAt, IsOneWord, IsAs
 use Rattle.wf_query.specs.declared.batching.BatchFault.{BatchFault}
 use Rattle.wf_query.specs.declared.batching.BatchFault.TheVariants.{LineWrong, LineTooLong, WriteFault, NoMemory}
 use Rattle.wf_query.proofs.Queries.{query_law}
+
+-- the ending that an option holds
+ended_or_all : Option Ended → Ended
+ended_or_all None = All
+ended_or_all (Some x) = x
+
+some_one : {x y : Ended} → Some x ≡ Some y → x ≡ y
+unfolding ended_or_all
+some_one q = ap ended_or_all q
+
+none_some : {x : Ended} → None ≡ Some x → ⊥
+none_some q = true≢false (ap is_none q)
+  where
+    is_none : Option Ended → Bool
+    is_none None = true
+    is_none (Some x) = false
 
 module _ (Answers : List ℕ → List ℕ → List ℕ → Type 0) (one : IsOneWord Answers) where
   -- of a text one line is written
@@ -46,17 +61,14 @@ module _ (Answers : List ℕ → List ℕ → List ℕ → Type 0) (one : IsOneW
       whole = λ x q. absurd (none_some q);
       begun = λ x t h. let s = split x t h in let k = begun_longer p.0 written s.0 a b p.1 in (k.0, subst (λ y. Appended (take k.0 y) a b) (sym s.1) k.1);
     }
-      where
-        none_some : {x : Ended} → None ≡ Some x → ⊥
-        none_some q = absurd q
 
   -- the first line ends the lines
   line_ends : (l : Line) (ls : List Line) (f : BatchFault) (old new : Option (List ℕ)) → is_too_long l.raw ≡ false → EndsAt Answers l.number (text_of l.raw) f old new → ArePut Answers (l ∷ ls) (ended_at f) old new
   line_ends l ls (LineWrong n) old new short h =
-      nothing_put (l ∷ ls) (Some (WrongAt n)) old new h.2 (λ x q. inl (inr (short, h.1, sym (some-injective _ _ q) ∙ ap WrongAt h.0), refl))
+      nothing_put (l ∷ ls) (Some (WrongAt n)) old new h.2 (λ x q. inl (inr (short, h.1, sym (some_one q) ∙ ap WrongAt h.0), refl))
   line_ends l ls (LineTooLong n) old new short h = absurd h
   line_ends l ls WriteFault old new short h = answered_part l ls h.0 (short, h.1) old new h.2
-  line_ends l ls NoMemory old new short h = nothing_put (l ∷ ls) None old new h (λ x q. absurd q)
+  line_ends l ls NoMemory old new short h = nothing_put (l ∷ ls) None old new h (λ x q. absurd (none_some q))
 
 -- what is put of the lines that are left makes what is put of all
 abbrev pub Leads : (List ℕ → List ℕ → List ℕ → Type 0) → List Line → Option (List ℕ) → List Line → Option (List ℕ) → Type 0
@@ -65,12 +77,12 @@ Leads Answers all old left now = (e : Option Ended) (new : Option (List ℕ)) �
 module _ (Answers : List ℕ → List ℕ → List ℕ → Type 0) (one : IsOneWord Answers) (all : List Line) (old : Option (List ℕ)) where
   -- the lines are at their end
   pub done_leads : (left : List Line) (now : Option (List ℕ)) → Leads Answers all old left now → left ≡ [] → ArePut Answers all (Some All) old now
-  done_leads left now leads none = leads (Some All) now (subst (λ ls. ArePut Answers ls (Some All) now now) (sym none) (nothing_put Answers one [] (Some All) now now refl (λ x q. (sym (some-injective _ _ q), refl))))
+  done_leads left now leads none = leads (Some All) now (subst (λ ls. ArePut Answers ls (Some All) now now) (sym none) (nothing_put Answers one [] (Some All) now now refl (λ x q. (sym (some_one q), refl))))
 
   -- the next line is too long
   pub long_leads : (left rest : List Line) (l : Line) (now : Option (List ℕ)) → Leads Answers all old left now → left ≡ l ∷ rest → is_too_long l.raw ≡ true → (n : ℕ) → n ≡ l.number → ArePut Answers all (ended_at (LineTooLong n)) old now
   long_leads left rest l now leads next long n number = leads (Some (TooLongAt n)) now (subst (λ ls. ArePut Answers ls (Some (TooLongAt n)) now now) (sym next)
-      (nothing_put Answers one (l ∷ rest) (Some (TooLongAt n)) now now refl (λ x q. inl (inl (long, sym (some-injective _ _ q) ∙ ap TooLongAt number), refl))))
+      (nothing_put Answers one (l ∷ rest) (Some (TooLongAt n)) now now refl (λ x q. inl (inl (long, sym (some_one q) ∙ ap TooLongAt number), refl))))
 
   module _ (left rest : List Line) (l : Line) (text : List ℕ) (now : Option (List ℕ)) (leads : Leads Answers all old left now) (next : left ≡ l ∷ rest) (short : is_too_long l.raw ≡ false) (same : text ≡ text_of l.raw) where
     -- the next line ends the lines
@@ -82,3 +94,7 @@ module _ (Answers : List ℕ → List ℕ → List ℕ → Type 0) (one : IsOneW
     pub more_leads : (written : List ℕ) (new : Option (List ℕ)) → IsAsked Answers text written → Appended written now new → Leads Answers all old rest new
     more_leads written new asked put e last rest_put = leads e last (subst (λ ls. ArePut Answers ls e now last) (sym next)
         (answered_more Answers one l rest written (short, subst (λ t. IsAsked Answers t written) same asked) e now new last put rest_put))
+
+-- a query and what is written of it
+pub asked_of : (Answers : List ℕ → List ℕ → List ℕ → Type 0) (text first second word written : List ℕ) → IsQuery text first second → Answers first second word → written ≡ word ++ codes "\n" → IsAsked Answers text written
+asked_of Answers text first second word written q a l = record { first = first; second = second; query = q; answer = word; is = a; line = l }

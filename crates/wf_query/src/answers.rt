@@ -31,4 +31,3 @@ pub(crate) fn told(verdict: Verdict) -> Answer
         Verdict::No => Answer::No,
     }
 }
-

@@ -1,15 +1,15 @@
 //! Query lines, and their answers from the entries of a label file.
 #![tactic(auto)]
 
-mod answering;
 mod answers;
 mod batching;
+mod deciding;
 mod law;
 mod query;
 
-pub use answering::answer;
 pub use answers::Answer;
 pub use batching::{BatchFault, batch};
+pub use deciding::answer;
 pub use law::query_law;
 pub use query::{LineWrong, Query, read_query};
 

@@ -1,0 +1,109 @@
+-- Entries of a label file that were read so far.
+use Rattle.std.proofs.Common.{◌≡◌, ◌≢◌, ℕ, ◌+◌, ◌*◌, ◌≤◌, List, [], ◌∷◌, ◌++◌, length, refl, sym, ap, ◌∙◌, subst, arith, append_assoc, length-append}
+use Rattle.std.proofs.lemmas.List.{nil_from_length}
+use Rattle.wf_model.specs.Lists.{IsIn}
+use Rattle.wf_model.specs.Grammar.{Grammar}
+use Rattle.bit_pack.specs.Bits.{Holds}
+use Rattle.label_model.specs.Reading.{IsLabelBytes}
+use Rattle.label_model.specs.Files.{Entry, entry_bytes, names_of_entries, head_bytes, Answer, Accepted, Truncated, BadName, NameTwice, BadLabel, IsFront, ReadsFrom, at_end, cut, bad_name, name_twice, bad_label, whole, Opens, head}
+use Rattle.label_model.proofs.FileReadings.{length-entry, length-head}
+use Rattle.label_file.specs.Stored.{EntryHeld, IsHeldOf, AreHeldOf, IsStoreFault, IsStoreOf, names_held}
+use Rattle.label_file.specs.Adding.{IsAdded, IsRefused}
+use Rattle.label_file.specs.declared.fault.StoreFault.{StoreFault}
+use Rattle.label_file.specs.declared.fault.StoreFault.TheVariants.{NotLabels as IsNoLabels, OtherSpec as IsOfOther, Truncated as IsTruncated, BadName as HasBadName, NameTwice as HasNameTwice, BadLabel as HasBadLabel, NoMemory as HasNoMemory}
+
+-- Entries were read, and are held. However the rest is read behind them, so are all the bytes
+pub record AreReadSoFar (g : Grammar) (digest bytes rest : List ℕ) (hs : List EntryHeld) : Type 0 where
+  pub before : List Entry
+  pub held : AreHeldOf g before hs
+  pub offset : ℕ
+  pub place : offset + length rest ≡ length bytes
+  pub few : 3 * length hs ≤ offset
+  pub goes_on : (a : Answer) → ReadsFrom g offset before rest a → Opens g digest bytes a
+
+-- what is held has the names of the entries
+pub names_same : (g : Grammar) (es : List Entry) (hs : List EntryHeld) → AreHeldOf g es hs → names_held hs ≡ names_of_entries es
+names_same g [] [] h = refl
+names_same g [] (k ∷ hs) h = absurd h
+names_same g (e ∷ es) [] h = absurd h
+names_same g (e ∷ es) (k ∷ hs) h = ap (λ n. n ∷ names_held hs) h.0.name ∙ ap (λ ns. e.name ∷ ns) (names_same g es hs h.1)
+
+-- as many are held
+pub as_many : (g : Grammar) (es : List Entry) (hs : List EntryHeld) → AreHeldOf g es hs → length hs ≡ length es
+as_many g [] [] h = refl
+as_many g [] (k ∷ hs) h = absurd h
+as_many g (e ∷ es) [] h = absurd h
+as_many g (e ∷ es) (k ∷ hs) h = let n = as_many g es hs h.1 in omega arith
+
+-- one more is held
+pub held_behind : (g : Grammar) (es : List Entry) (hs : List EntryHeld) (e : Entry) (k : EntryHeld) → AreHeldOf g es hs → IsHeldOf g e k → AreHeldOf g (es ++ e ∷ []) (hs ++ k ∷ [])
+held_behind g [] [] e k h one = (one, tt)
+held_behind g [] (j ∷ hs) e k h one = absurd h
+held_behind g (d ∷ es) [] e k h one = absurd h
+held_behind g (d ∷ es) (j ∷ hs) e k h one = (h.0, held_behind g es hs e k h.1 one)
+
+-- none was read where the head ends
+pub none_read : (g : Grammar) (digest bytes rest : List ℕ) → length digest ≡ 32 → bytes ≡ head_bytes digest ++ rest → AreReadSoFar g digest bytes rest []
+none_read g digest bytes rest l q = record {
+  before = [];
+  held = tt;
+  offset = 36;
+  place = (let n = ap length q in let m = length-append (head_bytes digest) rest in omega (arith, n, m, length-head digest l));
+  few = omega arith;
+  goes_on = λ a r. head rest l q r;
+}
+
+module _ (g : Grammar) (digest bytes rest : List ℕ) (hs : List EntryHeld) (read : AreReadSoFar g digest bytes rest hs) where
+  -- a number that is told of what is held is that of the entry that follows
+  same_number : (entry : ℕ) → entry ≡ length hs → length read.before ≡ entry
+  same_number entry q = sym (q ∙ as_many g read.before hs read.held)
+
+  -- a name is that of an entry before exactly if it is held
+  is_before : (name : List ℕ) → IsIn name (names_held hs) → IsIn name (names_of_entries read.before)
+  is_before name i = subst (IsIn name) (names_same g read.before hs read.held) i
+
+  is_held : (name : List ℕ) → IsIn name (names_of_entries read.before) → IsIn name (names_held hs)
+  is_held name i = subst (IsIn name) (sym (names_same g read.before hs read.held)) i
+
+  -- one more entry was read
+  pub one_more : (e : Entry) (behind : List ℕ) (new : List EntryHeld) → IsFront e rest behind → IsAdded g hs e new → AreReadSoFar g digest bytes behind new
+  one_more e behind new front added =
+      let one : IsHeldOf g e (record { name = e.name; bits = added.bits }) = record { name = refl; label = added.label; bytes = added.bytes } in
+      let label : IsLabelBytes g e.label = (added.label.0, added.label.1, subst (Holds e.label) added.label.2 added.bytes) in
+      let n = ap length front.is in
+      let m = length-append (entry_bytes e) behind in
+      let l = length-append hs (record { name = e.name; bits = added.bits } ∷ []) in
+      let k = ap length added.is in
+      record {
+        before = read.before ++ e ∷ [];
+        held = subst (λ z. AreHeldOf g (read.before ++ e ∷ []) z) (sym added.is) (held_behind g read.before hs e _ read.held one);
+        offset = read.offset + length (entry_bytes e);
+        place = omega (arith, n, m, read.place);
+        few = omega (arith, k, l, length-entry e, read.few);
+        goes_on = λ a r. read.goes_on a (whole e front added.named (λ i. added.first (is_held e.name i)) label r);
+      }
+
+  -- nothing is left
+  pub all_read : length rest ≡ 0 → IsStoreOf g digest bytes hs
+  all_read n = record {
+    entries = read.before;
+    read = read.goes_on (Accepted read.before) (subst (λ z. ReadsFrom g read.offset read.before z (Accepted read.before)) (sym (nil_from_length rest n)) at_end);
+    held = read.held;
+  }
+
+  -- no whole entry is left
+  pub none_whole : length rest ≢ 0 → ((e : Entry) (behind : List ℕ) → IsFront e rest behind → ⊥) → (offset : ℕ) → offset + length rest ≡ length bytes → Opens g digest bytes (Truncated offset)
+  none_whole some none offset q =
+      let same : read.offset ≡ offset = omega (arith, read.place, q) in
+      subst (λ z. Opens g digest bytes (Truncated z)) same (read.goes_on (Truncated read.offset) (cut (λ q. some (ap length q)) none))
+
+  -- the entry that follows is refused
+  pub refused : (e : Entry) (behind : List ℕ) (f : StoreFault) → IsFront e rest behind → IsRefused g hs e f → IsStoreFault g digest bytes f
+  refused e behind IsNoLabels front h = absurd h
+  refused e behind IsOfOther front h = absurd h
+  refused e behind (IsTruncated offset) front h = absurd h
+  refused e behind (HasBadName entry) front h = subst (λ n. Opens g digest bytes (BadName n)) (same_number entry h.0) (read.goes_on _ (bad_name e front h.1))
+  refused e behind (HasNameTwice entry) front h = subst (λ n. Opens g digest bytes (NameTwice n)) (same_number entry h.0) (read.goes_on _ (name_twice e front h.1 (is_before e.name h.2)))
+  refused e behind (HasBadLabel entry) front h =
+      subst (λ n. Opens g digest bytes (BadLabel n)) (same_number entry h.0) (read.goes_on _ (bad_label e front h.1 (λ i. h.2 (is_held e.name i)) h.3))
+  refused e behind HasNoMemory front h = tt
