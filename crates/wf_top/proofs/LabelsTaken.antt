@@ -1,5 +1,5 @@
 -- How LABELS ends the program, or is taken on.
-use Rattle.std.proofs.Common.{◌≡◌, ℕ, List, Option, None, refl, sym, subst}
+use Rattle.std.proofs.Common.{◌≡◌, ◌⊎◌, ℕ, List, Option, None, refl, sym, subst, inl, inr}
 use Rattle.sha2.specs.Sha256.{sha256}
 use Rattle.wf_model.specs.Lists.{AllDiffer}
 use Rattle.wf_model.specs.Grammar.{Grammar}
@@ -13,14 +13,14 @@ use Rattle.label_file.specs.declared.fault.StoreFault.TheVariants.{NotLabels as 
 use Rattle.wf_query.specs.Answers.{IsAnswerText}
 use Rattle.wf_query.proofs.Entries.{names_same, held_from}
 use Rattle.wf_top.specs.declared.ending.Place.TheVariants.{Labels}
-use Rattle.wf_top.specs.Endings.{End, Refused}
+use Rattle.wf_top.specs.Endings.{End, Refused, NoMemory}
 use Rattle.wf_top.specs.Refusals.{store_name}
 use Rattle.wf_top.specs.Telling.{OfWhole}
 use Rattle.wf_top.specs.LabelsTold.{OpensFor, TellsEntries, RefusesLabels}
 use Rattle.wf_top.specs.Outcome.{AnswersLabels, QueriesStage, long_most}
 use Rattle.wf_top.specs.Meets.{EndsBy}
 use Rattle.wf_top.specs.Stages.{IsTold, StopsAt, Declines}
-use Rattle.wf_top.proofs.Stages.{stop_ends, on_ends}
+use Rattle.wf_top.proofs.Stages.{stop_ends, on_ends, whole_declines}
 use Rattle.wf_top.proofs.OneLabels.{one_entries, no_refusal_of_labels, told_differ}
 
 module _ (g : Grammar) (u : ViewOf) (labels queries : File) (old new : Option (List ℕ)) (d : End) where
@@ -43,19 +43,19 @@ module _ (g : Grammar) (digest bytes : List ℕ) (same : digest ≡ sha256 (cano
   pub store_told : (hs : List EntryHeld) → IsStoreOf g digest bytes hs → (entries : List Entry) × TellsEntries g bytes entries × AreHeldOf g entries hs
   store_told hs s = (s.entries, opens_for (Accepted s.entries) s.read, s.held)
 
-  -- a fault of a store, but for want of memory, refuses the bytes
-  fault_refuses : (f : StoreFault) → IsStoreFault g digest bytes f → (f ≡ HasNoMemory → ⊥) → RefusesLabels g bytes (store_name f)
-  fault_refuses IsNoLabels h n = (NotLabels, opens_for NotLabels h, refl)
-  fault_refuses IsOfOther h n = (OtherSpec, opens_for OtherSpec h, refl)
-  fault_refuses (IsTruncated o) h n = (Truncated o, opens_for (Truncated o) h, refl)
-  fault_refuses (HasBadName e) h n = (BadName e, opens_for (BadName e) h, refl)
-  fault_refuses (HasNameTwice e) h n = (NameTwice e, opens_for (NameTwice e) h, refl)
-  fault_refuses (HasBadLabel e) h n = (BadLabel e, opens_for (BadLabel e) h, refl)
-  fault_refuses HasNoMemory h n = absurd (n refl)
+  -- a fault of a store is want of memory, or refuses the bytes
+  fault_refuses : (f : StoreFault) → IsStoreFault g digest bytes f → (f ≡ HasNoMemory) ⊎ RefusesLabels g bytes (store_name f)
+  fault_refuses IsNoLabels h = inr (NotLabels, opens_for NotLabels h, refl)
+  fault_refuses IsOfOther h = inr (OtherSpec, opens_for OtherSpec h, refl)
+  fault_refuses (IsTruncated o) h = inr (Truncated o, opens_for (Truncated o) h, refl)
+  fault_refuses (HasBadName e) h = inr (BadName e, opens_for (BadName e) h, refl)
+  fault_refuses (HasNameTwice e) h = inr (NameTwice e, opens_for (NameTwice e) h, refl)
+  fault_refuses (HasBadLabel e) h = inr (BadLabel e, opens_for (BadLabel e) h, refl)
+  fault_refuses HasNoMemory h = inl refl
 
-  -- so it declines them
-  pub store_declines : (f : StoreFault) (e : End) → IsStoreFault g digest bytes f → (f ≡ HasNoMemory → ⊥) → e ≡ Refused Labels None (store_name f) → Declines Labels (OfWhole (RefusesLabels g) bytes) e
-  store_declines f e h n is = subst (Declines Labels (OfWhole (RefusesLabels g) bytes)) (sym is) (refl, (refl, fault_refuses f h n))
+  -- so its ending declines them
+  pub store_declines : (f : StoreFault) (e : End) → IsStoreFault g digest bytes f → (f ≡ HasNoMemory → e ≡ NoMemory) → (e ≡ NoMemory) ⊎ (e ≡ Refused Labels None (store_name f)) → Declines Labels (OfWhole (RefusesLabels g) bytes) e
+  store_declines f e h memory told = whole_declines Labels (RefusesLabels g) bytes HasNoMemory f (store_name f) e (fault_refuses f h) memory told
 
 -- what holds the entries of a label file is a store of the grammar
 pub store_for : (g : Grammar) (bytes : List ℕ) (entries : List Entry) (hs : List EntryHeld) → TellsEntries g bytes entries → AreHeldOf g entries hs → IsStoreFor g hs

@@ -8,4 +8,4 @@ returns-in-Ok-open-clause-store c =
 
 pub returns-in-Err-clause-declines : goal.returns-in-Err-clause-declines
 returns-in-Err-clause-declines c =
-    store_declines c.args.v.now.grammar.core c.in-Ok.digest c.args.bytes.now c.in-Ok.ensures c.in-Err.fault (end_of c.refused_whole.result) c.in-Err.ensures.fault c.in-Err.not-NoMemory c.refused_whole.ensures
+    store_declines c.args.v.now.grammar.core c.in-Ok.digest c.args.bytes.now c.in-Ok.ensures c.in-Err.fault (end_of c.store_ending.result) c.in-Err.ensures.fault c.store_ending.ensures.memory c.store_ending.ensures.refused
