@@ -1,12 +1,14 @@
-use Rattle.std.proofs.Common.{ℕ, refl, sym, subst}
+use Rattle.std.proofs.Common.{◌≡◌, ℕ, List, Option, refl, sym, subst}
 use Rattle.std.specs.Prelude.{Result, Ok, Err}
 use Rattle.std.proofs.lemmas.Result.{err_from_is_err_and}
 use Rattle.wf_model.specs.Grammar.{Grammar}
+use Rattle.wf_model.specs.View.{View}
+use Rattle.label_model.specs.Files.{Entry}
 use Rattle.label_file.specs.Stored.{AreHeldOf, IsStoreFor}
-use Rattle.wf_io.specs.Lines.{lines_of}
+use Rattle.wf_io.specs.Lines.{Line, lines_of}
 use Rattle.wf_query.specs.declared.batching.BatchFault.{BatchFault}
 use Rattle.wf_query.specs.Answers.{IsAnswerText}
-use Rattle.wf_query.specs.Lines.{ArePut, ended_by}
+use Rattle.wf_query.specs.Lines.{Ended, ArePut, ended_by}
 use Rattle.wf_top.specs.Endings.{end_of}
 use Rattle.wf_top.proofs.Stages.{passed_on, wanting}
 use Rattle.wf_top.proofs.AnsweredLines.{queries_stop, queries_put, fault_stops, fault_caused}
@@ -29,6 +31,10 @@ returns-in_err-bytes-clause-ends g c = λ f entries told held.
 pub batch-requires-clause-store : goal.batch-requires-clause-store
 batch-requires-clause-store g c = subst (λ (x : Grammar). IsStoreFor x c.args.store.now) (sym c.in-Ok.ensures.grammar) c.requires.store
 
+-- so the answers that it tells are those of the grammar
+for_grammar : (g h : Grammar) (u : View) (entries : List Entry) (lines : List Line) (e : Option Ended) (old new : Option (List ℕ)) → g ≡ h → ArePut (IsAnswerText g u entries) lines e old new → ArePut (IsAnswerText h u entries) lines e old new
+for_grammar g h u entries lines e old new same = subst (λ (x : Grammar). ArePut (IsAnswerText x u entries) lines e old new) same
+
 pub returns-in-Ok-batch-clause-ends : goal.returns-in-Ok-batch-clause-ends
 returns-in-Ok-batch-clause-ends g c = λ f entries told held.
     let same = c.in-Ok.ensures.grammar in
@@ -36,23 +42,23 @@ returns-in-Ok-batch-clause-ends g c = λ f entries told held.
     let all : Result ℕ BatchFault = Ok 0 in
     let put = c.in-Ok-batch.ensures.put u entries c.in-Ok.ensures.label (subst (λ (x : Grammar). AreHeldOf x entries c.args.store.now) (sym same) held) in
     queries_put _ _ _ _ _ _ (c.in_ok-bytes.ensures.ok f told) c.deref.ensures.value all
-    (subst (λ (x : Grammar). ArePut (IsAnswerText x u entries) (lines_of c.deref.result.now) (ended_by all) _ _) same put) _ refl
+    (for_grammar _ _ u entries (lines_of c.deref.result.now) (ended_by all) _ _ same put) _ refl
 
-pub returns-in-Err-clause-ends : goal.returns-in-Err-clause-ends
-returns-in-Err-clause-ends g c = λ f entries told held.
+pub returns-clause-ends : goal.returns-clause-ends
+returns-clause-ends g c = λ f entries told held.
     let same = c.in-Ok.ensures.grammar in
     let u = c.args.v.now.view.core in
     let some : Result ℕ BatchFault = Err c.in-Err.fault in
     let put = c.in-Err.ensures.put u entries c.in-Ok.ensures.label (subst (λ (x : Grammar). AreHeldOf x entries c.args.store.now) (sym same) held) in
     queries_put _ _ _ _ _ _ (c.in_ok-bytes.ensures.ok f told) c.deref.ensures.value some
-    (subst (λ (x : Grammar). ArePut (IsAnswerText x u entries) (lines_of c.deref.result.now) (ended_by some) _ _) same put) (end_of c.ending_of.result) c.ending_of.ensures
+    (for_grammar _ _ u entries (lines_of c.deref.result.now) (ended_by some) _ _ same put) (end_of c.ending_of.result) c.ending_of.ensures
 
-pub returns-in-Err-clause-stop : goal.returns-in-Err-clause-stop
-returns-in-Err-clause-stop g c = fault_stops c.in-Err.fault (end_of c.ending_of.result) c.ending_of.ensures
+pub returns-clause-stop : goal.returns-clause-stop
+returns-clause-stop g c = fault_stops c.in-Err.fault (end_of c.ending_of.result) c.ending_of.ensures
 
-pub returns-in-Err-clause-cause : goal.returns-in-Err-clause-cause
-returns-in-Err-clause-cause g c =
+pub returns-clause-cause : goal.returns-clause-cause
+returns-clause-cause g c =
     fault_caused _ _ _ _ _ _ c.in-Err.fault (end_of c.ending_of.result) c.ending_of.ensures c.in_ok-bytes.ensures.count c.in-Err.ensures.cause
 
-pub returns-in-Err-clause-untouched : goal.returns-in-Err-clause-untouched
-returns-in-Err-clause-untouched g c = λ wants. absurd (fault_wants_none c.in-Err.fault (end_of c.ending_of.result) c.ending_of.ensures c.in-Err.ensures.memory wants)
+pub returns-clause-untouched : goal.returns-clause-untouched
+returns-clause-untouched g c = λ wants. absurd (fault_wants_none c.in-Err.fault (end_of c.ending_of.result) c.ending_of.ensures c.in-Err.ensures.memory wants)
