@@ -1,5 +1,5 @@
 -- Links between numbered instances.
-use Rattle.std.specs.Prelude.{◌≡◌, ℕ, ◌+◌, ◌<◌, ◌^◌, ◌%◌, ◌==◌, Bool, false, cond, not, is_some, ◌&&◌, List, [], ◌∷◌, ◌++◌, map, flat_map, get_or, length, Option, Some, None}
+use Rattle.std.specs.Prelude.{◌≡◌, ℕ, ◌+◌, ◌<◌, ◌^◌, ◌%◌, ◌==◌, Bool, false, cond, ◌&&◌, List, [], ◌∷◌, ◌++◌, map, flat_map, get_or, length, Option, Some, None}
 use Rattle.std.specs.Int.{bit_at}
 use Rattle.wf_model.specs.declared.numbers.Side.{Side}
 use Rattle.wf_model.specs.declared.numbers.Side.TheVariants.{Input, Output}
@@ -91,7 +91,3 @@ MarkOpen flags marks xs seen = (j : ℕ) → flag_of flags j ≡ some (λ c. c =
 -- the instance of a number, by its name and module
 abbrev pub inst_at : List Inst → ℕ → Instance
 inst_at xs k = instance_of (get_or xs k no_instance)
-
--- an instance is not expanded, but its module is marked
-abbrev pub waits : List Bool → Inst → Bool
-waits flags x = not (is_some x.production) && flag_of flags x.module.0

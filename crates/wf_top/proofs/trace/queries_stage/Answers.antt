@@ -16,12 +16,12 @@ pub returns-in-Ok-clause-ends : goal.returns-in-Ok-clause-ends
 returns-in-Ok-clause-ends g c = λ f told.
     queries_put _ (f c.args.name.now) _ _ _ _ (c.in_ok-bytes.ensures.ok f told) c.deref.ensures.value c.answer_lines.result c.answer_lines.ensures.put _ (ap end_by (sym c.in-Ok.is))
 
-pub returns-in-Err-clause-ends : goal.returns-in-Err-clause-ends
-returns-in-Err-clause-ends g c = λ f told.
+pub returns-clause-ends : goal.returns-clause-ends
+returns-clause-ends g c = λ f told.
     queries_put _ (f c.args.name.now) _ _ _ _ (c.in_ok-bytes.ensures.ok f told) c.deref.ensures.value c.answer_lines.result c.answer_lines.ensures.put _ (c.ending_of.ensures ∙ ap end_by (sym c.in-Err.is))
 
-pub returns-in-Err-clause-stop : goal.returns-in-Err-clause-stop
-returns-in-Err-clause-stop g c = fault_stops c.in-Err.fault _ c.ending_of.ensures
+pub returns-clause-stop : goal.returns-clause-stop
+returns-clause-stop g c = fault_stops c.in-Err.fault _ c.ending_of.ensures
 
-pub returns-in-Err-clause-cause : goal.returns-in-Err-clause-cause
-returns-in-Err-clause-cause g c = fault_caused _ _ _ _ _ _ c.in-Err.fault _ c.ending_of.ensures c.in_ok-bytes.ensures.count c.in-Err.ensures.cause
+pub returns-clause-cause : goal.returns-clause-cause
+returns-clause-cause g c = fault_caused _ _ _ _ _ _ c.in-Err.fault _ c.ending_of.ensures c.in_ok-bytes.ensures.count c.in-Err.ensures.cause
