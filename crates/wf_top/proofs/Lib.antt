@@ -43,3 +43,5 @@ pub mod LabelsTell
 pub mod TwoStages
 pub mod AnswersCarried
 pub mod AskIsTrace
+pub mod LabelsTaken
+pub mod AskUntouched

@@ -1,10 +1,10 @@
 -- Pieces of text that were put one after the other.
-use Rattle.std.proofs.Common.{◌≡◌, ℕ, ◌+◌, ◌<◌, Bool, List, ◌++◌, length, get_or, map, flat_map, take, drop, Option, sym, ap, ◌∙◌, subst, inl, inr}
+use Rattle.std.proofs.Common.{◌≡◌, ℕ, ◌+◌, ◌<◌, Bool, List, [], ◌++◌, length, get_or, map, flat_map, take, drop, Option, refl, sym, ap, ◌∙◌, subst, inl, inr, append_assoc, append-nil}
 use Rattle.std.specs.Prelude.{Result, Ok, Err, IsErrAnd, codes, decimal}
 use Rattle.std.proofs.lemmas.List.{drop_more}
 use Rattle.wf_model.specs.declared.numbers.ProdNo.{ProdNo}
 use Rattle.wf_io.specs.Told.{Rose, Appended}
-use Rattle.wf_io.proofs.Appending.{appended_twice, begun_longer, begun_after}
+use Rattle.wf_io.proofs.Appending.{appended_none, appended_twice, begun_longer, begun_after}
 use Rattle.wf_top.specs.Refusals.{numbers_text}
 use Rattle.wf_top.specs.Meets.{IsPut, Puts}
 

@@ -1,13 +1,14 @@
 // `ask`: SPEC, VIEW and LABELS, and then the answers from the labels alone.
-ghost use Rattle.std.specs.Prelude.{◌≡◌, ◌≤◌, ◌^◌, ℕ, List, Some, IfOk, IfErr, length};
+ghost use Rattle.std.specs.Prelude.{◌≡◌, ◌⊎◌, ◌≤◌, ◌^◌, ℕ, List, Some, None, IfOk, IfErr, length};
 ghost use Rattle.wf_io.specs.Told.{File};
 ghost use Rattle.wf_model.specs.Linear.{IsLinear};
 ghost use Rattle.label_model.specs.Files.{Entry};
 ghost use Rattle.label_file.specs.Stored.{AreHeldOf, IsStoreFor};
 ghost use Rattle.wf_recur.specs.Cycles.{AreCyclesOf};
 ghost use Rattle.wf_query.specs.Answers.{IsAnswerText};
-ghost use Rattle.wf_top.specs.declared.ending.Place.TheVariants.{Labels};
-ghost use Rattle.wf_top.specs.Endings.{end_of, end_after, NoMemory};
+ghost use Rattle.wf_top.specs.declared.ending.Place.TheVariants.{Labels as AtLabels};
+ghost use Rattle.wf_top.specs.Endings.{end_of, end_after, Refused, NoMemory};
+ghost use Rattle.wf_top.specs.Refusals.{store_name};
 ghost use Rattle.wf_top.specs.LabelsTold.{TellsEntries, RefusesLabels};
 ghost use Rattle.wf_top.specs.Telling.{OfWhole};
 ghost use Rattle.wf_top.specs.Outcome.{AnswersLabels, Asks, QueriesStage};
@@ -30,21 +31,31 @@ use wf_json::digest;
 use wf_query::batch;
 use wf_vlabel::ViewLabel;
 
+/// The ending at a fault of a label file.
+fn store_ending(fault: StoreFault) -> Ending
+    ensures memory { fault ≡ StoreFault.NoMemory → end_of result ≡ NoMemory }
+    ensures refused { (end_of result ≡ NoMemory) ⊎ (end_of result ≡ Refused AtLabels None (store_name fault)) }
+{
+    match fault {
+        StoreFault::NoMemory => Ending::NoMemory,
+        _ => refused_whole(Place::Labels, Refusal::Store { fault }),
+    }
+}
+
 /// The entries of a label file of the grammar.
 fn store_of<'b>(alloc: Global, v: &Viewed, bytes: &'b [u8]) -> Result<Store<'b>, Ending>
     requires linear { IsLinear v.now.grammar.core }
     requires cycles { AreCyclesOf v.now.grammar.core v.now.cycles }
     requires few { length bytes.now ≤ 2 ^ 30 }
     ensures store { IfOk result (λ s. (entries : List Entry) × TellsEntries v.now.grammar.core bytes.now entries × AreHeldOf v.now.grammar.core entries s) }
-    ensures declines { IfErr result (λ e. Declines Labels (OfWhole (RefusesLabels v.now.grammar.core) bytes.now) (end_of e)) }
+    ensures declines { IfErr result (λ e. Declines AtLabels (OfWhole (RefusesLabels v.now.grammar.core) bytes.now) (end_of e)) }
 {
     let Ok(digest) = digest(alloc, &v.grammar) else {
         return Err(Ending::NoMemory);
     };
     match Store::open(alloc, &v.grammar, &v.cycles, &digest, bytes) {
         Ok(store) => Ok(store),
-        Err(StoreFault::NoMemory) => Err(Ending::NoMemory),
-        Err(fault) => Err(refused_whole(Place::Labels, Refusal::Store { fault })),
+        Err(fault) => Err(store_ending(fault)),
     }
 }
 
