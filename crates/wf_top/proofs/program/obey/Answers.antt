@@ -32,7 +32,7 @@ pub returns-in-Ask-clause-ends : goal.returns-in-Ask-clause-ends
 returns-in-Ask-clause-ends g c = λ f told. does f _ _ _ _ _ (ap (λ x. Some (meant x)) c.in-Ask.is) (c.ask.ensures.ends f told)
 
 pub returns-in-Ask-clause-untouched : goal.returns-in-Ask-clause-untouched
-returns-in-Ask-clause-untouched g c = as_ask c.ask.result _ _ c.ask.ensures.untouched
+returns-in-Ask-clause-untouched g c = as_ask c.ask.result (Some (meant c.args.command.now)) _ c.ask.ensures.untouched
 
 pub returns-in-Decide-clause-ends : goal.returns-in-Decide-clause-ends
 returns-in-Decide-clause-ends g c = λ f told. does f _ _ _ _ _ (ap (λ x. Some (meant x)) c.in-Decide.is) (c.decide.ensures.ends f told)
