@@ -20,8 +20,6 @@ use Rattle.wf_flat.specs.Graph.{named_links}
 use Rattle.wf_flat.specs.Item.{named_item, IsItemWithin}
 use Rattle.wf_flat.specs.Flat.{FlatSeen, is_shown}
 use Rattle.wf_flat.proofs.Shown.{shown_visible}
-use Rattle.wf_query.specs.Line.{IsQuery}
-use Rattle.wf_query.specs.Lines.{IsAsked}
 use Rattle.wf_top.specs.Answers.{item_named, is_made_open, are_visible, IsVerdict, IsShown, IsAnswerFor, IsAnswer}
 use Rattle.wf_top.specs.Prepared.{IsPrepared, PathIn, IsPathLine, IsAnswerLine}
 use Rattle.wf_top.proofs.PendingItems.{pending_depends}
@@ -150,7 +148,3 @@ module _ (g : Grammar) (u : View) (t : Table) (flat : FlatSeen) (p : IsPrepared 
         answered word v =
             both_visible g u p.formed (events_of t) p.run.accepted.0 first second one other a_in refl b_in refl p.full p.induced
             (flag_tells g u t flat p first a a_within ∙ shown) (flag_tells g u t flat p second b b_within ∙ open_too) word v
-
--- a query and the line of its answer
-pub asked_of : (g : Grammar) (u : View) (e : List Event) (text first second written : List ℕ) → IsQuery text first second → IsAnswerLine g u e first second written → IsAsked (IsAnswer g u e) text written
-asked_of g u e text first second written q a = record { first = first; second = second; query = q; answer = a.answer; is = a.is; line = a.ends }
