@@ -1,5 +1,5 @@
 -- An entry at the front of bytes, part by part.
-use Rattle.std.proofs.Common.{◌≡◌, ◌≢◌, ℕ, ◌+◌, ◌*◌, ◌/◌, ◌%◌, ◌≤◌, ◌<◌, List, [], ◌∷◌, ◌++◌, length, take, drop, get_or, Option, Some, None, refl, sym, ap, ◌∙◌, arith, append_assoc}
+use Rattle.std.proofs.Common.{◌≡◌, ◌≢◌, ℕ, ◌+◌, ◌*◌, ◌/◌, ◌%◌, ◌≤◌, ◌<◌, List, [], ◌∷◌, ◌++◌, length, take, drop, get_or, Option, Some, None, sym, ap, ◌∙◌, arith, append_assoc}
 use Rattle.std.proofs.lemmas.List.{take-append-drop}
 use Rattle.std.specs.Borrow.{Bor}
 use Rattle.std.specs.List.{IsSplitAt}
@@ -26,6 +26,7 @@ label_whole (x ∷ y ∷ t) two behind label rest n long small a b is split =
     let parts : t ≡ label ++ rest = sym b ∙ (sym (take-append-drop n behind) ∙ (ap (λ z. z ++ drop n behind) (sym split.1) ∙ ap (λ z. label ++ z) (sym split.2))) in
     cc
 
+-- what was cut is the label that stands behind the two bytes
 pub label_first : (s two behind : List ℕ) (n : ℕ) (r : Option (Bor (List ℕ) × Bor (List ℕ))) → 2 ≤ length s → ((i : ℕ) → get_or s i 0 < 256) → two ≡ take 2 s → behind ≡ drop 2 s → n ≡ get_or two 0 0 * 256 + get_or two 1 0 →
     MatchOption r (length behind < n) (λ p. IsSplitAt behind n p.0.now p.1.now) → IfSome r (λ p. s ≡ length p.0.now / 256 ∷ (length p.0.now % 256 ∷ (p.0.now ++ p.1.now)))
 label_first s two behind n None long small a b is split = tt

@@ -12,10 +12,7 @@ const HEAD: usize = 36;
 /// The bytes behind the head, if the digest there is this one. The head is the same for each grammar.
 ///
 /// Takes no memory.
-pub(crate) fn behind_head<'a>(
-    digest: &[u8; 32],
-    bytes: &'a [u8],
-) -> Result<&'a [u8], StoreFault>
+pub(crate) fn behind_head<'a>(digest: &[u8; 32], bytes: &'a [u8]) -> Result<&'a [u8], StoreFault>
     ensures head { IfOk result (λ r. bytes.now ≡ head_bytes digest.now ++ r.now) }
     ensures fault { IfErr result (λ f. (g : Grammar) → IsStoreFault g digest.now bytes.now f) }
 {

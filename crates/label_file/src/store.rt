@@ -7,7 +7,7 @@ ghost use Rattle.label_file.specs.Stored.{IsStoreFault, IsStoreOf, names_held, n
 ghost use Rattle.label_file.specs.Adding.{held, IsAdded, IsRefused};
 
 use crate::fault::StoreFault;
-use crate::front::{Front, count_entries, cut_front};
+use crate::front::{count_entries, cut_front};
 use crate::head::behind_head;
 use indexmap::IndexMap;
 use name_text::split_item;
@@ -62,7 +62,7 @@ impl<'a> Store<'a> {
     ///
     /// Of each entry it is tried in this order whether it is whole, whether its name is that of an item, whether no entry before has the name, and whether its label is one of the grammar.
     ///
-    /// Cost: linear in the bytes; a name is found by hashing.
+    /// Cost: linear in the bytes; a name is found by hashing. Takes memory for the table alone, once, for as many entries as stand there whole.
     pub fn open(
         alloc: Global,
         g: &Grammar,
@@ -81,13 +81,13 @@ impl<'a> Store<'a> {
             entries: IndexMap::with_capacity(alloc, count_entries(rest))?,
         };
         while !rest.is_empty() {
-            let Some(Front { name, label, rest: behind }) = cut_front(rest) else {
+            let Some(front) = cut_front(rest) else {
                 return Err(StoreFault::Truncated {
                     offset: (bytes.len() - rest.len()) as u64,
                 });
             };
-            store.add(g, cycles, name, label)?;
-            rest = behind;
+            store.add(g, cycles, front.name, front.label)?;
+            rest = front.rest;
         }
         Ok(store)
     }

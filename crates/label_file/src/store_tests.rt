@@ -1,4 +1,6 @@
 // The label file of a run of the line grammar, whole, cut and changed: the root `r` with its input `a` and its output `b`, and the item `i1.y` of its one edge.
+ghost use Rattle.std.specs.Prelude.{◌≡◌, ◌^◌, ◌≤◌, length, IfOk};
+
 use super::*;
 use std::alloc::{AllocError, Global};
 use std::test::Fail;
@@ -81,7 +83,9 @@ fn line(alloc: Global) -> Result<Grammar, Fail> {
 }
 
 /// The bytes of the label file.
-fn file(alloc: Global) -> Result<Vec<u8>, AllocError> {
+fn file(alloc: Global) -> Result<Vec<u8>, AllocError>
+    ensures { IfOk result (λ v. length v.items ≡ 58) }
+{
     let mut bytes = Vec::from_slice(alloc, b"WFL1")?;
     bytes.extend_from_slice(&DIGEST)?;
     bytes.extend_from_slice(b"\x03r.a\x00\x01\x20")?;
@@ -90,67 +94,74 @@ fn file(alloc: Global) -> Result<Vec<u8>, AllocError> {
     Ok(bytes)
 }
 
-/// The fault of bytes; none where they are a label file.
-fn fault_of(alloc: Global, digest: &[u8; 32], bytes: &[u8]) -> Result<Option<StoreFault>, Fail> {
+/// The first bytes, as many as there are of so many.
+fn first(bytes: &[u8], end: usize) -> &[u8]
+    ensures { length result.now ≤ length bytes.now }
+{
+    bytes.get(..end).unwrap_or(bytes)
+}
+
+/// Whether the entry of this number has this name, by which it is found, and this label of one byte.
+fn is_entry(store: &Store, number: u32, name: &[u8], label: u8) -> bool {
+    if number >= store.length() {
+        return false;
+    }
+    let Some(found) = store.get(name) else {
+        return false;
+    };
+    let bytes = [label];
+    if store.name_at(number) != name {
+        return false;
+    }
+    store.label_at(number).bytes() == bytes.as_slice() && found.bytes() == bytes.as_slice()
+}
+
+/// Whether these are the entries that the label file has.
+fn are_entries(store: &Store) -> bool {
+    store.length() == 3
+        && is_entry(store, 0, b"r.a", 0x20)
+        && is_entry(store, 1, b"r.b", 0x60)
+        && is_entry(store, 2, b"i1.y", 0xb0)
+        && store.get(b"r.c").is_none()
+}
+
+/// How many entries a store of the bytes has, and whether they are those of the label file; or the fault of the bytes.
+fn opened(alloc: Global, bytes: &[u8]) -> Result<(u32, bool, Option<StoreFault>), Fail>
+    requires { length bytes.now ≤ 2 ^ 30 }
+{
     let g = line(alloc)?;
     let table = cycles(alloc, &g)?;
-    match Store::open(alloc, &g, &table, digest, bytes) {
-        Ok(_) => Ok(None),
-        Err(fault) => Ok(Some(fault)),
+    match Store::open(alloc, &g, &table, &DIGEST, bytes) {
+        Ok(store) => Ok((store.length(), are_entries(&store), None)),
+        Err(fault) => Ok((0, false, Some(fault))),
     }
 }
 
 #[test]
 fn entries_are_found_by_name_and_number(rt: HostRuntime) -> Result<(), Fail> {
-    let alloc = rt.alloc();
-    let g = line(alloc)?;
-    let table = cycles(alloc, &g)?;
-    let bytes = file(alloc)?;
-    let Ok(store) = Store::open(alloc, &g, &table, &DIGEST, &bytes) else {
-        return Err(Fail::new("a label file"));
-    };
-    assert_eq!(rt; store.length(), 3);
-    let entries: [(&[u8], u8); 3] = [(b"r.a", 0x20), (b"r.b", 0x60), (b"i1.y", 0xb0)];
-    let mut number = 0;
-    for (name, label) in entries {
-        assert_eq!(rt; store.name_at(number), name);
-        assert_eq!(rt; store.label_at(number).bytes(), [label].as_slice());
-        let Some(found) = store.get(name) else {
-            return Err(Fail::new("an entry"));
-        };
-        assert_eq!(rt; found.bytes(), [label].as_slice());
-        number += 1;
-    }
-    assert!(rt; store.get(b"r.c").is_none());
+    let bytes = file(rt.alloc())?;
+    assert_eq!(rt; opened(rt.alloc(), &bytes)?, (3, true, None));
     Ok(())
 }
 
 #[test]
-fn a_cut_file_is_refused_within_an_entry(rt: HostRuntime) -> Result<(), Fail> {
-    let alloc = rt.alloc();
-    let g = line(alloc)?;
-    let table = cycles(alloc, &g)?;
-    let bytes = file(alloc)?;
-    let Ok(store) = Store::open(alloc, &g, &table, &DIGEST, &bytes[..50]) else {
-        return Err(Fail::new("a label file"));
-    };
-    assert_eq!(rt; store.length(), 2);
-    for (end, fault) in [
-        (36, None),
-        (57, Some(StoreFault::Truncated { offset: 50 })),
-        (52, Some(StoreFault::Truncated { offset: 50 })),
-        (42, Some(StoreFault::Truncated { offset: 36 })),
-        (35, Some(StoreFault::NotLabels)),
-        (0, Some(StoreFault::NotLabels)),
+fn a_cut_file_is_read_up_to_a_whole_entry(rt: HostRuntime) -> Result<(), Fail> {
+    let bytes = file(rt.alloc())?;
+    for (end, entries, fault) in [
+        (50, 2, None),
+        (36, 0, None),
+        (57, 0, Some(StoreFault::Truncated { offset: 50 })),
+        (37, 0, Some(StoreFault::Truncated { offset: 36 })),
+        (35, 0, Some(StoreFault::NotLabels)),
     ] {
-        assert_eq!(rt; fault_of(alloc, &DIGEST, &bytes[..end])?, fault);
+        let found = opened(rt.alloc(), first(&bytes, end))?;
+        assert_eq!(rt; found, (entries, false, fault));
     }
     Ok(())
 }
 
 #[test]
 fn a_changed_file_is_refused(rt: HostRuntime) -> Result<(), Fail> {
-    let alloc = rt.alloc();
     for (at, byte, fault) in [
         (0, b'w', StoreFault::NotLabels),
         (20, 0xaa, StoreFault::OtherSpec),
@@ -158,9 +169,12 @@ fn a_changed_file_is_refused(rt: HostRuntime) -> Result<(), Fail> {
         (45, b'x', StoreFault::BadName { entry: 1 }),
         (57, 0xb1, StoreFault::BadLabel { entry: 2 }),
     ] {
-        let mut bytes = file(alloc)?;
-        bytes[at] = byte;
-        assert_eq!(rt; fault_of(alloc, &DIGEST, &bytes)?, Some(fault));
+        let mut bytes = file(rt.alloc())?;
+        if let Some(place) = bytes.get_mut(at) {
+            *place = byte;
+        }
+        let found = opened(rt.alloc(), &bytes)?;
+        assert_eq!(rt; found, (0, false, Some(fault)));
     }
     Ok(())
 }

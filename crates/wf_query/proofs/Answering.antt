@@ -4,8 +4,8 @@ use Rattle.std.specs.Prelude.{codes}
 use Rattle.wf_io.specs.Told.{Appended}
 use Rattle.wf_io.specs.Lines.{Line, is_too_long, text_of}
 use Rattle.wf_io.proofs.Appending.{appended_none, begun_none, appended_twice, begun_longer, begun_after}
-use Rattle.wf_query.specs.Line.{IsQuery, IsNoQuery}
-use Rattle.wf_query.specs.Lines.{Ended, All, WrongAt, TooLongAt, IsOneWord, IsAsked, IsAnswered, IsRefused, AreAnswered, ArePut, EndsAt, ended_at}
+use Rattle.wf_query.specs.Line.{IsQuery}
+use Rattle.wf_query.specs.Lines.{Ended, All, WrongAt, TooLongAt, IsOneWord, IsAsked, IsAnswered, AreAnswered, ArePut, EndsAt, ended_at}
 use Rattle.wf_query.specs.declared.batching.BatchFault.{BatchFault}
 use Rattle.wf_query.specs.declared.batching.BatchFault.TheVariants.{LineWrong, LineTooLong, WriteFault, NoMemory}
 use Rattle.wf_query.proofs.Queries.{query_law}

@@ -1,6 +1,6 @@
 -- Lines of queries are answered in one way.
-use Rattle.std.proofs.Common.{◌≡◌, ℕ, false, List, [], ◌∷◌, ◌++◌, sym, ap, ◌∙◌, inl, inr, true≢false}
-use Rattle.wf_io.specs.Lines.{Line, is_too_long, text_of}
+use Rattle.std.proofs.Common.{◌≡◌, ℕ, List, [], ◌∷◌, ◌++◌, sym, ap, ◌∙◌, inl, inr, true≢false}
+use Rattle.wf_io.specs.Lines.{Line, text_of}
 use Rattle.wf_query.specs.Lines.{Ended, IsOneWord, IsAnswered, IsRefused, AreAnswered}
 use Rattle.wf_query.proofs.Answering.{one_written}
 

@@ -1,31 +1,25 @@
 -- Answers to queries on a run under a view.
-use Rattle.std.proofs.Common.{◌≡◌, ◌⊎◌, ℕ, ◌<◌, Bool, true, false, cond, List, [], ◌∷◌, ◌++◌, map, length, Option, Some, None, option_map, bytes_eq, codes, refl, sym, ap, ◌∙◌, subst, inl, inr, ⊎_elim, true≢false}
-use Rattle.std.specs.Prelude.{◌↔◌, IsTrue, IfSome}
-use Rattle.std.proofs.lemmas.List.{length-map}
-use Rattle.wf_model.specs.Lists.{IsIn, AllDiffer}
+use Rattle.std.proofs.Common.{◌≡◌, ◌⊎◌, ℕ, Bool, true, false, cond, List, [], ◌∷◌, ◌++◌, length, Option, Some, None, bytes_eq, codes, refl, sym, ap, ◌∙◌, subst, inl, inr, ⊎_elim, true≢false}
+use Rattle.std.specs.Prelude.{◌↔◌, IsTrue}
+use Rattle.wf_model.specs.Lists.{IsIn}
 use Rattle.wf_model.specs.Grammar.{Grammar, Assignment}
 use Rattle.wf_model.specs.WellFormed.{IsWellFormed}
 use Rattle.wf_model.specs.View.{View}
 use Rattle.wf_model.specs.declared.event.Event.{Event}
 use Rattle.wf_model.specs.Safe.{IsInduced}
-use Rattle.wf_model.specs.Run.{names_of, IsRun}
-use Rattle.wf_model.specs.Links.{Port, Link, Path, links_with}
+use Rattle.wf_model.specs.Run.{IsRun}
+use Rattle.wf_model.specs.Links.{Link, links_with}
 use Rattle.wf_model.specs.Items.{Item, items, IsMadeOpen, IsVisible}
 use Rattle.wf_model.specs.Finishing.{IsFinishing}
 use Rattle.wf_model.proofs.Lists.{same_bytes, bytes_same}
-use Rattle.wf_model.proofs.Differ.{made_differ}
 use Rattle.wf_model.proofs.ItemNames.{item_of_name}
 use Rattle.wf_view.proofs.Flagged.{same_tests}
-use Rattle.wf_flat.specs.declared.table.Inst.{Inst}
-use Rattle.wf_flat.specs.declared.graph.Port.{Port as PortHeld}
 use Rattle.wf_flat.specs.declared.item.Item.{Item as ItemHeld}
-use Rattle.wf_flat.specs.Table.{Table, IsRunOf, events_of, names_in, instance_of}
-use Rattle.wf_flat.specs.Graph.{named_port, named_links}
+use Rattle.wf_flat.specs.Table.{Table, events_of, names_in}
+use Rattle.wf_flat.specs.Graph.{named_links}
 use Rattle.wf_flat.specs.Item.{named_item, IsItemWithin}
-use Rattle.wf_flat.specs.Flat.{FlatSeen, AreWithin, is_shown}
+use Rattle.wf_flat.specs.Flat.{FlatSeen, is_shown}
 use Rattle.wf_flat.proofs.Shown.{shown_visible}
-use Rattle.wf_query.specs.Line.{IsQuery}
-use Rattle.wf_query.specs.Lines.{IsAsked}
 use Rattle.wf_top.specs.Answers.{item_named, is_made_open, are_visible, IsVerdict, IsShown, IsAnswerFor, IsAnswer}
 use Rattle.wf_top.specs.Prepared.{IsPrepared, PathIn, IsPathLine, IsAnswerLine}
 use Rattle.wf_top.proofs.PendingItems.{pending_depends}
@@ -154,7 +148,3 @@ module _ (g : Grammar) (u : View) (t : Table) (flat : FlatSeen) (p : IsPrepared 
         answered word v =
             both_visible g u p.formed (events_of t) p.run.accepted.0 first second one other a_in refl b_in refl p.full p.induced
             (flag_tells g u t flat p first a a_within ∙ shown) (flag_tells g u t flat p second b b_within ∙ open_too) word v
-
--- a query and the line of its answer
-pub asked_of : (g : Grammar) (u : View) (e : List Event) (text first second written : List ℕ) → IsQuery text first second → IsAnswerLine g u e first second written → IsAsked (IsAnswer g u e) text written
-asked_of g u e text first second written q a = record { first = first; second = second; query = q; answer = a.answer; is = a.is; line = a.ends }

@@ -37,5 +37,11 @@ pub mod NumberedTexts
 pub mod ViewLines
 pub mod ViewWritten
 pub mod ViewTaken
+pub mod NamedItems
+pub mod LabelEntries
+pub mod LabelsTell
+pub mod TwoStages
+pub mod AnswersCarried
+pub mod AskIsTrace
 pub mod LabelsTaken
 pub mod AskUntouched

@@ -1,5 +1,5 @@
 -- Two labels under a view have one verdict, and `decide` has one end and one text for them.
-use Rattle.std.proofs.Common.{◌≡◌, ℕ, List, [], ◌++◌, refl, sym, ap, ◌∙◌, subst, append-nil}
+use Rattle.std.proofs.Common.{◌≡◌, ℕ, List, [], ◌++◌, sym, ap, ◌∙◌, subst, append-nil}
 use Rattle.std.specs.Prelude.{codes}
 use Rattle.bit_pack.specs.Bits.{Holds}
 use Rattle.wf_model.specs.Grammar.{Grammar}

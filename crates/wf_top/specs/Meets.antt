@@ -1,5 +1,5 @@
 -- How a call stands to the outcome: what was put, and the line for err.
-use Rattle.std.specs.Prelude.{◌≡◌, ◌≢◌, ◌⊎◌, ℕ, Bool, List, ◌++◌, take, Option, Some, option_map, Result, MatchResult}
+use Rattle.std.specs.Prelude.{◌≡◌, ◌≢◌, ◌⊎◌, ℕ, Bool, List, ◌++◌, take, Option, Some, Result, MatchResult}
 use Rattle.wf_io.specs.Told.{File, Rose, Appended}
 use Rattle.wf_top.specs.declared.status.Status.{Status}
 use Rattle.wf_top.specs.Endings.{End, Done, WriteFault, NoMemory, status_of, line_of}

@@ -11,43 +11,150 @@ use wf_io::{MemFile, MemShelf, MemSink};
 use wf_model::Seq;
 
 /// The label file of a run of LINE in which nothing is expanded.
-const START: &[u8] = b"WFL1\x8f\xbb\x4f\xca\xf0\xd4\x77\x63\x20\x00\x89\x79\xb9\x21\x95\x0e\x24\xba\x2b\x3f\xfd\x93\x7a\x5f\xbe\x18\x24\x81\x20\x1d\xce\x8e\x03r.a\x00\x01\x20\x03r.b\x00\x01\x60";
+const START: &[u8] =
+    b"WFL1\x8f\xbb\x4f\xca\xf0\xd4\x77\x63\x20\x00\x89\x79\xb9\x21\x95\x0e\x24\xba\x2b\x3f\xfd\x93\x7a\x5f\xbe\x18\x24\x81\x20\x1d\xce\x8e\x03r.a\x00\x01\x20\x03r.b\x00\x01\x60";
 
 /// The label file of a run of LINE that is finished.
-const WHOLE: &[u8] = b"WFL1\x8f\xbb\x4f\xca\xf0\xd4\x77\x63\x20\x00\x89\x79\xb9\x21\x95\x0e\x24\xba\x2b\x3f\xfd\x93\x7a\x5f\xbe\x18\x24\x81\x20\x1d\xce\x8e\x03r.a\x00\x01\x20\x03r.b\x00\x01\x60\x04i1.y\x00\x01\xb0";
+const WHOLE: &[u8] =
+    b"WFL1\x8f\xbb\x4f\xca\xf0\xd4\x77\x63\x20\x00\x89\x79\xb9\x21\x95\x0e\x24\xba\x2b\x3f\xfd\x93\x7a\x5f\xbe\x18\x24\x81\x20\x1d\xce\x8e\x03r.a\x00\x01\x20\x03r.b\x00\x01\x60\x04i1.y\x00\x01\xb0";
 
 /// The same with the first name again in the second entry.
-const TWICE: &[u8] = b"WFL1\x8f\xbb\x4f\xca\xf0\xd4\x77\x63\x20\x00\x89\x79\xb9\x21\x95\x0e\x24\xba\x2b\x3f\xfd\x93\x7a\x5f\xbe\x18\x24\x81\x20\x1d\xce\x8e\x03r.a\x00\x01\x20\x03r.a\x00\x01\x60\x04i1.y\x00\x01\xb0";
+const TWICE: &[u8] =
+    b"WFL1\x8f\xbb\x4f\xca\xf0\xd4\x77\x63\x20\x00\x89\x79\xb9\x21\x95\x0e\x24\xba\x2b\x3f\xfd\x93\x7a\x5f\xbe\x18\x24\x81\x20\x1d\xce\x8e\x03r.a\x00\x01\x20\x03r.a\x00\x01\x60\x04i1.y\x00\x01\xb0";
 
 /// Labels of FORKING that no run has both.
-const FORGED: &[u8] = b"WFL1\x79\x02\xb5\x59\xf3\xf1\x57\xae\x01\xc3\x09\xdf\x9f\x20\xce\x67\xd9\xbf\x00\x68\x65\x09\x7b\xc2\xe9\xda\x25\x03\x0e\x33\x54\x38\x03r.a\x00\x01\x20\x03p.y\x00\x01\xb0\x03q.y\x00\x01\x94";
+const FORGED: &[u8] =
+    b"WFL1\x79\x02\xb5\x59\xf3\xf1\x57\xae\x01\xc3\x09\xdf\x9f\x20\xce\x67\xd9\xbf\x00\x68\x65\x09\x7b\xc2\xe9\xda\x25\x03\x0e\x33\x54\x38\x03r.a\x00\x01\x20\x03p.y\x00\x01\xb0\x03q.y\x00\x01\x94";
 
 const QUERIES: &str = "r.a i1.y\ni1.y r.b\nr.b r.a\ni1.y i1.y\nr.a i2.y\n";
 
 /// Each line: the specification, the view, the first so many bytes of a label file, the queries, the status, the answers and the line on err.
 const ROWS: [(&str, &str, &[u8], usize, &str, Status, &str, &str); 14] = [
-    (LINE, "{}", WHOLE, 58, QUERIES, Done, "yes\nyes\nno\nno\nunknown\n", ""),
-    (LINE, "{\"expand\":[]}", WHOLE, 58, QUERIES, Done, "hidden\nhidden\nno\nhidden\nunknown\n", ""),
+    (
+        LINE,
+        "{}",
+        WHOLE,
+        58,
+        QUERIES,
+        Done,
+        "yes\nyes\nno\nno\nunknown\n",
+        "",
+    ),
+    (
+        LINE,
+        "{\"expand\":[]}",
+        WHOLE,
+        58,
+        QUERIES,
+        Done,
+        "hidden\nhidden\nno\nhidden\nunknown\n",
+        "",
+    ),
     (LINE, "{}", WHOLE, 58, "", Done, "", ""),
-    (LINE, "{}", START, 50, "r.a r.b\r\n\nr.a i1.y", Done, "yes\nunknown\n", ""),
+    (
+        LINE,
+        "{}",
+        START,
+        50,
+        "r.a r.b\r\n\nr.a i1.y",
+        Done,
+        "yes\nunknown\n",
+        "",
+    ),
     (LINE, "{}", WHOLE, 36, "r.a r.b\n", Done, "unknown\n", ""),
-    (FORKING, "{}", FORGED, 57, "p.y q.y\nr.a q.y\np.y r.b\n", Done, "clash\nyes\nunknown\n", ""),
-    (LINE, "{}", WHOLE, 57, QUERIES, Refused, "", "refused: labels: Damaged\n"),
-    (LINE, "{}", WHOLE, 35, QUERIES, Refused, "", "refused: labels: NotLabels\n"),
-    (LINE, "{}", TWICE, 58, QUERIES, Refused, "", "refused: labels: Damaged\n"),
-    (LOOP, "{}", WHOLE, 58, QUERIES, Refused, "", "refused: labels: OtherSpec\n"),
-    (LINE, "{", WHOLE, 35, "r.a\n", Refused, "", "refused: view: NotJson\n"),
-    (LINE, "{}", WHOLE, 35, "r.a\n", Refused, "", "refused: labels: NotLabels\n"),
-    (LINE, "{}", WHOLE, 58, "r.a i1.y\nr.b r.a\nr.a\nr.a r.b\n", Refused, "yes\nno\n", "refused: queries line 3: LineWrong\n"),
-    (LINE, "{}", WHOLE, 58, "r.a i1.y\nr.a  r.b\n", Refused, "yes\n", "refused: queries line 2: LineWrong\n"),
+    (
+        FORKING,
+        "{}",
+        FORGED,
+        57,
+        "p.y q.y\nr.a q.y\np.y r.b\n",
+        Done,
+        "clash\nyes\nunknown\n",
+        "",
+    ),
+    (
+        LINE,
+        "{}",
+        WHOLE,
+        57,
+        QUERIES,
+        Refused,
+        "",
+        "refused: labels: Damaged\n",
+    ),
+    (
+        LINE,
+        "{}",
+        WHOLE,
+        35,
+        QUERIES,
+        Refused,
+        "",
+        "refused: labels: NotLabels\n",
+    ),
+    (
+        LINE,
+        "{}",
+        TWICE,
+        58,
+        QUERIES,
+        Refused,
+        "",
+        "refused: labels: Damaged\n",
+    ),
+    (
+        LOOP,
+        "{}",
+        WHOLE,
+        58,
+        QUERIES,
+        Refused,
+        "",
+        "refused: labels: OtherSpec\n",
+    ),
+    (
+        LINE,
+        "{",
+        WHOLE,
+        35,
+        "r.a\n",
+        Refused,
+        "",
+        "refused: view: NotJson\n",
+    ),
+    (
+        LINE,
+        "{}",
+        WHOLE,
+        35,
+        "r.a\n",
+        Refused,
+        "",
+        "refused: labels: NotLabels\n",
+    ),
+    (
+        LINE,
+        "{}",
+        WHOLE,
+        58,
+        "r.a i1.y\nr.b r.a\nr.a\nr.a r.b\n",
+        Refused,
+        "yes\nno\n",
+        "refused: queries line 3: LineWrong\n",
+    ),
+    (
+        LINE,
+        "{}",
+        WHOLE,
+        58,
+        "r.a i1.y\nr.a  r.b\n",
+        Refused,
+        "yes\n",
+        "refused: queries line 2: LineWrong\n",
+    ),
 ];
 
-fn file(
-    alloc: Global,
-    called: &str,
-    bytes: &[u8],
-    broken: bool,
-) -> Result<MemFile, AllocError> {
+fn file(alloc: Global, called: &str, bytes: &[u8], broken: bool) -> Result<MemFile, AllocError> {
     Ok(MemFile {
         name: name(alloc, called)?,
         bytes: Seq::from_vec(Vec::from_slice(alloc, bytes)?),
@@ -73,7 +180,11 @@ fn shelf(
 fn labels_answer_queries(rt: HostRuntime) -> Result<(), Fail> {
     let alloc = rt.alloc();
     for (spec, view, labels, length, queries, status, answers, message) in ROWS {
-        let mut shelf = shelf(alloc, (spec, view, &labels[..length.min(labels.len())], queries), false)?;
+        let mut shelf = shelf(
+            alloc,
+            (spec, view, &labels[..length.min(labels.len())], queries),
+            false,
+        )?;
         let mut out = MemSink::new(alloc, 64)?;
         let mut err = MemSink::new(alloc, 64)?;
         let words = ["ask", "spec", "view", "labels", "queries"];
@@ -89,11 +200,46 @@ fn labels_answer_queries(rt: HostRuntime) -> Result<(), Fail> {
 fn files_that_break_and_a_sink_that_is_full(rt: HostRuntime) -> Result<(), Fail> {
     let alloc = rt.alloc();
     for (words, broken, room, status, answers, message) in [
-        (["ask", "spec", "view", "labels", "queries"], true, 64, ReadFault, "", "fault: reading labels\n"),
-        (["ask", "spec", "view", "none", "queries"], false, 64, ReadFault, "", "fault: reading labels\n"),
-        (["ask", "spec", "view", "labels", "none"], false, 64, ReadFault, "", "fault: reading queries\n"),
-        (["ask", "spec", "none", "none", "none"], false, 64, ReadFault, "", "fault: reading view\n"),
-        (["ask", "spec", "view", "labels", "queries"], false, 5, WriteFault, "yes\ny", "fault: writing\n"),
+        (
+            ["ask", "spec", "view", "labels", "queries"],
+            true,
+            64,
+            ReadFault,
+            "",
+            "fault: reading labels\n",
+        ),
+        (
+            ["ask", "spec", "view", "none", "queries"],
+            false,
+            64,
+            ReadFault,
+            "",
+            "fault: reading labels\n",
+        ),
+        (
+            ["ask", "spec", "view", "labels", "none"],
+            false,
+            64,
+            ReadFault,
+            "",
+            "fault: reading queries\n",
+        ),
+        (
+            ["ask", "spec", "none", "none", "none"],
+            false,
+            64,
+            ReadFault,
+            "",
+            "fault: reading view\n",
+        ),
+        (
+            ["ask", "spec", "view", "labels", "queries"],
+            false,
+            5,
+            WriteFault,
+            "yes\ny",
+            "fault: writing\n",
+        ),
     ] {
         let mut shelf = shelf(alloc, (LINE, "{}", WHOLE, QUERIES), broken)?;
         let mut out = MemSink::new(alloc, room)?;

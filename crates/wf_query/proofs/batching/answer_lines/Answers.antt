@@ -1,10 +1,10 @@
-use Rattle.std.proofs.Common.{◌≡◌, ◌∙◌, length, refl, ap, subst, arith}
+use Rattle.std.proofs.Common.{◌∙◌, length, refl, ap, subst, arith}
 use Rattle.std.proofs.lemmas.Option.{MatchOption-at_some, MatchOption-at_none}
 use Rattle.std.specs.Prelude.{List, ℕ}
 use Rattle.wf_model.specs.Lists.{AllDiffer}
 use Rattle.wf_model.specs.Grammar.{Grammar}
 use Rattle.wf_model.specs.View.{View}
-use Rattle.label_model.specs.Files.{Entry, names_of_entries}
+use Rattle.label_model.specs.Files.{Entry}
 use Rattle.label_file.specs.Stored.{EntryHeld, AreHeldOf, IsStoreFor}
 use Rattle.wf_io.specs.Lines.{Ends, Lends, LinesLeft}
 use Rattle.wf_io.proofs.Counting.{few_lines}

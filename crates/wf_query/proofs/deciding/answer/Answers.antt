@@ -1,5 +1,4 @@
-use Rattle.std.proofs.Common.{◌∙◌, refl, ap, inl, inr}
-use Rattle.wf_query.specs.Answers.{answer_of}
+use Rattle.std.proofs.Common.{refl, inl, inr}
 use Rattle.wf_query.proofs.Entries.{entry_with, entry_without}
 use Rattle.wf_query.proofs.deciding.answer.Goals as goal
 

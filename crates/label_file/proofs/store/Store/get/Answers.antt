@@ -1,6 +1,6 @@
 use Rattle.std.proofs.Common.{◌∙◌, Some, sym, ap, subst}
 use Rattle.wf_model.specs.Lists.{IsIn}
-use Rattle.label_file.specs.Stored.{EntryHeld, names_held}
+use Rattle.label_file.specs.Stored.{names_held}
 use Rattle.label_file.proofs.NamedEntries.{found_held, none_held}
 use Rattle.label_file.proofs.store.Store.get.Goals as goal
 

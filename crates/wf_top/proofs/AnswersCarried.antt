@@ -1,0 +1,13 @@
+-- Lines of queries that are answered by one relation are answered by each relation that holds where it holds.
+use Rattle.std.proofs.Common.{ℕ, List, [], ◌∷◌, inl, inr}
+use Rattle.wf_io.specs.Lines.{Line}
+use Rattle.wf_query.specs.Lines.{Ended, IsAsked, AreAnswered}
+
+module _ (Answers Other : List ℕ → List ℕ → List ℕ → Type 0) (carries : (first second word : List ℕ) → Answers first second word → Other first second word) where
+  asked_too : (text written : List ℕ) → IsAsked Answers text written → IsAsked Other text written
+  asked_too text written a = record { first = a.first; second = a.second; query = a.query; answer = a.answer; is = carries a.first a.second a.answer a.is; line = a.line }
+
+  pub answered_too : (ls : List Line) (d : Ended) (t : List ℕ) → AreAnswered Answers ls d t → AreAnswered Other ls d t
+  answered_too [] d t p = p
+  answered_too (l ∷ ls) d t (inl p) = inl p
+  answered_too (l ∷ ls) d t (inr p) = inr (p.0, p.1, (p.2.0, asked_too _ p.0 p.2.1), p.3, answered_too ls d p.1 p.4)
