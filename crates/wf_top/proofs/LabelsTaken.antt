@@ -1,5 +1,5 @@
 -- How LABELS ends the program, or is taken on.
-use Rattle.std.proofs.Common.{◌≡◌, ◌⊎◌, ℕ, List, Option, None, refl, sym, subst, inl, inr}
+use Rattle.std.proofs.Common.{◌≡◌, ◌⊎◌, ℕ, List, Option, None, refl, sym, subst, inl, inr, ⊎_elim}
 use Rattle.sha2.specs.Sha256.{sha256}
 use Rattle.wf_model.specs.Lists.{AllDiffer}
 use Rattle.wf_model.specs.Grammar.{Grammar}
@@ -54,8 +54,9 @@ module _ (g : Grammar) (digest bytes : List ℕ) (same : digest ≡ sha256 (cano
   fault_refuses HasNoMemory h = inl refl
 
   -- so its ending declines them
-  pub store_declines : (f : StoreFault) (e : End) → IsStoreFault g digest bytes f → (f ≡ HasNoMemory → e ≡ NoMemory) → (e ≡ NoMemory) ⊎ (e ≡ Refused Labels None (store_name f)) → Declines Labels (OfWhole (RefusesLabels g) bytes) e
-  store_declines f e h memory told = whole_declines Labels (RefusesLabels g) bytes HasNoMemory f (store_name f) e (fault_refuses f h) memory told
+  pub store_declines : (f : StoreFault) (e : End) → IsStoreFault g digest bytes f → (f ≡ HasNoMemory → e ≡ NoMemory) → (f ≡ HasNoMemory) ⊎ (e ≡ Refused Labels None (store_name f)) → Declines Labels (OfWhole (RefusesLabels g) bytes) e
+  store_declines f e h memory told =
+      whole_declines Labels (RefusesLabels g) bytes HasNoMemory f (store_name f) e (fault_refuses f h) memory (⊎_elim (λ m. inl (memory m)) (λ r. inr r) told)
 
 -- what holds the entries of a label file is a store of the grammar
 pub store_for : (g : Grammar) (bytes : List ℕ) (entries : List Entry) (hs : List EntryHeld) → TellsEntries g bytes entries → AreHeldOf g entries hs → IsStoreFor g hs

@@ -34,7 +34,7 @@ use wf_vlabel::ViewLabel;
 /// The ending at a fault of a label file.
 fn store_ending(fault: StoreFault) -> Ending
     ensures memory { fault ≡ StoreFault.NoMemory → end_of result ≡ NoMemory }
-    ensures refused { (end_of result ≡ NoMemory) ⊎ (end_of result ≡ Refused AtLabels None (store_name fault)) }
+    ensures refused { (fault ≡ StoreFault.NoMemory) ⊎ (end_of result ≡ Refused AtLabels None (store_name fault)) }
 {
     match fault {
         StoreFault::NoMemory => Ending::NoMemory,
