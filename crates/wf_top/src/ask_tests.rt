@@ -3,12 +3,20 @@
 // Of LINE 20 is the label of the input, 60 that of the output, and B0 that of the edge. Of FORKING B0 is the edge of the first way to do S, and 94 that of the second.
 use super::Status::{Done, ReadFault, Refused, WriteFault};
 use super::*;
-use crate::tests::{LINE, LOOP, name};
+use crate::tests::{LINE, LOOP, name, words};
 use crate::verdict_tests::FORKING;
 use std::alloc::{AllocError, Global};
 use std::test::Fail;
 use wf_io::{MemFile, MemShelf, MemSink};
 use wf_model::Seq;
+
+/// The head of the label files of LINE, without its last byte.
+const SHORT: &[u8] =
+    b"WFL1\x8f\xbb\x4f\xca\xf0\xd4\x77\x63\x20\x00\x89\x79\xb9\x21\x95\x0e\x24\xba\x2b\x3f\xfd\x93\x7a\x5f\xbe\x18\x24\x81\x20\x1d\xce";
+
+/// The label file of LINE for no events: the head alone.
+const HEAD: &[u8] =
+    b"WFL1\x8f\xbb\x4f\xca\xf0\xd4\x77\x63\x20\x00\x89\x79\xb9\x21\x95\x0e\x24\xba\x2b\x3f\xfd\x93\x7a\x5f\xbe\x18\x24\x81\x20\x1d\xce\x8e";
 
 /// The label file of a run of LINE in which nothing is expanded.
 const START: &[u8] =
@@ -17,6 +25,10 @@ const START: &[u8] =
 /// The label file of a run of LINE that is finished.
 const WHOLE: &[u8] =
     b"WFL1\x8f\xbb\x4f\xca\xf0\xd4\x77\x63\x20\x00\x89\x79\xb9\x21\x95\x0e\x24\xba\x2b\x3f\xfd\x93\x7a\x5f\xbe\x18\x24\x81\x20\x1d\xce\x8e\x03r.a\x00\x01\x20\x03r.b\x00\x01\x60\x04i1.y\x00\x01\xb0";
+
+/// The same without its last byte.
+const CUT: &[u8] =
+    b"WFL1\x8f\xbb\x4f\xca\xf0\xd4\x77\x63\x20\x00\x89\x79\xb9\x21\x95\x0e\x24\xba\x2b\x3f\xfd\x93\x7a\x5f\xbe\x18\x24\x81\x20\x1d\xce\x8e\x03r.a\x00\x01\x20\x03r.b\x00\x01\x60\x04i1.y\x00\x01";
 
 /// The same with the first name again in the second entry.
 const TWICE: &[u8] =
@@ -28,13 +40,12 @@ const FORGED: &[u8] =
 
 const QUERIES: &str = "r.a i1.y\ni1.y r.b\nr.b r.a\ni1.y i1.y\nr.a i2.y\n";
 
-/// Each line: the specification, the view, the first so many bytes of a label file, the queries, the status, the answers and the line on err.
-const ROWS: [(&str, &str, &[u8], usize, &str, Status, &str, &str); 14] = [
+/// Each line: the specification, the view, the label file, the queries, the status, the answers and the line on err.
+const ROWS: [(&str, &str, &[u8], &str, Status, &str, &str); 13] = [
     (
         LINE,
         "{}",
         WHOLE,
-        58,
         QUERIES,
         Done,
         "yes\nyes\nno\nno\nunknown\n",
@@ -44,29 +55,26 @@ const ROWS: [(&str, &str, &[u8], usize, &str, Status, &str, &str); 14] = [
         LINE,
         "{\"expand\":[]}",
         WHOLE,
-        58,
         QUERIES,
         Done,
         "hidden\nhidden\nno\nhidden\nunknown\n",
         "",
     ),
-    (LINE, "{}", WHOLE, 58, "", Done, "", ""),
+    (LINE, "{}", WHOLE, "", Done, "", ""),
     (
         LINE,
         "{}",
         START,
-        50,
         "r.a r.b\r\n\nr.a i1.y",
         Done,
         "yes\nunknown\n",
         "",
     ),
-    (LINE, "{}", WHOLE, 36, "r.a r.b\n", Done, "unknown\n", ""),
+    (LINE, "{}", HEAD, "r.a r.b\n", Done, "unknown\n", ""),
     (
         FORKING,
         "{}",
         FORGED,
-        57,
         "p.y q.y\nr.a q.y\np.y r.b\n",
         Done,
         "clash\nyes\nunknown\n",
@@ -75,8 +83,7 @@ const ROWS: [(&str, &str, &[u8], usize, &str, Status, &str, &str); 14] = [
     (
         LINE,
         "{}",
-        WHOLE,
-        57,
+        CUT,
         QUERIES,
         Refused,
         "",
@@ -85,9 +92,8 @@ const ROWS: [(&str, &str, &[u8], usize, &str, Status, &str, &str); 14] = [
     (
         LINE,
         "{}",
-        WHOLE,
-        35,
-        QUERIES,
+        SHORT,
+        "r.a\n",
         Refused,
         "",
         "refused: labels: NotLabels\n",
@@ -96,7 +102,6 @@ const ROWS: [(&str, &str, &[u8], usize, &str, Status, &str, &str); 14] = [
         LINE,
         "{}",
         TWICE,
-        58,
         QUERIES,
         Refused,
         "",
@@ -106,7 +111,6 @@ const ROWS: [(&str, &str, &[u8], usize, &str, Status, &str, &str); 14] = [
         LOOP,
         "{}",
         WHOLE,
-        58,
         QUERIES,
         Refused,
         "",
@@ -115,8 +119,7 @@ const ROWS: [(&str, &str, &[u8], usize, &str, Status, &str, &str); 14] = [
     (
         LINE,
         "{",
-        WHOLE,
-        35,
+        SHORT,
         "r.a\n",
         Refused,
         "",
@@ -126,17 +129,6 @@ const ROWS: [(&str, &str, &[u8], usize, &str, Status, &str, &str); 14] = [
         LINE,
         "{}",
         WHOLE,
-        35,
-        "r.a\n",
-        Refused,
-        "",
-        "refused: labels: NotLabels\n",
-    ),
-    (
-        LINE,
-        "{}",
-        WHOLE,
-        58,
         "r.a i1.y\nr.b r.a\nr.a\nr.a r.b\n",
         Refused,
         "yes\nno\n",
@@ -146,11 +138,54 @@ const ROWS: [(&str, &str, &[u8], usize, &str, Status, &str, &str); 14] = [
         LINE,
         "{}",
         WHOLE,
-        58,
         "r.a i1.y\nr.a  r.b\n",
         Refused,
         "yes\n",
         "refused: queries line 2: LineWrong\n",
+    ),
+];
+
+/// Each line: the words, whether reading past the label file fails, the room on out, the status, the answers and the line on err.
+const FAULTS: [(&str, bool, usize, Status, &str, &str); 5] = [
+    (
+        "ask spec view labels queries",
+        true,
+        64,
+        ReadFault,
+        "",
+        "fault: reading labels\n",
+    ),
+    (
+        "ask spec view none queries",
+        false,
+        64,
+        ReadFault,
+        "",
+        "fault: reading labels\n",
+    ),
+    (
+        "ask spec view labels none",
+        false,
+        64,
+        ReadFault,
+        "",
+        "fault: reading queries\n",
+    ),
+    (
+        "ask spec none none none",
+        false,
+        64,
+        ReadFault,
+        "",
+        "fault: reading view\n",
+    ),
+    (
+        "ask spec view labels queries",
+        false,
+        5,
+        WriteFault,
+        "yes\ny",
+        "fault: writing\n",
     ),
 ];
 
@@ -172,22 +207,18 @@ fn shelf(
     files.push(file(alloc, "spec", spec.as_bytes(), false)?)?;
     files.push(file(alloc, "view", view.as_bytes(), false)?)?;
     files.push(file(alloc, "labels", labels, broken)?)?;
-    files.push(file(alloc, "queries", queries.as_bytes(), broken)?)?;
+    files.push(file(alloc, "queries", queries.as_bytes(), false)?)?;
     Ok(MemShelf::new(Seq::from_vec(files), 5))
 }
 
 #[test]
 fn labels_answer_queries(rt: HostRuntime) -> Result<(), Fail> {
     let alloc = rt.alloc();
-    for (spec, view, labels, length, queries, status, answers, message) in ROWS {
-        let mut shelf = shelf(
-            alloc,
-            (spec, view, &labels[..length.min(labels.len())], queries),
-            false,
-        )?;
+    for (spec, view, labels, queries, status, answers, message) in ROWS {
+        let mut shelf = shelf(alloc, (spec, view, labels, queries), false)?;
         let mut out = MemSink::new(alloc, 64)?;
         let mut err = MemSink::new(alloc, 64)?;
-        let words = ["ask", "spec", "view", "labels", "queries"];
+        let words = words(alloc, "ask spec view labels queries")?;
         let got = run(alloc, &words, &mut shelf, &mut out, &mut err);
         assert_eq!(rt; got, status, "at {queries:?}");
         assert_eq!(rt; out.bytes(), answers.as_bytes(), "at {queries:?}");
@@ -197,57 +228,17 @@ fn labels_answer_queries(rt: HostRuntime) -> Result<(), Fail> {
 }
 
 #[test]
-fn files_that_break_and_a_sink_that_is_full(rt: HostRuntime) -> Result<(), Fail> {
+fn files_may_break_and_a_sink_may_be_full(rt: HostRuntime) -> Result<(), Fail> {
     let alloc = rt.alloc();
-    for (words, broken, room, status, answers, message) in [
-        (
-            ["ask", "spec", "view", "labels", "queries"],
-            true,
-            64,
-            ReadFault,
-            "",
-            "fault: reading labels\n",
-        ),
-        (
-            ["ask", "spec", "view", "none", "queries"],
-            false,
-            64,
-            ReadFault,
-            "",
-            "fault: reading labels\n",
-        ),
-        (
-            ["ask", "spec", "view", "labels", "none"],
-            false,
-            64,
-            ReadFault,
-            "",
-            "fault: reading queries\n",
-        ),
-        (
-            ["ask", "spec", "none", "none", "none"],
-            false,
-            64,
-            ReadFault,
-            "",
-            "fault: reading view\n",
-        ),
-        (
-            ["ask", "spec", "view", "labels", "queries"],
-            false,
-            5,
-            WriteFault,
-            "yes\ny",
-            "fault: writing\n",
-        ),
-    ] {
+    for (line, broken, room, status, answers, message) in FAULTS {
         let mut shelf = shelf(alloc, (LINE, "{}", WHOLE, QUERIES), broken)?;
         let mut out = MemSink::new(alloc, room)?;
         let mut err = MemSink::new(alloc, 64)?;
+        let words = words(alloc, line)?;
         let got = run(alloc, &words, &mut shelf, &mut out, &mut err);
-        assert_eq!(rt; got, status, "at {message:?}");
-        assert_eq!(rt; out.bytes(), answers.as_bytes(), "at {message:?}");
-        assert_eq!(rt; err.bytes(), message.as_bytes(), "at {message:?}");
+        assert_eq!(rt; got, status, "at {line:?}");
+        assert_eq!(rt; out.bytes(), answers.as_bytes(), "at {line:?}");
+        assert_eq!(rt; err.bytes(), message.as_bytes(), "at {line:?}");
     }
     Ok(())
 }
