@@ -1,6 +1,6 @@
 -- How many lines bytes have.
 use Rattle.std.proofs.Common.{◌≡◌, ℕ, suc, ◌≤◌, Bool, true, false, cond, ◌==◌, List, [], ◌∷◌, length, filter, refl, arith}
-use Rattle.wf_io.specs.Lines.{Line, is_given, put_first, cut_lines, numbered, given_from, lines_of}
+use Rattle.wf_io.specs.Lines.{is_given, put_first, cut_lines, numbered, lines_of}
 
 -- a byte before the first line makes one line at most
 first_length : (b : ℕ) (raws : List (List ℕ)) (n : ℕ) → length raws ≤ n → length (put_first b raws) ≤ suc n
