@@ -13,13 +13,12 @@ item of repetition c on the first way comes from the first input exactly if c is
 Call it from anywhere, after the program was built: bench/chain.py [--small] [--program FILE]
 """
 
-import argparse
 import json
 import sys
 import tempfile
 from pathlib import Path
 
-from measure import PROGRAM, built, others, read_lines, run
+from measure import called, others, read_lines, run
 
 QUERIES = 100
 
@@ -106,16 +105,12 @@ def measure(program, folder, length):
 
 
 def main():
-    words = argparse.ArgumentParser(description=__doc__.splitlines()[0])
-    words.add_argument("--small", action="store_true", help="lengths divided by 100, to try the script")
-    words.add_argument("--program", default=str(PROGRAM))
-    args = words.parse_args()
-    program = built(args.program)
+    program, is_small = called(__doc__, "lengths divided by 100, to try the script")
     with tempfile.TemporaryDirectory(prefix="wfprov-bench-") as name:
         folder = Path(name)
         (folder / "spec").write_text(json.dumps(SPEC))
         (folder / "view").write_text("{}")
-        for length in [125, 250, 500, 1000] if args.small else [12500, 25000, 50000, 100000]:
+        for length in [125, 250, 500, 1000] if is_small else [12500, 25000, 50000, 100000]:
             measure(program, folder, length)
 
 

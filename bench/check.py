@@ -19,13 +19,12 @@ program ended.
 Call it from anywhere, after the program was built: bench/check.py [--small] [--program FILE]
 """
 
-import argparse
 import json
 import sys
 import tempfile
 from pathlib import Path
 
-from measure import PROGRAM, built, others, run
+from measure import called, others, run
 
 MEBIBYTE = 1 << 20
 READER = "Python's JSON reader"
@@ -164,12 +163,8 @@ def measure(program, folder, name, text, wanted):
 
 
 def main():
-    words = argparse.ArgumentParser(description=__doc__.splitlines()[0])
-    words.add_argument("--small", action="store_true", help="sizes divided by 16, to try the script")
-    words.add_argument("--program", default=str(PROGRAM))
-    args = words.parse_args()
-    program = built(args.program)
-    whole = MEBIBYTE if args.small else 16 * MEBIBYTE
+    program, is_small = called(__doc__, "sizes divided by 16, to try the script")
+    whole = MEBIBYTE if is_small else 16 * MEBIBYTE
     with tempfile.TemporaryDirectory(prefix="wfprov-bench-") as name:
         folder = Path(name)
         for part in [16, 8, 4, 2, 1]:

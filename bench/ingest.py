@@ -12,7 +12,6 @@ judges the label file: every entry must be the one that this script works out by
 Call it from anywhere, after the program was built: bench/ingest.py [--small] [--program FILE]
 """
 
-import argparse
 import json
 import random
 import sys
@@ -21,7 +20,7 @@ from pathlib import Path
 
 import chain
 import trace
-from measure import PROGRAM, built, others, read_lines, run_for_bytes
+from measure import called, others, read_lines, run_for_bytes
 
 HEAD = 36
 
@@ -142,16 +141,12 @@ def measure_wide(program, folder, size):
 
 
 def main():
-    words = argparse.ArgumentParser(description=__doc__.splitlines()[0])
-    words.add_argument("--small", action="store_true", help="small runs, to try the script")
-    words.add_argument("--program", default=str(PROGRAM))
-    args = words.parse_args()
-    program = built(args.program)
+    program, is_small = called(__doc__, "small runs, to try the script")
     with tempfile.TemporaryDirectory(prefix="wfprov-bench-") as name:
         folder = Path(name)
-        for length in [1000, 10000] if args.small else [100000, 1000000]:
+        for length in [1000, 10000] if is_small else [100000, 1000000]:
             measure_chain(program, folder, length)
-        measure_wide(program, folder, trace.Size(args.small))
+        measure_wide(program, folder, trace.Size(is_small))
 
 
 if __name__ == "__main__":

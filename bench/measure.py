@@ -1,5 +1,6 @@
 """What the scripts of this folder share: running the program, and timing other work beside it."""
 
+import argparse
 import json
 import os
 import subprocess
@@ -17,6 +18,15 @@ def built(path):
     if not os.access(program, os.X_OK):
         sys.exit(f"{program} is not built; call ./wfprov once")
     return program
+
+
+def called(about, small):
+    """The program and whether the runs are to be small, by the words that a script is called with."""
+    words = argparse.ArgumentParser(description=about.splitlines()[0])
+    words.add_argument("--small", action="store_true", help=small)
+    words.add_argument("--program", default=str(PROGRAM))
+    args = words.parse_args()
+    return built(args.program), args.small
 
 
 def run(words, folder, wanted=0):
