@@ -23,9 +23,12 @@ has_edits() {
     [ -n "$(find "crates/$1/must-fail" -name '*.edit' -print -quit 2>/dev/null)" ]
 }
 
-# The functions of wf_laws, label_model, verdict_model and decode_model do nothing, so no edit of a body can change what they mean.
+# The functions of wf_laws, label_model, verdict_model and decode_model do nothing, so no edit of a body can change what they mean; and wf_trials has tests alone.
 has_edits_or_no_code() {
-    [ "$1" = wf_laws ] || [ "$1" = label_model ] || [ "$1" = verdict_model ] || [ "$1" = decode_model ] || has_edits "$1"
+    case $1 in
+        wf_laws | label_model | verdict_model | decode_model | wf_trials) true ;;
+        *) has_edits "$1" ;;
+    esac
 }
 
 is_named_in() {

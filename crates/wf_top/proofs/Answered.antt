@@ -1,5 +1,5 @@
 -- Answers to queries on a run under a view.
-use Rattle.std.proofs.Common.{◌≡◌, ◌⊎◌, ℕ, Bool, true, false, cond, List, [], ◌∷◌, ◌++◌, length, Option, Some, None, bytes_eq, codes, refl, sym, ap, ◌∙◌, subst, inl, inr, ⊎_elim, true≢false}
+use Rattle.std.proofs.Common.{◌≡◌, ◌⊎◌, ℕ, true, false, cond, List, ◌++◌, length, Option, Some, None, codes, refl, sym, ap, ◌∙◌, subst, inl, inr, ⊎_elim}
 use Rattle.std.specs.Prelude.{◌↔◌, IsTrue}
 use Rattle.wf_model.specs.Lists.{IsIn}
 use Rattle.wf_model.specs.Grammar.{Grammar, Assignment}
@@ -11,7 +11,6 @@ use Rattle.wf_model.specs.Run.{IsRun}
 use Rattle.wf_model.specs.Links.{Link, links_with}
 use Rattle.wf_model.specs.Items.{Item, items, IsMadeOpen, IsVisible}
 use Rattle.wf_model.specs.Finishing.{IsFinishing}
-use Rattle.wf_model.proofs.Lists.{same_bytes, bytes_same}
 use Rattle.wf_model.proofs.ItemNames.{item_of_name}
 use Rattle.wf_view.proofs.Flagged.{same_tests}
 use Rattle.wf_flat.specs.declared.item.Item.{Item as ItemHeld}
@@ -22,26 +21,8 @@ use Rattle.wf_flat.specs.Flat.{FlatSeen, is_shown}
 use Rattle.wf_flat.proofs.Shown.{shown_visible}
 use Rattle.wf_top.specs.Answers.{item_named, is_made_open, are_visible, IsVerdict, IsShown, IsAnswerFor, IsAnswer}
 use Rattle.wf_top.specs.Prepared.{IsPrepared, PathIn, IsPathLine, IsAnswerLine}
+use Rattle.wf_top.proofs.NamedItems.{named_found, named_none}
 use Rattle.wf_top.proofs.PendingItems.{pending_depends}
-
--- the first item of a name, where there is one item of this name
-named_found : (ts : List Item) (n : List ℕ) (t : Item) → ((s : Item) → IsIn s ts → s.name ≡ n → s ≡ t) → IsIn t ts → t.name ≡ n → item_named ts n ≡ Some t
-named_found [] n t one h e = absurd h
-named_found (x ∷ ts) n t one h e = go (named_found ts n t (λ s i. one s (inr i))) (bytes_eq x.name n) refl h
-  where
-    go : (IsIn t ts → t.name ≡ n → item_named ts n ≡ Some t) → (b : Bool) → bytes_eq x.name n ≡ b → IsIn t (x ∷ ts) → cond b (Some x) (item_named ts n) ≡ Some t
-    go ih true q i = ap Some (one x (inl refl) (same_bytes x.name n q))
-    go ih false q (inl i) = absurd (true≢false (sym (bytes_same x.name n (ap (λ (z : Item). z.name) (sym i) ∙ e)) ∙ q))
-    go ih false q (inr i) = ih i e
-
--- and none, where no item has it
-named_none : (ts : List Item) (n : List ℕ) → ((t : Item) → IsIn t ts → t.name ≡ n → ⊥) → item_named ts n ≡ None
-named_none [] n lacks = refl
-named_none (x ∷ ts) n lacks = go (named_none ts n (λ t i. lacks t (inr i))) (bytes_eq x.name n) refl
-  where
-    go : item_named ts n ≡ None → (b : Bool) → bytes_eq x.name n ≡ b → cond b (Some x) (item_named ts n) ≡ None
-    go ih true q = absurd (lacks x (inl refl) (same_bytes x.name n q))
-    go ih false q = ih
 
 -- what the test tells is made open
 made_open : (g : Grammar) (u : View) (e : List Event) (o : Option (List ℕ)) → IsTrue (is_made_open g u e o) → IsMadeOpen g u g.start e o

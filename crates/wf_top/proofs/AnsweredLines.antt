@@ -7,8 +7,8 @@ use Rattle.wf_io.specs.Lines.{Line, lines_of}
 use Rattle.wf_query.specs.Lines.{Ended, All, WrongAt, TooLongAt, ArePut, ended_by}
 use Rattle.wf_query.specs.declared.batching.BatchFault.{BatchFault}
 use Rattle.wf_query.specs.declared.batching.BatchFault.TheVariants.{LineWrong, LineTooLong, WriteFault as WritingFailed, NoMemory as WantedMemory}
-use Rattle.wf_top.specs.declared.ending.Place.TheVariants.{Queries}
-use Rattle.wf_top.specs.Endings.{End}
+use Rattle.wf_message.specs.declared.ending.Place.TheVariants.{Queries}
+use Rattle.wf_message.specs.Endings.{End}
 use Rattle.wf_top.specs.Telling.{RefusesNone}
 use Rattle.wf_top.specs.Outcome.{end_of_lines, AnswersLines, TellsLines, QueriesStage, long_most}
 use Rattle.wf_top.specs.Batched.{end_at, end_by}

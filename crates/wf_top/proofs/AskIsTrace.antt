@@ -12,8 +12,8 @@ use Rattle.wf_io.specs.Lines.{Line}
 use Rattle.label_model.specs.Files.{entries_of}
 use Rattle.wf_query.specs.Answers.{IsAnswerText}
 use Rattle.wf_query.proofs.OneEnding.{one_ending}
-use Rattle.wf_top.specs.declared.ending.Place.TheVariants.{Spec, View, Events, Labels, Queries}
-use Rattle.wf_top.specs.Endings.{End, Done}
+use Rattle.wf_message.specs.declared.ending.Place.TheVariants.{Spec, View, Events, Labels, Queries}
+use Rattle.wf_message.specs.Endings.{End, Done}
 use Rattle.wf_top.specs.Specification.{TellsGrammar, RefusesSpec}
 use Rattle.wf_top.specs.Telling.{OfWhole, RefusesNone}
 use Rattle.wf_top.specs.ViewTold.{TellsView, RefusesView}
@@ -23,6 +23,7 @@ use Rattle.wf_top.specs.Answers.{IsAnswer}
 use Rattle.wf_top.specs.Ingested.{refused as stopped, done, file_of}
 use Rattle.wf_top.specs.Outcome.{too_long, broken, refused, goes_on, TellsLines, AnswersLines, end_of_lines, IngestsEvents, long_events, broken_events, event_lines, Ingests, Traces, Asks, QueriesStage, AnswersRun, AnswersView, AnswersLabels, ViewStage, short_most, long_most, instance_most}
 use Rattle.wf_top.specs.Laws.{AskIsTraceLaw}
+use Rattle.wf_top.proofs.ToldGrammars.{told_formed, told_proper, told_linear}
 use Rattle.wf_top.proofs.OneOutcome.{one_grammar, one_view, one_run}
 use Rattle.wf_top.proofs.OneFault.{no_refusal}
 use Rattle.wf_top.proofs.OneViewFault.{one_refusal_of_view, no_refusal_of_view}
@@ -60,16 +61,6 @@ all_ingested spec events text (too_long l x y) = absurd (cc)
 all_ingested spec events text (broken l b x y) = absurd (cc)
 all_ingested spec events text (refused l b line fault r x y) = absurd (cc)
 all_ingested spec events text (goes_on l b g told next) = events_ingested g spec events text l b told next
-
--- a grammar that is told is well-formed, proper and strictly linear
-told_formed : (bytes : List ℕ) (g : Grammar) → TellsGrammar bytes g → IsWellFormed g
-told_formed bytes g t = subst IsWellFormed (sym t.is) t.formed.well_formed
-
-told_proper : (bytes : List ℕ) (g : Grammar) → TellsGrammar bytes g → IsProper g
-told_proper bytes g t = subst IsProper (sym t.is) t.proper
-
-told_linear : (bytes : List ℕ) (g : Grammar) → TellsGrammar bytes g → IsLinear g
-told_linear bytes g t = subst IsLinear (sym t.is) t.linear
 
 -- the grammar of SPEC, and a run of it that was ingested
 module _ (spec view events labels queries : File) (text : List ℕ) (taken : IsIngested spec events text) (same : labels.bytes ≡ text) (short : length text ≤ long_most) (whole : labels.broken ≡ false) where

@@ -3,9 +3,9 @@ use Rattle.std.proofs.Common.{◌≡◌, ◌≢◌, Option, refl, sym, ◌∙◌
 use Rattle.std.specs.Prelude.{Result, Ok, Err, IfErr}
 use Rattle.wf_query.specs.declared.batching.BatchFault.{BatchFault}
 use Rattle.wf_query.specs.declared.batching.BatchFault.TheVariants.{LineWrong, LineTooLong, WriteFault as WritingFailed, NoMemory as WantedMemory}
-use Rattle.wf_top.specs.declared.ending.Ending.{Ending}
+use Rattle.wf_message.specs.declared.ending.Ending.{Ending}
 use Rattle.wf_top.specs.Batched.{end_at}
-use Rattle.wf_top.specs.Endings.{End, NoMemory, end_of}
+use Rattle.wf_message.specs.Endings.{End, NoMemory, end_of}
 use Rattle.wf_top.specs.Words.{Command, IsAsk}
 
 -- of a command that is not `ask` nothing is told

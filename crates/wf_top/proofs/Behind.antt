@@ -1,8 +1,8 @@
 -- A text that is put first, and how the rest of a call stands behind it.
 use Rattle.std.proofs.Common.{◌≡◌, ℕ, List, ◌++◌, take, Option, refl, sym, subst}
 use Rattle.std.specs.Prelude.{Result, Err}
-use Rattle.wf_top.specs.declared.ending.Ending.{Ending}
-use Rattle.wf_top.specs.Endings.{End, Done, end_of, end_after}
+use Rattle.wf_message.specs.declared.ending.Ending.{Ending}
+use Rattle.wf_message.specs.Endings.{End, Done, end_of, end_after}
 use Rattle.wf_io.specs.Told.{Appended}
 use Rattle.wf_top.specs.Meets.{EndsBy, EndsBehind, IsWritten}
 use Rattle.wf_io.proofs.Appending.{appended_twice, begun_longer, begun_after}

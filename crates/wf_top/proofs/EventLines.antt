@@ -10,11 +10,11 @@ use Rattle.wf_model.specs.Faults.{fault_of}
 use Rattle.wf_io.specs.Lines.{Line, LinesLeft, Lends, Ends, Refuses, text_of, lines_of}
 use Rattle.wf_flat.specs.Table.{Table, IsRunOf, events_of}
 use Rattle.wf_flat.proofs.Steps.{run_none}
-use Rattle.wf_top.specs.declared.ending.Ending.{Ending}
-use Rattle.wf_top.specs.declared.ending.Place.{Place}
-use Rattle.wf_top.specs.declared.ending.Place.TheVariants.{Events}
-use Rattle.wf_top.specs.Endings.{End, Refused, end_of}
-use Rattle.wf_top.specs.Refusals.{run_name}
+use Rattle.wf_message.specs.declared.ending.Ending.{Ending}
+use Rattle.wf_message.specs.declared.ending.Place.{Place}
+use Rattle.wf_message.specs.declared.ending.Place.TheVariants.{Events}
+use Rattle.wf_message.specs.Endings.{End, Refused, end_of}
+use Rattle.wf_message.specs.Refusals.{run_name}
 use Rattle.wf_top.specs.Telling.{AtLine}
 use Rattle.wf_top.specs.RunTold.{IsEventText, AreEvents, TellsRun, RefusesText, RefusesLines}
 use Rattle.wf_top.specs.Outcome.{instance_most}

@@ -5,7 +5,7 @@ use Rattle.wf_model.specs.Grammar.{Grammar}
 use Rattle.wf_model.specs.Run.{IsAccepted}
 use Rattle.wf_io.specs.Told.{File}
 use Rattle.wf_io.specs.Lines.{lines_of}
-use Rattle.wf_top.specs.Endings.{End, Done}
+use Rattle.wf_message.specs.Endings.{End, Done}
 use Rattle.wf_top.specs.Specification.{TellsGrammar}
 use Rattle.wf_top.specs.RunTold.{AreEvents}
 use Rattle.wf_top.specs.Ingested.{refused as stopped, done, file_of}
@@ -15,7 +15,7 @@ use Rattle.wf_top.proofs.OneOutcome.{one_grammar}
 use Rattle.wf_top.proofs.OneFault.{no_refusal}
 use Rattle.wf_top.proofs.Ingesting.{file_begins}
 use Rattle.wf_top.proofs.GrownLines.{more_lines}
-use Rattle.wf_top.proofs.OutcomeLaws.{past_most}
+use Rattle.wf_top.proofs.TwoStages.{past_most}
 
 -- all lines of a file are taken, and the text is the label file of their events
 record AllTaken (g : Grammar) (events : File) (text : List ℕ) : Type 0 where

@@ -10,8 +10,8 @@ use Rattle.wf_io.specs.Lines.{Line, is_too_long, text_of}
 use Rattle.wf_json.specs.Canonical.{canonical_of}
 use Rattle.label_model.proofs.FileGrowth.{file_grows_law, file_step_law}
 use Rattle.wf_run.specs.Runs.{RunSeen, IsRunOf}
-use Rattle.wf_top.specs.declared.ending.Place.TheVariants.{Events}
-use Rattle.wf_top.specs.Endings.{End, Done, Usage, Refused, ReadFault, WriteFault, NoMemory}
+use Rattle.wf_message.specs.declared.ending.Place.TheVariants.{Events}
+use Rattle.wf_message.specs.Endings.{End, Done, Usage, Refused, ReadFault, WriteFault, NoMemory}
 use Rattle.wf_top.specs.RunTold.{IsEventText, IsEventLine, AreEvents, RefusesText, RefusesLine}
 use Rattle.wf_top.specs.Ingested.{file_of, file_head, IngestsLines, refused, done}
 use Rattle.wf_top.specs.Labelled.{bytes_by, IsLabelled, StopsAtLine}

@@ -15,9 +15,9 @@ use Rattle.label_model.proofs.EntrySizes.{entry_sizes}
 use Rattle.wf_run.specs.Runs.{RunSeen, IsRunOf}
 use Rattle.wf_labeller.specs.declared.entry.Entry.{Entry as EntryHeld}
 use Rattle.wf_labeller.specs.Entries.{entry_seen}
-use Rattle.wf_top.specs.declared.ending.Ending.{Ending}
-use Rattle.wf_top.specs.declared.ending.Place.TheVariants.{Events}
-use Rattle.wf_top.specs.Endings.{End, Done, Usage, Refused, ReadFault, WriteFault, NoMemory, end_of}
+use Rattle.wf_message.specs.declared.ending.Ending.{Ending}
+use Rattle.wf_message.specs.declared.ending.Place.TheVariants.{Events}
+use Rattle.wf_message.specs.Endings.{End, Done, Usage, Refused, ReadFault, WriteFault, NoMemory, end_of}
 use Rattle.wf_top.specs.Telling.{AtLine}
 use Rattle.wf_top.specs.RunTold.{RefusesText}
 use Rattle.wf_top.specs.Labelled.{HaveRoom, IsTakenInto, IsLabelled, StopsPut, StopsAtLine}

@@ -12,9 +12,9 @@ use Rattle.label_file.specs.declared.fault.StoreFault.{StoreFault}
 use Rattle.label_file.specs.declared.fault.StoreFault.TheVariants.{NotLabels as IsNoLabels, OtherSpec as IsOfOther, Truncated as IsTruncated, BadName as HasBadName, NameTwice as HasNameTwice, BadLabel as HasBadLabel, NoMemory as HasNoMemory}
 use Rattle.wf_query.specs.Answers.{IsAnswerText}
 use Rattle.wf_query.proofs.Entries.{names_same, held_from}
-use Rattle.wf_top.specs.declared.ending.Place.TheVariants.{Labels}
-use Rattle.wf_top.specs.Endings.{End, Refused, NoMemory}
-use Rattle.wf_top.specs.Refusals.{store_name}
+use Rattle.wf_message.specs.declared.ending.Place.TheVariants.{Labels}
+use Rattle.wf_message.specs.Endings.{End, Refused, NoMemory}
+use Rattle.wf_message.specs.Refusals.{store_name}
 use Rattle.wf_top.specs.Telling.{OfWhole}
 use Rattle.wf_top.specs.LabelsTold.{OpensFor, TellsEntries, RefusesLabels}
 use Rattle.wf_top.specs.Outcome.{AnswersLabels, QueriesStage, long_most}

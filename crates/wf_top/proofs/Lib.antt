@@ -1,4 +1,3 @@
-pub mod Putting
 pub mod Stages
 pub mod OneOutcome
 pub mod OneRefusal
@@ -30,6 +29,8 @@ pub mod GrownLines
 pub mod Digits
 pub mod OneDecision
 pub mod TwoLabels
+pub mod ToldGrammars
+pub mod TwoStages
 pub mod OutcomeLaws
 pub mod IngestGrows
 pub mod Writing
@@ -40,7 +41,6 @@ pub mod ViewTaken
 pub mod NamedItems
 pub mod LabelEntries
 pub mod LabelsTell
-pub mod TwoStages
 pub mod AnswersCarried
 pub mod AskIsTrace
 pub mod LabelsTaken

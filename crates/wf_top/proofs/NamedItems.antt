@@ -22,3 +22,19 @@ found_by (x ∷ ts) n = go (found_by ts n) (bytes_eq x.name n) refl
     go : IsFoundBy ts n (item_named ts n) → (b : Bool) → bytes_eq x.name n ≡ b → IsFoundBy (x ∷ ts) n (cond b (Some x) (item_named ts n))
     go f true q = (inl refl, same_bytes x.name n q)
     go f false q = later (item_named ts n) f (λ e. true≢false (sym (bytes_same x.name n e) ∙ q))
+
+-- the first item of a name, where there is one item of this name
+pub named_found : (ts : List Item) (n : List ℕ) (t : Item) → ((s : Item) → IsIn s ts → s.name ≡ n → s ≡ t) → IsIn t ts → t.name ≡ n → item_named ts n ≡ Some t
+named_found ts n t one h e = go (item_named ts n) (found_by ts n)
+  where
+    go : (o : Option Item) → IsFoundBy ts n o → o ≡ Some t
+    go None f = absurd (f t h e)
+    go (Some s) f = ap Some (one s f.0 f.1)
+
+-- and none, where no item has it
+pub named_none : (ts : List Item) (n : List ℕ) → ((t : Item) → IsIn t ts → t.name ≡ n → ⊥) → item_named ts n ≡ None
+named_none ts n lacks = go (item_named ts n) (found_by ts n)
+  where
+    go : (o : Option Item) → IsFoundBy ts n o → o ≡ None
+    go None f = refl
+    go (Some s) f = absurd (lacks s f.0 f.1)

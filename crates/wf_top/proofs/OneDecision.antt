@@ -8,7 +8,7 @@ use Rattle.label_model.specs.Labels.{Label, label_bits}
 use Rattle.label_model.proofs.LabelBits.{whole_law}
 use Rattle.verdict_model.specs.Verdicts.{IsVerdict}
 use Rattle.verdict_model.proofs.OneVerdict.{one_verdict}
-use Rattle.wf_top.specs.Endings.{End}
+use Rattle.wf_message.specs.Endings.{End}
 use Rattle.wf_top.specs.Decided.{AreOfLabel, verdict_text, DecidesLabels, first_malformed, second_malformed, decided}
 
 -- bytes are those of one label

@@ -15,7 +15,7 @@ use Rattle.wf_spec.proofs.Lawful.{law}
 use Rattle.wf_check.specs.declared.fault.CheckFault.{CheckFault}
 use Rattle.wf_check.specs.declared.fault.CheckFault.TheVariants.{Unreachable, Unproductive, UnitCycle, NoMemory}
 use Rattle.wf_check.specs.Improper.{IsLeastWithout, UnitPath, IsUnitCycle, IsFirstOf, IsToldCycle, IsFaultOf as IsFaultOfGrammar}
-use Rattle.wf_top.specs.Refusals.{numbers_text, form_text, check_text}
+use Rattle.wf_message.specs.Refusals.{numbers_text, form_text, check_text}
 use Rattle.wf_top.specs.Specification.{TellsGrammar, RefusesGrammar, RefusesParts, RefusesSpec}
 use Rattle.wf_top.proofs.OneLoops.{one_of_loops, none_of_linear}
 use Rattle.wf_top.proofs.OneRefusal.{one_of_bytes, none_of_bytes}

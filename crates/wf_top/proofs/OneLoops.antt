@@ -9,7 +9,7 @@ use Rattle.wf_recur.specs.declared.fault.RecurFault.{RecurFault}
 use Rattle.wf_recur.specs.declared.fault.RecurFault.TheVariants.{TwoLoops, NoMemory}
 use Rattle.wf_recur.specs.Cycles.{step_of}
 use Rattle.wf_recur.specs.Loops.{IsBefore, IsTwoLoops, IsFaultOf}
-use Rattle.wf_top.specs.Refusals.{step_text, recur_text}
+use Rattle.wf_message.specs.Refusals.{step_text, recur_text}
 
 not_both : (s t : Step) → IsBefore s t → IsBefore t s → ⊥
 not_both s t (inl a) (inl b) = absurd (omega arith)

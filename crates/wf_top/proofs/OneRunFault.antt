@@ -10,7 +10,7 @@ use Rattle.wf_model.proofs.Runs.{made-append, name_in, name_from, AllExtend-appe
 use Rattle.wf_model.proofs.Taking.{taking_law}
 use Rattle.wf_io.specs.Lines.{Line, is_too_long, text_of, lines_of}
 use Rattle.wf_events.specs.EventForm.{event_of}
-use Rattle.wf_top.specs.Refusals.{run_name}
+use Rattle.wf_message.specs.Refusals.{run_name}
 use Rattle.wf_top.specs.RunTold.{IsEventText, IsEventLine, AreEvents, TellsRun, RefusesForm, RefusesEvent, RefusesText, RefusesBytes, RefusesLine, RefusesLines, RefusesRun}
 use Rattle.wf_top.proofs.OneOutcome.{some_same, one_reading, one_event}
 use Rattle.wf_top.proofs.OneRefusal.{unread}

@@ -11,7 +11,7 @@ use Rattle.wf_model.proofs.Lists.{some_gives}
 use Rattle.wf_spec.proofs.Sizes.{in_rule}
 use Rattle.wf_check.specs.Proper.{Ranking, IsChoice, IsRankingOf}
 use Rattle.wf_json.specs.Canonical.{canonical_of}
-use Rattle.wf_top.specs.Endings.{End, Done, WriteFault}
+use Rattle.wf_message.specs.Endings.{End, Done, WriteFault}
 use Rattle.wf_recur.specs.Cycles.{OnSeen, CyclesSeen, AreCyclesOf}
 use Rattle.wf_top.specs.CheckText.{is_composite, cycle_text, check_line, check_text_of}
 use Rattle.wf_top.specs.Outcome.{IsChecked}

@@ -13,7 +13,7 @@ use Rattle.wf_view.specs.Rules.{Rule, AllHold, IsFirstFault, rules_of}
 use Rattle.wf_safe.specs.declared.witness.Witness.{Witness}
 use Rattle.wf_safe.specs.Witness.{IsFirstWitness}
 use Rattle.wf_safe.proofs.OneWitness.{one_witness_law}
-use Rattle.wf_top.specs.Refusals.{view_text, unsafe_text}
+use Rattle.wf_message.specs.Refusals.{view_text, unsafe_text}
 use Rattle.wf_top.specs.ViewTold.{TellsView, RefusesUnsafe, RefusesViewParts, RefusesView}
 use Rattle.wf_top.proofs.OneFault.{one_place}
 use Rattle.wf_top.proofs.OneRefusal.{one_of_bytes, none_of_bytes}

@@ -1,19 +1,15 @@
 -- Words and files have one outcome at most.
-use Rattle.std.proofs.Common.{◌≡◌, ℕ, ◌<◌, ◌≤◌, List, Option, Some, None, sym, ap, ◌∙◌, subst, arith, true≢false}
+use Rattle.std.proofs.Common.{◌≡◌, ℕ, List, Option, Some, None, sym, ap, ◌∙◌, true≢false}
 use Rattle.wf_model.specs.Grammar.{Grammar}
 use Rattle.wf_model.specs.View.{View as ViewOf}
-use Rattle.wf_model.specs.Proper.{IsProper}
-use Rattle.wf_model.specs.Linear.{IsLinear}
-use Rattle.wf_model.specs.WellFormed.{IsWellFormed}
 use Rattle.wf_io.specs.Told.{File}
 use Rattle.wf_io.specs.Lines.{Line, lines_of}
 use Rattle.wf_query.specs.Answers.{IsAnswerText}
 use Rattle.wf_query.specs.Lines.{IsOneWord}
 use Rattle.wf_query.proofs.OneEnding.{one_ending}
 use Rattle.wf_query.proofs.Entries.{one_word}
-use Rattle.wf_top.specs.declared.ending.Place.{Place}
-use Rattle.wf_top.specs.declared.ending.Place.TheVariants.{Spec, View, Events, Labels, Queries}
-use Rattle.wf_top.specs.Endings.{End, Refused}
+use Rattle.wf_message.specs.declared.ending.Place.TheVariants.{Spec, View, Events, Labels, Queries}
+use Rattle.wf_message.specs.Endings.{End, Refused}
 use Rattle.wf_top.specs.Words.{Command, Check, View as ViewCommand, Ingest, Trace, Ask, Decide, command_of}
 use Rattle.wf_top.specs.Specification.{TellsGrammar, RefusesSpec}
 use Rattle.wf_top.specs.Telling.{OfWhole, RefusesNone}
@@ -22,8 +18,10 @@ use Rattle.wf_top.specs.RunTold.{TellsRun, RefusesRun}
 use Rattle.wf_top.specs.LabelsTold.{TellsEntries, RefusesLabels}
 use Rattle.wf_top.specs.Answers.{IsAnswer}
 use Rattle.wf_top.specs.Ingested.{IngestsLines, refused as stopped, done, file_of}
-use Rattle.wf_top.specs.Outcome.{Stage, too_long, broken, refused, goes_on, TellsLines, AnswersLines, end_of_lines, SpecStage, ViewStage, QueriesStage, IsChecked, IsViewWritten, IngestsEvents, long_events, broken_events, event_lines, Checks, Views, Ingests, Traces, Asks, Decides, Does, short_most, long_most, instance_most}
+use Rattle.wf_top.specs.Outcome.{TellsLines, AnswersLines, end_of_lines, SpecStage, ViewStage, QueriesStage, IsChecked, IsViewWritten, IngestsEvents, long_events, broken_events, event_lines, Checks, Views, Ingests, Traces, Asks, Decides, Does, short_most, long_most, instance_most}
 use Rattle.wf_top.specs.Laws.{OneOutcomeLaw}
+use Rattle.wf_top.proofs.ToldGrammars.{told_formed, told_proper, told_linear}
+use Rattle.wf_top.proofs.TwoStages.{past_most, same_outcome}
 use Rattle.wf_top.proofs.OneOutcome.{one_grammar, one_view, one_run, one_list}
 use Rattle.wf_top.proofs.OneFault.{one_refusal, no_refusal}
 use Rattle.wf_top.proofs.OneViewFault.{one_refusal_of_view, no_refusal_of_view}
@@ -36,76 +34,40 @@ use Rattle.wf_top.proofs.ViewComposites.{told_composites}
 use Rattle.wf_top.proofs.TakenLines.{one_stop, not_stopped}
 use Rattle.wf_top.proofs.OneDecision.{one_decision}
 
--- what is too long is not short
-pub past_most : {m n : ℕ} → m < n → n ≤ m → ⊥
-past_most l s = absurd (omega arith)
-
 -- ends and texts that are the same
 abbrev AreSame : End → End → List ℕ → List ℕ → Type 0
 AreSame d e t s = (d ≡ e) × (t ≡ s)
 
-module _ {A : Type 0} (most : ℕ) (place : Place) (file : File) (Tells : List ℕ → A → Type 0) (Refuses : List ℕ → Option ℕ → List ℕ → Type 0) (Next : A → End → List ℕ → Type 0)
-    (one : (a b : A) → Tells file.bytes a → Tells file.bytes b → b ≡ a)
-    (one_fault : (l m : Option ℕ) (x y : List ℕ) → Refuses file.bytes l x → Refuses file.bytes m y → (l ≡ m) × (x ≡ y))
-    (apart : (a : A) (l : Option ℕ) (x : List ℕ) → Tells file.bytes a → Refuses file.bytes l x → ⊥)
-    (next_one : (a : A) → Tells file.bytes a → (d e : End) (t s : List ℕ) → Next a d t → Next a e s → AreSame d e t s) where
-  -- a stage has one outcome where what follows has
-  one_stage : (d e : End) (t s : List ℕ) → Stage most place file Tells Refuses Next d t → Stage most place file Tells Refuses Next e s → AreSame d e t s
-  one_stage d e t s (too_long l x y) (too_long m u v) = (x ∙ sym u, y ∙ sym v)
-  one_stage d e t s (too_long l x y) (broken m b u v) = absurd (past_most l m)
-  one_stage d e t s (too_long l x y) (refused m b n f h u v) = absurd (past_most l m)
-  one_stage d e t s (too_long l x y) (goes_on m b c h n) = absurd (past_most l m)
-  one_stage d e t s (broken l a x y) (too_long m u v) = absurd (past_most m l)
-  one_stage d e t s (broken l a x y) (broken m b u v) = (x ∙ sym u, y ∙ sym v)
-  one_stage d e t s (broken l a x y) (refused m b n f h u v) = absurd (true≢false (sym a ∙ b))
-  one_stage d e t s (broken l a x y) (goes_on m b c h n) = absurd (true≢false (sym a ∙ b))
-  one_stage d e t s (refused l a n f k x y) (too_long m u v) = absurd (past_most m l)
-  one_stage d e t s (refused l a n f k x y) (broken m b u v) = absurd (true≢false (sym b ∙ a))
-  one_stage d e t s (refused l a n f k x y) (refused m b o g h u v) = let r = one_fault n o f g k h in (x ∙ (ap (λ z. Refused place z f) r.0 ∙ (ap (Refused place o) r.1 ∙ sym u)), y ∙ sym v)
-  one_stage d e t s (refused l a n f k x y) (goes_on m b c h o) = absurd (apart c n f h k)
-  one_stage d e t s (goes_on l a z k n) (too_long m u v) = absurd (past_most m l)
-  one_stage d e t s (goes_on l a z k n) (broken m b u v) = absurd (true≢false (sym b ∙ a))
-  one_stage d e t s (goes_on l a z k n) (refused m b o f h u v) = absurd (apart z o f k h)
-  one_stage d e t s (goes_on l a z k n) (goes_on m b c h o) = next_one z k d e t s n (subst (λ x. Next x e s) (one z c k h) o)
-
--- so has that of SPEC
+-- the stage of SPEC has one outcome where what follows has
 one_spec_stage : (spec : File) (Next : Grammar → End → List ℕ → Type 0) → ((g : Grammar) → TellsGrammar spec.bytes g → (d e : End) (t s : List ℕ) → Next g d t → Next g e s → AreSame d e t s) →
     (d e : End) (t s : List ℕ) → SpecStage spec Next d t → SpecStage spec Next e s → AreSame d e t s
 one_spec_stage spec Next next =
-    one_stage short_most Spec spec TellsGrammar (OfWhole RefusesSpec) Next (one_grammar spec.bytes) (λ l m x y p q. (p.0 ∙ sym q.0, one_refusal spec.bytes x y p.1 q.1)) (λ g l x t r. no_refusal spec.bytes x g t r.1) next
+    same_outcome short_most Spec spec TellsGrammar (OfWhole RefusesSpec) Next Next (one_grammar spec.bytes) (λ l m x y p q. (p.0 ∙ sym q.0, one_refusal spec.bytes x y p.1 q.1)) (λ g l x t r. no_refusal spec.bytes x g t r.1) next
 
--- a told grammar is well-formed
-told_formed : (bytes : List ℕ) (g : Grammar) → TellsGrammar bytes g → IsWellFormed g
-told_formed bytes g t = subst IsWellFormed (sym t.is) t.formed.well_formed
-
--- and proper
-told_proper : (bytes : List ℕ) (g : Grammar) → TellsGrammar bytes g → IsProper g
-told_proper bytes g t = subst IsProper (sym t.is) t.proper
-
--- the stage of VIEW has one outcome where what follows has
+-- so has that of VIEW
 one_view_stage : (bytes : List ℕ) (g : Grammar) → TellsGrammar bytes g → (view : File) (Next : ViewOf → End → List ℕ → Type 0) → ((u : ViewOf) → TellsView g view.bytes u → (d e : End) (t s : List ℕ) → Next u d t → Next u e s → AreSame d e t s) →
     (d e : End) (t s : List ℕ) → ViewStage g view Next d t → ViewStage g view Next e s → AreSame d e t s
 one_view_stage bytes g told view Next next =
-    one_stage short_most View view (TellsView g) (OfWhole (RefusesView g)) Next (one_view g view.bytes) (λ l m x y p q. (p.0 ∙ sym q.0, one_refusal_of_view g (told_formed bytes g told) view.bytes x y p.1 q.1)) (λ u l x t r. no_refusal_of_view g view.bytes x u t r.1) next
+    same_outcome short_most View view (TellsView g) (OfWhole (RefusesView g)) Next Next (one_view g view.bytes) (λ l m x y p q. (p.0 ∙ sym q.0, one_refusal_of_view g (told_formed bytes g told) view.bytes x y p.1 q.1)) (λ u l x t r. no_refusal_of_view g view.bytes x u t r.1) next
 
 -- so has that of QUERIES, where a query has one word
 one_queries_stage : (Answers : List ℕ → List ℕ → List ℕ → Type 0) → IsOneWord Answers → (queries : File) (d e : End) (t s : List ℕ) → QueriesStage Answers queries d t → QueriesStage Answers queries e s → AreSame d e t s
 one_queries_stage Answers one queries =
-    one_stage long_most Queries queries TellsLines RefusesNone (AnswersLines Answers) (λ a b x y. y ∙ sym x) (λ l m x y p q. absurd p) (λ a l x t r. r)
+    same_outcome long_most Queries queries TellsLines RefusesNone (AnswersLines Answers) (AnswersLines Answers) (λ a b x y. y ∙ sym x) (λ l m x y p q. absurd p) (λ a l x t r. r)
     (λ ls h d e t s p q. let r = one_ending Answers one ls p.0 q.0 t s p.1 q.1 in (p.2 ∙ (ap end_of_lines r.0 ∙ sym q.2), r.1))
 
 one_trace : (spec view events queries : File) (d e : End) (t s : List ℕ) → Traces spec view events queries d t → Traces spec view events queries e s → AreSame d e t s
 one_trace spec view events queries =
     one_spec_stage spec _ (λ g p.
     one_view_stage spec.bytes g p view _ (λ u q.
-    one_stage long_most Events events (TellsRun g instance_most) (RefusesRun g instance_most) _ (one_run g instance_most events.bytes) (one_refusal_of_run g instance_most events.bytes) (no_refusal_of_run g instance_most events.bytes) (λ r told.
+    same_outcome long_most Events events (TellsRun g instance_most) (RefusesRun g instance_most) _ _ (one_run g instance_most events.bytes) (one_refusal_of_run g instance_most events.bytes) (no_refusal_of_run g instance_most events.bytes) (λ r told.
     one_queries_stage (IsAnswer g u r) (one_run_word g u r (told_proper spec.bytes g p) (told_composites g (told_formed spec.bytes g p) view.bytes u q) told.accepted.0) queries)))
 
 one_ask : (spec view labels queries : File) (d e : End) (t s : List ℕ) → Asks spec view labels queries d t → Asks spec view labels queries e s → AreSame d e t s
 one_ask spec view labels queries =
     one_spec_stage spec _ (λ g p.
     one_view_stage spec.bytes g p view _ (λ u q.
-    one_stage long_most Labels labels (TellsEntries g) (OfWhole (RefusesLabels g)) _ (one_entries g labels.bytes) (one_refusal_of_labels g labels.bytes) (no_refusal_of_labels g labels.bytes) (λ es told.
+    same_outcome long_most Labels labels (TellsEntries g) (OfWhole (RefusesLabels g)) _ _ (one_entries g labels.bytes) (one_refusal_of_labels g labels.bytes) (no_refusal_of_labels g labels.bytes) (λ es told.
     one_queries_stage (IsAnswerText g u es) (one_word g u es (told_differ g labels.bytes es told)) queries)))
 
 -- lines of events are ingested in one way
@@ -132,7 +94,7 @@ one_ingest spec events = one_spec_stage spec _ (λ g told. one_events g events)
 
 one_check : (spec : File) (d e : End) (t s : List ℕ) → Checks spec d t → Checks spec e s → AreSame d e t s
 one_check spec = one_spec_stage spec IsChecked (λ g told d e t s p q.
-    (p.0 ∙ sym q.0, p.1.4 ∙ (one_text g (subst IsLinear (sym told.is) told.linear) p.1.0 q.1.0 p.1.2 q.1.2 p.1.1 q.1.1 p.1.3 q.1.3 ∙ sym q.1.4)))
+    (p.0 ∙ sym q.0, p.1.4 ∙ (one_text g (told_linear spec.bytes g told) p.1.0 q.1.0 p.1.2 q.1.2 p.1.1 q.1.1 p.1.3 q.1.3 ∙ sym q.1.4)))
 
 one_views : (spec view : File) (d e : End) (t s : List ℕ) → Views spec view d t → Views spec view e s → AreSame d e t s
 one_views spec view = one_spec_stage spec _ (λ g told. one_view_stage spec.bytes g told view (IsViewWritten g) (λ u shown d e t s p q. (

@@ -8,9 +8,9 @@ use Rattle.wf_spec.specs.declared.fault.FormFault.{FormFault}
 use Rattle.wf_spec.specs.declared.fault.FormFault.TheVariants.{NoMemory as NoMemoryOfForm}
 use Rattle.wf_spec.specs.Forming.{grammar_of, IsFormed}
 use Rattle.wf_spec.specs.Rules.{IsFaultOf}
-use Rattle.wf_top.specs.declared.ending.Place.TheVariants.{Spec}
-use Rattle.wf_top.specs.Endings.{End, Refused, NoMemory}
-use Rattle.wf_top.specs.Refusals.{form_text}
+use Rattle.wf_message.specs.declared.ending.Place.TheVariants.{Spec}
+use Rattle.wf_message.specs.Endings.{End, Refused, NoMemory}
+use Rattle.wf_message.specs.Refusals.{form_text}
 use Rattle.wf_top.specs.Specification.{IsSpecText, TellsGrammar, RefusesGrammar, RefusesParts, RefusesSpec}
 use Rattle.wf_top.specs.Telling.{OfWhole}
 use Rattle.wf_top.specs.Stages.{Declines}

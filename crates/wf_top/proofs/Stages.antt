@@ -2,9 +2,9 @@
 use Rattle.std.proofs.Common.{◌≡◌, ◌⊎◌, ℕ, List, [], take, Option, None, refl, sym, ap, ◌∙◌, subst, inl, inr, ⊎_elim, arith, true≢false}
 use Rattle.std.specs.Prelude.{Result, Err, IfErr, Bool}
 use Rattle.wf_io.specs.Told.{File, Appended}
-use Rattle.wf_top.specs.declared.ending.Ending.{Ending}
-use Rattle.wf_top.specs.declared.ending.Place.{Place}
-use Rattle.wf_top.specs.Endings.{End, Done, Usage, Refused, ReadFault, WriteFault, NoMemory, end_of, end_after}
+use Rattle.wf_message.specs.declared.ending.Ending.{Ending}
+use Rattle.wf_message.specs.declared.ending.Place.{Place}
+use Rattle.wf_message.specs.Endings.{End, Done, Usage, Refused, ReadFault, WriteFault, NoMemory, end_of, end_after}
 use Rattle.wf_top.specs.Telling.{OfWhole, RefusesNone}
 use Rattle.wf_top.specs.Outcome.{Stage, too_long, broken, refused, goes_on}
 use Rattle.wf_top.specs.Meets.{EndsBy, IsOfOutcome}

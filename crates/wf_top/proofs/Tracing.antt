@@ -7,9 +7,9 @@ use Rattle.wf_io.specs.Told.{File}
 use Rattle.wf_spec.specs.Held.{HeldGrammar}
 use Rattle.wf_flat.specs.Table.{Table, events_of}
 use Rattle.wf_top.specs.declared.view.Viewed.{Viewed}
-use Rattle.wf_top.specs.declared.ending.Place.TheVariants.{Spec, Events}
+use Rattle.wf_message.specs.declared.ending.Place.TheVariants.{Spec, Events}
 use Rattle.wf_top.specs.Answers.{IsAnswer}
-use Rattle.wf_top.specs.Endings.{End}
+use Rattle.wf_message.specs.Endings.{End}
 use Rattle.wf_top.specs.Words.{Command}
 use Rattle.wf_top.specs.Specification.{TellsGrammar, RefusesSpec}
 use Rattle.wf_top.specs.Telling.{OfWhole}

@@ -9,8 +9,8 @@ use Rattle.label_model.specs.Reading.{IsLabelBytes}
 use Rattle.wf_label.specs.Values.{AreLabelBits}
 use Rattle.verdict_model.specs.declared.verdict.Verdict.{Verdict}
 use Rattle.verdict_model.specs.Verdicts.{IsVerdict}
-use Rattle.wf_top.specs.declared.ending.Place.TheVariants.{FirstLabel, SecondLabel}
-use Rattle.wf_top.specs.Endings.{End, Done, Refused, WriteFault}
+use Rattle.wf_message.specs.declared.ending.Place.TheVariants.{FirstLabel, SecondLabel}
+use Rattle.wf_message.specs.Endings.{End, Done, Refused, WriteFault}
 use Rattle.wf_top.specs.Decided.{AreOfLabel, verdict_text, DecidesLabels, first_malformed, second_malformed, decided}
 use Rattle.wf_io.specs.Told.{Appended}
 use Rattle.wf_top.specs.Meets.{EndsBy, IsWritten}

@@ -1,13 +1,13 @@
 -- Stages over one file that differ in what follows, and stages over a file that tells a value.
 use Rattle.std.proofs.Common.{◌≡◌, ℕ, ◌<◌, ◌≤◌, false, List, length, Option, sym, ap, ◌∙◌, subst, arith, true≢false}
 use Rattle.wf_io.specs.Told.{File}
-use Rattle.wf_top.specs.declared.ending.Place.{Place}
-use Rattle.wf_top.specs.Endings.{End, Refused}
+use Rattle.wf_message.specs.declared.ending.Place.{Place}
+use Rattle.wf_message.specs.Endings.{End, Refused}
 use Rattle.wf_top.specs.Outcome.{Stage, too_long, broken, refused, goes_on}
 
 -- what is too long is not short
-not_both : {m n : ℕ} → m < n → n ≤ m → ⊥
-not_both l s = absurd (omega arith)
+pub past_most : {m n : ℕ} → m < n → n ≤ m → ⊥
+past_most l s = absurd (omega arith)
 
 module _ {A : Type 0} (most : ℕ) (place : Place) (file : File) (Tells : List ℕ → A → Type 0) (Refuses : List ℕ → Option ℕ → List ℕ → Type 0) (Next Other : A → End → List ℕ → Type 0)
     (one : (a b : A) → Tells file.bytes a → Tells file.bytes b → b ≡ a)
@@ -17,18 +17,18 @@ module _ {A : Type 0} (most : ℕ) (place : Place) (file : File) (Tells : List �
   -- two stages over one file have one outcome where what follows has
   pub same_outcome : (d e : End) (t s : List ℕ) → Stage most place file Tells Refuses Next d t → Stage most place file Tells Refuses Other e s → (d ≡ e) × (t ≡ s)
   same_outcome d e t s (too_long l x y) (too_long m u v) = (x ∙ sym u, y ∙ sym v)
-  same_outcome d e t s (too_long l x y) (broken m b u v) = absurd (not_both l m)
-  same_outcome d e t s (too_long l x y) (refused m b n f h u v) = absurd (not_both l m)
-  same_outcome d e t s (too_long l x y) (goes_on m b c h n) = absurd (not_both l m)
-  same_outcome d e t s (broken l a x y) (too_long m u v) = absurd (not_both m l)
+  same_outcome d e t s (too_long l x y) (broken m b u v) = absurd (past_most l m)
+  same_outcome d e t s (too_long l x y) (refused m b n f h u v) = absurd (past_most l m)
+  same_outcome d e t s (too_long l x y) (goes_on m b c h n) = absurd (past_most l m)
+  same_outcome d e t s (broken l a x y) (too_long m u v) = absurd (past_most m l)
   same_outcome d e t s (broken l a x y) (broken m b u v) = (x ∙ sym u, y ∙ sym v)
   same_outcome d e t s (broken l a x y) (refused m b n f h u v) = absurd (true≢false (sym a ∙ b))
   same_outcome d e t s (broken l a x y) (goes_on m b c h n) = absurd (true≢false (sym a ∙ b))
-  same_outcome d e t s (refused l a n f k x y) (too_long m u v) = absurd (not_both m l)
+  same_outcome d e t s (refused l a n f k x y) (too_long m u v) = absurd (past_most m l)
   same_outcome d e t s (refused l a n f k x y) (broken m b u v) = absurd (true≢false (sym b ∙ a))
   same_outcome d e t s (refused l a n f k x y) (refused m b o g h u v) = let r = one_fault n o f g k h in (x ∙ (ap (λ z. Refused place z f) r.0 ∙ (ap (Refused place o) r.1 ∙ sym u)), y ∙ sym v)
   same_outcome d e t s (refused l a n f k x y) (goes_on m b c h o) = absurd (apart c n f h k)
-  same_outcome d e t s (goes_on l a z k n) (too_long m u v) = absurd (not_both m l)
+  same_outcome d e t s (goes_on l a z k n) (too_long m u v) = absurd (past_most m l)
   same_outcome d e t s (goes_on l a z k n) (broken m b u v) = absurd (true≢false (sym b ∙ a))
   same_outcome d e t s (goes_on l a z k n) (refused m b o f h u v) = absurd (apart z o f k h)
   same_outcome d e t s (goes_on l a z k n) (goes_on m b c h o) = alike z k d e t s n (subst (λ x. Other x e s) (one z c k h) o)
@@ -39,7 +39,7 @@ module _ {A : Type 0} (most : ℕ) (place : Place) (file : File) (Tells : List �
     (taken : (l : Option ℕ) (x : List ℕ) → Refuses file.bytes l x → ⊥) where
   -- a stage over a whole file that tells one value goes on with it
   pub stage_goes_on : (d : End) (t : List ℕ) → Stage most place file Tells Refuses Next d t → Next a d t
-  stage_goes_on d t (too_long l x y) = absurd (not_both l short)
+  stage_goes_on d t (too_long l x y) = absurd (past_most l short)
   stage_goes_on d t (broken l b x y) = absurd (true≢false (sym b ∙ whole))
   stage_goes_on d t (refused l b n f r x y) = absurd (taken n f r)
   stage_goes_on d t (goes_on l b c h n) = subst (λ z. Next z d t) (only c h) n

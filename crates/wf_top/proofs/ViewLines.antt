@@ -2,7 +2,7 @@
 use Rattle.std.proofs.Common.{◌≡◌, ℕ, Bool, true, cond, List, [], ◌++◌, get_or, take, Option, Some, None, sym, ap, ◌∙◌}
 use Rattle.bool_mat.specs.Matrix.{has}
 use Rattle.wf_model.specs.Meaning.{bit_of, pairs_of}
-use Rattle.wf_top.specs.Endings.{WriteFault}
+use Rattle.wf_message.specs.Endings.{WriteFault}
 use Rattle.wf_io.specs.Told.{Appended}
 use Rattle.wf_top.specs.Meets.{EndsBy, IsWritten}
 use Rattle.wf_top.proofs.Writing.{part_written}

@@ -13,9 +13,9 @@ use Rattle.wf_view.specs.declared.fault.ViewFault.{ViewFault}
 use Rattle.wf_view.specs.declared.fault.ViewFault.TheVariants.{NoMemory as NoMemoryOfView}
 use Rattle.wf_view.specs.Viewing.{view_of}
 use Rattle.wf_view.specs.Rules.{IsViewed, IsFaultOf}
-use Rattle.wf_top.specs.declared.ending.Place.TheVariants.{View as AtView}
-use Rattle.wf_top.specs.Endings.{End, Refused, NoMemory}
-use Rattle.wf_top.specs.Refusals.{view_text, unsafe_text}
+use Rattle.wf_message.specs.declared.ending.Place.TheVariants.{View as AtView}
+use Rattle.wf_message.specs.Endings.{End, Refused, NoMemory}
+use Rattle.wf_message.specs.Refusals.{view_text, unsafe_text}
 use Rattle.wf_top.specs.ViewTold.{IsViewText, TellsView, RefusesUnsafe, RefusesViewParts, RefusesView}
 use Rattle.wf_top.specs.Telling.{OfWhole}
 use Rattle.wf_top.specs.Stages.{Declines}

@@ -3,8 +3,8 @@ use Rattle.std.proofs.Common.{◌≡◌, List, ℕ, Option}
 use Rattle.wf_model.specs.Grammar.{Grammar}
 use Rattle.wf_model.specs.View.{View as ViewOf}
 use Rattle.wf_io.specs.Told.{File}
-use Rattle.wf_top.specs.declared.ending.Place.TheVariants.{View}
-use Rattle.wf_top.specs.Endings.{End}
+use Rattle.wf_message.specs.declared.ending.Place.TheVariants.{View}
+use Rattle.wf_message.specs.Endings.{End}
 use Rattle.wf_top.specs.ViewTold.{TellsView, RefusesView}
 use Rattle.wf_top.specs.Telling.{OfWhole}
 use Rattle.wf_top.specs.Outcome.{ViewStage, short_most}

@@ -5,7 +5,7 @@ use Rattle.wf_model.specs.Lists.{numbers_from}
 use Rattle.wf_model.specs.Grammar.{Grammar}
 use Rattle.wf_model.specs.Meaning.{pairs_of}
 use Rattle.wf_view.specs.Held.{HeldView}
-use Rattle.wf_top.specs.Endings.{End, Done}
+use Rattle.wf_message.specs.Endings.{End, Done}
 use Rattle.wf_top.specs.ViewText.{module_line, view_text_of}
 use Rattle.wf_top.specs.Viewed.{IsViewedBy}
 use Rattle.wf_top.specs.Outcome.{IsViewWritten}

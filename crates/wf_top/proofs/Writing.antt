@@ -1,7 +1,7 @@
 -- A text that is written piece by piece.
 use Rattle.std.proofs.Common.{◌≡◌, ℕ, Bool, List, ◌++◌, length, take, Option, refl, sym, ap, ◌∙◌, subst, arith, append_assoc}
 use Rattle.std.proofs.lemmas.List.{take_all}
-use Rattle.wf_top.specs.Endings.{End, Done, WriteFault}
+use Rattle.wf_message.specs.Endings.{End, Done, WriteFault}
 use Rattle.wf_io.specs.Told.{Appended}
 use Rattle.wf_top.specs.Meets.{EndsBy, IsWritten}
 use Rattle.wf_top.specs.Stages.{IsWritingCause}

@@ -3,7 +3,7 @@ use Rattle.std.specs.Prelude.{Result, Ok, Err}
 use Rattle.wf_query.specs.Lines.{WrongAt, TooLongAt}
 use Rattle.wf_query.specs.declared.batching.BatchFault.{BatchFault}
 use Rattle.wf_query.specs.declared.batching.BatchFault.TheVariants.{LineWrong, LineTooLong, WriteFault as WritingFailed, NoMemory as WantedMemory}
-use Rattle.wf_top.specs.Endings.{End, Done, WriteFault, NoMemory}
+use Rattle.wf_message.specs.Endings.{End, Done, WriteFault, NoMemory}
 use Rattle.wf_top.specs.Outcome.{end_of_lines}
 
 -- the end that a fault is

@@ -5,7 +5,7 @@ use Rattle.wf_model.specs.Grammar.{Grammar, Production, module_at}
 use Rattle.wf_json.specs.Canonical.{canonical_of}
 use Rattle.wf_check.specs.Proper.{Ranking}
 use Rattle.wf_recur.specs.Cycles.{OnSeen, CyclesSeen}
-use Rattle.wf_top.specs.Refusals.{step_text}
+use Rattle.wf_message.specs.Refusals.{step_text}
 
 -- a module is the head of a production
 abbrev pub is_composite : Grammar → ℕ → Bool

@@ -8,8 +8,8 @@ use Rattle.label_model.specs.Reading.{IsLabelBytes}
 use Rattle.verdict_model.specs.declared.verdict.Verdict.{Verdict}
 use Rattle.verdict_model.specs.declared.verdict.Verdict.TheVariants.{Hidden1, Hidden2, Clash, Yes, No}
 use Rattle.verdict_model.specs.Verdicts.{IsVerdict}
-use Rattle.wf_top.specs.declared.ending.Place.TheVariants.{FirstLabel, SecondLabel}
-use Rattle.wf_top.specs.Endings.{End, Done, Refused}
+use Rattle.wf_message.specs.declared.ending.Place.TheVariants.{FirstLabel, SecondLabel}
+use Rattle.wf_message.specs.Endings.{End, Done, Refused}
 
 -- the words of a verdict
 abbrev pub verdict_text : Verdict → List ℕ

@@ -7,8 +7,8 @@ use Rattle.wf_model.specs.Run.{IsAccepted}
 use Rattle.wf_io.specs.Lines.{Line}
 use Rattle.wf_json.specs.Canonical.{canonical_of}
 use Rattle.label_model.specs.Files.{head_bytes, label_file}
-use Rattle.wf_top.specs.declared.ending.Place.TheVariants.{Events}
-use Rattle.wf_top.specs.Endings.{End, Done, Refused}
+use Rattle.wf_message.specs.declared.ending.Place.TheVariants.{Events}
+use Rattle.wf_message.specs.Endings.{End, Done, Refused}
 use Rattle.wf_top.specs.RunTold.{AreEvents, RefusesLine}
 
 -- the label file of a run of a grammar, with the digest of the grammar in its head

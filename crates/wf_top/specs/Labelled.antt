@@ -7,8 +7,8 @@ use Rattle.wf_model.specs.Run.{IsAccepted}
 use Rattle.label_model.specs.RunLabels.{labelled_by}
 use Rattle.label_model.specs.Files.{Entry, entry_of, entry_bytes}
 use Rattle.wf_run.specs.Runs.{RunSeen, IsRunOf}
-use Rattle.wf_top.specs.declared.ending.Place.TheVariants.{Events}
-use Rattle.wf_top.specs.Endings.{End, Done, Usage, Refused, ReadFault, WriteFault, NoMemory}
+use Rattle.wf_message.specs.declared.ending.Place.TheVariants.{Events}
+use Rattle.wf_message.specs.Endings.{End, Done, Usage, Refused, ReadFault, WriteFault, NoMemory}
 use Rattle.wf_top.specs.Telling.{AtLine}
 use Rattle.wf_top.specs.RunTold.{IsEventText, RefusesText}
 use Rattle.wf_io.specs.Told.{Appended}

@@ -15,7 +15,7 @@ use Rattle.wf_query.specs.Answers.{IsAnswerText}
 use Rattle.wf_top.specs.Answers.{IsAnswer}
 use Rattle.wf_top.specs.Ingested.{file_of}
 use Rattle.wf_top.specs.LabelsTold.{TellsEntries}
-use Rattle.wf_top.specs.Endings.{End, Done}
+use Rattle.wf_message.specs.Endings.{End, Done}
 use Rattle.wf_top.specs.Outcome.{IsOutcome, long_most, instance_most}
 
 -- words and files have one outcome at most: one end and one text

@@ -1,8 +1,6 @@
 pub mod Words
 pub mod Called
 pub mod Answers
-pub mod Refusals
-pub mod Endings
 pub mod Specification
 pub mod Telling
 pub mod RunTold

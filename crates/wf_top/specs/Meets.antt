@@ -1,20 +1,10 @@
 -- How a call stands to the outcome: what was put, and the line for err.
-use Rattle.std.specs.Prelude.{◌≡◌, ◌≢◌, ◌⊎◌, ℕ, Bool, List, ◌++◌, take, Option, Some, Result, MatchResult}
-use Rattle.wf_io.specs.Told.{File, Rose, Appended}
-use Rattle.wf_top.specs.declared.status.Status.{Status}
-use Rattle.wf_top.specs.Endings.{End, Done, WriteFault, NoMemory, status_of, line_of}
+use Rattle.std.specs.Prelude.{◌≡◌, ◌≢◌, ℕ, Bool, List, ◌++◌, take, Option, Some}
+use Rattle.wf_io.specs.Told.{File, Appended}
+use Rattle.wf_message.specs.declared.status.Status.{Status}
+use Rattle.wf_message.specs.Endings.{End, Done, WriteFault, NoMemory, status_of, line_of}
+use Rattle.wf_message.specs.Puts.{IsPut}
 use Rattle.wf_top.specs.Outcome.{IsOutcome}
-
--- a text was put whole, and the count of faults is as it was; or the count rose, and a beginning of the text was put
-abbrev pub IsPut : List ℕ → Option (List ℕ) → Option (List ℕ) → ℕ → ℕ → Bool → Type 0
-IsPut text old new before after at_last =
-    (Appended text old new × (after ≡ before)) ⊎ (Rose before after at_last × ((k : ℕ) × Appended (take k text) old new))
-
--- so at a result that tells which of the two it is, where a sink is seen by its bytes, its count and whether that stands at its last value
-abbrev pub Puts : {S T E : Type 0} → (S → Option (List ℕ)) → (S → ℕ) → (S → Bool) → List ℕ → S → S → Result T E → Type 0
-Puts bytes faults last text old new result =
-    MatchResult result (λ _. Appended text (bytes old) (bytes new) × (faults new ≡ faults old))
-    (λ _. Rose (faults old) (faults new) (last new) × ((k : ℕ) × Appended (take k text) (bytes old) (bytes new)))
 
 -- the end is neither want of memory nor a fault of writing
 abbrev pub IsOfOutcome : End → Type 0

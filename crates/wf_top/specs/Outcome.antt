@@ -1,8 +1,7 @@
 -- What the program does, by its words and the files that they name: how it ends, and the text that it writes to out.
 use Rattle.std.specs.Prelude.{◌≡◌, ◌<◌, ◌≤◌, ℕ, Bool, true, false, List, [], length, Option, Some, None, codes}
-use Rattle.wf_model.specs.Grammar.{Grammar}
+use Rattle.wf_model.specs.Grammar.{Grammar, Assignment}
 use Rattle.wf_model.specs.View.{View as ViewOf}
-use Rattle.wf_model.specs.Grammar.{Assignment}
 use Rattle.wf_model.specs.Safe.{IsFull}
 use Rattle.wf_io.specs.Told.{File}
 use Rattle.wf_io.specs.Lines.{Line, lines_of}
@@ -10,9 +9,9 @@ use Rattle.wf_query.specs.Answers.{IsAnswerText}
 use Rattle.wf_query.specs.Lines.{Ended, All, WrongAt, TooLongAt, AreAnswered}
 use Rattle.wf_check.specs.Proper.{Ranking, IsRankingOf}
 use Rattle.wf_recur.specs.Cycles.{CyclesSeen, AreCyclesOf}
-use Rattle.wf_top.specs.declared.ending.Place.{Place}
-use Rattle.wf_top.specs.declared.ending.Place.TheVariants.{Spec, View, Events, Labels, Queries, FirstLabel, SecondLabel}
-use Rattle.wf_top.specs.Endings.{End, Done, Usage, Refused, ReadFault}
+use Rattle.wf_message.specs.declared.ending.Place.{Place}
+use Rattle.wf_message.specs.declared.ending.Place.TheVariants.{Spec, View, Events, Labels, Queries}
+use Rattle.wf_message.specs.Endings.{End, Done, Usage, Refused, ReadFault, long_fault}
 use Rattle.wf_top.specs.Specification.{TellsGrammar, RefusesSpec}
 use Rattle.wf_top.specs.ViewTold.{TellsView, RefusesView}
 use Rattle.wf_top.specs.ViewText.{IsSeenTest, view_text_of}
@@ -24,16 +23,6 @@ use Rattle.wf_top.specs.Answers.{IsAnswer}
 use Rattle.wf_top.specs.Ingested.{IngestsLines, file_of}
 use Rattle.wf_top.specs.Decided.{DecidesLabels}
 use Rattle.wf_top.specs.Words.{Command, Check, View as ViewCommand, Ingest, Trace, Ask, Decide, command_of}
-
--- the fault of a file that is too long; a label is refused otherwise
-abbrev pub long_fault : Place → List ℕ
-long_fault Spec = codes "TooLong"
-long_fault View = codes "TooLong"
-long_fault Events = codes "NotBuilt"
-long_fault Labels = codes "TooLong"
-long_fault Queries = codes "NotBuilt"
-long_fault FirstLabel = codes "TooLong"
-long_fault SecondLabel = codes "TooLong"
 
 -- A stage reads a whole file of at most so many bytes, takes from it a value that the bytes tell, and goes on with it.
 -- It ends the program where the file is longer, is broken, or holds bytes that are refused.

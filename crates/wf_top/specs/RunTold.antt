@@ -9,7 +9,7 @@ use Rattle.wf_model.specs.Faults.{fault_of}
 use Rattle.wf_io.specs.Lines.{Line, is_too_long, text_of, lines_of}
 use Rattle.wf_json.specs.Reading.{IsReading, HasNoReading}
 use Rattle.wf_events.specs.EventForm.{event_of}
-use Rattle.wf_top.specs.Refusals.{run_name}
+use Rattle.wf_message.specs.Refusals.{run_name}
 use Rattle.wf_top.specs.Telling.{AtLine}
 
 -- the text is an event in JSON

@@ -15,7 +15,7 @@ use Rattle.wf_check.specs.declared.fault.CheckFault.{CheckFault}
 use Rattle.wf_check.specs.Improper.{IsFaultOf as IsFaultOfGrammar}
 use Rattle.wf_recur.specs.declared.fault.RecurFault.{RecurFault}
 use Rattle.wf_recur.specs.Loops.{IsFaultOf as HasTwoLoops}
-use Rattle.wf_top.specs.Refusals.{shape_text, form_text, check_text, recur_text}
+use Rattle.wf_message.specs.Refusals.{shape_text, form_text, check_text, recur_text}
 
 -- the bytes are a specification in JSON
 abbrev pub IsSpecText : List ℕ → Parts → Type 0

@@ -1,9 +1,8 @@
 -- What is known of a stage: the value that it goes on with, or why it ends the program.
 use Rattle.std.specs.Prelude.{◌≡◌, ◌⊎◌, ◌<◌, ◌≤◌, ℕ, Bool, true, false, List, length, Option, None}
 use Rattle.wf_io.specs.Told.{File, Rose}
-use Rattle.wf_top.specs.declared.ending.Place.{Place}
-use Rattle.wf_top.specs.Endings.{End, Done, Usage, Refused, ReadFault, WriteFault, NoMemory}
-use Rattle.wf_top.specs.Outcome.{long_fault}
+use Rattle.wf_message.specs.declared.ending.Place.{Place}
+use Rattle.wf_message.specs.Endings.{End, Done, Usage, Refused, ReadFault, WriteFault, NoMemory, long_fault}
 
 -- a file of at most so many bytes, which is whole, tells a value
 pub record IsTold {A : Type 0} (most : ℕ) (file : File) (Tells : List ℕ → A → Type 0) (a : A) : Type 0 where

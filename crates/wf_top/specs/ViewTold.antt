@@ -14,7 +14,7 @@ use Rattle.wf_view.specs.Viewing.{view_of}
 use Rattle.wf_view.specs.Rules.{IsViewed, IsFaultOf}
 use Rattle.wf_safe.specs.declared.witness.Witness.{Witness}
 use Rattle.wf_safe.specs.Witness.{IsFirstWitness}
-use Rattle.wf_top.specs.Refusals.{shape_text, view_text, unsafe_text}
+use Rattle.wf_message.specs.Refusals.{shape_text, view_text, unsafe_text}
 
 -- the bytes are a view in JSON
 abbrev pub IsViewText : List ℕ → ViewParts → Type 0

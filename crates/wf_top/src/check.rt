@@ -4,16 +4,16 @@ ghost use Rattle.wf_io.specs.Told.{File};
 ghost use Rattle.wf_model.specs.Linear.{IsLinear};
 ghost use Rattle.wf_check.specs.Proper.{IsRankingOf};
 ghost use Rattle.wf_recur.specs.Cycles.{AreCyclesOf};
-ghost use Rattle.wf_top.specs.Endings.{end_of, end_after};
+ghost use Rattle.wf_message.specs.Endings.{end_of, end_after};
 ghost use Rattle.wf_top.specs.Outcome.{IsChecked, Checks};
 ghost use Rattle.wf_top.specs.Meets.{EndsBy};
 ghost use Rattle.wf_top.specs.Stages.{IsWritingCause, IsCause, IsStop};
 
 use crate::check_text::check_text;
-use crate::ending::Ending;
 use crate::spec::{Spec, spec_stage};
 use std::alloc::Global;
 use wf_io::{Shelf, Sink};
+use wf_message::Ending;
 
 /// Puts the text of a grammar. It is made whole before it is put, so that want of memory leaves `out` as it was.
 fn put_text<O: Sink>(alloc: Global, spec: &Spec, out: &mut O) -> Result<(), Ending>

@@ -2,14 +2,14 @@
 ghost use Rattle.std.specs.Prelude.{◌≡◌, ◌<◌, ◌++◌, [], Some, None, cond, length, flat_map, get_or, decimal, IfOk, OnOk};
 ghost use Rattle.wf_check.specs.Proper.{IsRankingOf};
 ghost use Rattle.wf_recur.specs.Cycles.{AreCyclesOf, on_of, step_of};
-ghost use Rattle.wf_top.specs.Refusals.{step_text};
+ghost use Rattle.wf_message.specs.Refusals.{step_text};
 ghost use Rattle.wf_top.specs.CheckText.{is_composite, composite_modules, cycle_text, check_line, check_text_of};
 
-use crate::names::{module_name, position_name};
 use itoa::Buffer;
 use std::alloc::{AllocError, Global};
 use wf_check::Proper;
 use wf_json::canonical;
+use wf_message::{module_name, position_name};
 use wf_recur::{Cycles, OnCycle};
 use wf_spec::{Grammar, ModNo, Step};
 

@@ -9,15 +9,13 @@ ghost use Rattle.wf_recur.specs.Cycles.{AreCyclesOf};
 ghost use Rattle.wf_label.specs.Values.{AreLabelBits};
 ghost use Rattle.wf_top.specs.Called.{AreDigits, bytes_in};
 ghost use Rattle.wf_top.specs.Decided.{DecidesLabels, verdict_text};
-ghost use Rattle.wf_top.specs.Endings.{end_of, end_after, Refused, NoMemory};
+ghost use Rattle.wf_message.specs.Endings.{end_of, end_after, Refused, NoMemory};
 ghost use Rattle.wf_top.specs.Outcome.{Decides};
 ghost use Rattle.wf_top.specs.Viewed.{IsViewedBy};
 ghost use Rattle.wf_top.specs.Meets.{EndsBy};
 ghost use Rattle.wf_top.specs.Stages.{IsWritingCause, IsCause, IsStop};
 
 use crate::command::DecideWords;
-use crate::ending::{Ending, Place, refused_whole};
-use crate::refusal::Refusal;
 use crate::spec::spec_stage;
 use crate::verdict::verdict_of;
 use crate::view::{Viewed, view_stage};
@@ -25,6 +23,7 @@ use std::alloc::Global;
 use verdict_model::Verdict;
 use wf_io::{Shelf, Sink};
 use wf_label::LabelRef;
+use wf_message::{Ending, Place, Refusal, refused_whole};
 
 /// The words of a verdict, and a newline.
 fn verdict_line(verdict: Verdict) -> &'static [u8]

@@ -3,20 +3,19 @@ ghost use Rattle.std.specs.Prelude.{◌≡◌, ◌++◌, ◌∷◌, [], Some, No
 ghost use Rattle.wf_model.specs.Faults.{fault_of};
 ghost use Rattle.wf_model.specs.declared.event.Event.{Event};
 ghost use Rattle.wf_flat.specs.Table.{IsRunOf, events_of};
-ghost use Rattle.wf_top.specs.Endings.{end_of, Refused};
-ghost use Rattle.wf_top.specs.Refusals.{refusal_text};
+ghost use Rattle.wf_message.specs.Endings.{end_of, Refused};
+ghost use Rattle.wf_message.specs.Refusals.{refusal_text};
 ghost use Rattle.wf_top.specs.Telling.{AtLine};
 ghost use Rattle.wf_top.specs.RunTold.{IsEventText, TellsRun, RefusesForm, RefusesText, RefusesRun};
 ghost use Rattle.wf_top.specs.Outcome.{instance_most};
 ghost use Rattle.wf_top.specs.Stages.{Declines};
-ghost use Rattle.wf_top.specs.declared.ending.Place.TheVariants.{Events};
+ghost use Rattle.wf_message.specs.declared.ending.Place.TheVariants.{Events};
 
-use crate::ending::{Ending, Place};
-use crate::refusal::Refusal;
 use std::alloc::Global;
 use wf_events::{EventFault, read_event};
 use wf_flat::PlainRun;
 use wf_io::WholeLines;
+use wf_message::{Ending, Place, Refusal};
 use wf_spec::{Event, Grammar, RunFault};
 
 /// The greatest number of instances of a run.

@@ -1,13 +1,13 @@
 // A whole file, as the first part of a stage.
 ghost use Rattle.std.specs.Prelude.{◌≡◌, ◌<◌, ◌≤◌, ℕ, List, Some, IfOk, IfErr, OnOk, length};
 ghost use Rattle.wf_io.specs.Told.{File, Rose};
-ghost use Rattle.wf_top.specs.Endings.{end_of};
+ghost use Rattle.wf_message.specs.Endings.{end_of};
 ghost use Rattle.wf_top.specs.Stages.{IsTold, StopsAt, IsReadingCause, Holds};
 ghost use Rattle.wf_top.specs.Telling.{RefusesNone};
 
-use crate::ending::{Ending, Place, too_long};
 use std::alloc::Global;
 use wf_io::{ReadFault, Shelf, read_all};
+use wf_message::{Ending, Place, too_long};
 
 /// The greatest length of a specification and of a view, in bytes.
 pub const SHORT: u64 = 16777216;

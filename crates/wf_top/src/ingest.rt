@@ -3,13 +3,12 @@ ghost use Rattle.std.specs.Prelude.{◌≡◌, ◌≤◌, ℕ, List, Some, IfErr
 ghost use Rattle.wf_io.specs.Told.{File};
 ghost use Rattle.wf_model.specs.Linear.{IsLinear};
 ghost use Rattle.wf_recur.specs.Cycles.{AreCyclesOf};
-ghost use Rattle.wf_top.specs.Endings.{end_of, end_after};
+ghost use Rattle.wf_message.specs.Endings.{end_of, end_after};
 ghost use Rattle.wf_top.specs.Ingested.{file_head};
 ghost use Rattle.wf_top.specs.Outcome.{IngestsEvents, Ingests};
 ghost use Rattle.wf_top.specs.Meets.{EndsBy, EndsBehind, IsWritten};
 ghost use Rattle.wf_top.specs.Stages.{IsWritingCause, IsCause, IsStop};
 
-use crate::ending::{Ending, Place};
 use crate::file::{LONG, read_file};
 use crate::label_lines::label_lines;
 use crate::spec::{Spec, spec_stage};
@@ -17,6 +16,7 @@ use label_file::append_head;
 use std::alloc::Global;
 use wf_io::{Shelf, Sink};
 use wf_json::digest;
+use wf_message::{Ending, Place};
 use wf_spec::Grammar;
 
 /// Puts the head of the label file of a grammar.

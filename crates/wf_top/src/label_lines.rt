@@ -8,8 +8,8 @@ ghost use Rattle.wf_recur.specs.Cycles.{AreCyclesOf};
 ghost use Rattle.label_model.specs.Files.{entry_bytes};
 ghost use Rattle.wf_run.specs.Runs.{IsRunOf};
 ghost use Rattle.wf_labeller.specs.Entries.{entry_seen};
-ghost use Rattle.wf_top.specs.declared.ending.Place.TheVariants.{Events};
-ghost use Rattle.wf_top.specs.Endings.{end_of, end_after};
+ghost use Rattle.wf_message.specs.declared.ending.Place.TheVariants.{Events};
+ghost use Rattle.wf_message.specs.Endings.{end_of, end_after};
 ghost use Rattle.wf_top.specs.Telling.{AtLine};
 ghost use Rattle.wf_top.specs.RunTold.{RefusesText};
 ghost use Rattle.wf_top.specs.Ingested.{IngestsLines, file_head};
@@ -19,15 +19,14 @@ ghost use Rattle.wf_io.specs.Told.{Appended};
 ghost use Rattle.wf_top.specs.Meets.{EndsBehind};
 ghost use Rattle.wf_top.specs.Stages.{Declines, IsWritingCause};
 
-use crate::ending::Ending;
 use crate::events::{INSTANCES, event_of_line, refused};
-use crate::refusal::Refusal;
 use crate::spec::Spec;
 use bumpalo::Bump;
 use label_file::append_entry;
 use std::alloc::{AllocError, Global};
 use wf_io::{Sink, WholeLines};
 use wf_labeller::{Entry, Labeller, Records};
+use wf_message::{Ending, Refusal};
 use wf_run::Run;
 use wf_spec::RunFault;
 

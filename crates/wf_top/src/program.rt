@@ -3,7 +3,7 @@ ghost use Rattle.std.specs.Prelude.{◌≡◌, ◌↔◌, ◌≤◌, ℕ, List, 
 ghost use Rattle.wf_io.specs.Told.{File, Rose};
 ghost use Rattle.wf_top.specs.Words.{command_of, IsAsk};
 ghost use Rattle.wf_top.specs.Called.{meant, HasDigits};
-ghost use Rattle.wf_top.specs.Endings.{end_of, end_after, NoMemory};
+ghost use Rattle.wf_message.specs.Endings.{end_of, end_after, NoMemory};
 ghost use Rattle.wf_top.specs.Outcome.{Does};
 ghost use Rattle.wf_top.specs.Meets.{HasEnded, EndsAsTold, EndsBy};
 ghost use Rattle.wf_top.specs.Stages.{IsCause, IsStop};
@@ -12,14 +12,12 @@ use crate::asking::ask;
 use crate::check::check;
 use crate::command::{Command, command_of};
 use crate::deciding::decide;
-use crate::ending::Ending;
 use crate::ingest::ingest;
 use crate::show::show;
-use crate::status::Status;
-use crate::tell::{status_of, tell};
 use crate::trace::trace;
 use std::alloc::Global;
 use wf_io::{Shelf, Sink};
+use wf_message::{Ending, Status, status_of, tell};
 
 /// Does what the words say over the files of a shelf: text goes to `out`, and a line on a refusal or a fault to `err`.
 ///

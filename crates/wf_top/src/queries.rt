@@ -6,17 +6,16 @@ ghost use Rattle.wf_query.specs.Lines.{ArePut, EndsAt, IsAsked, ended_by};
 ghost use Rattle.wf_flat.specs.Table.{events_of};
 ghost use Rattle.wf_top.specs.Answers.{IsAnswer};
 ghost use Rattle.wf_top.specs.Batched.{end_at};
-ghost use Rattle.wf_top.specs.Endings.{end_of, Refused};
-ghost use Rattle.wf_top.specs.Refusals.{refusal_text};
-ghost use Rattle.wf_top.specs.declared.ending.Place.TheVariants.{Queries};
+ghost use Rattle.wf_message.specs.Endings.{end_of, Refused};
+ghost use Rattle.wf_message.specs.Refusals.{refusal_text};
+ghost use Rattle.wf_message.specs.declared.ending.Place.TheVariants.{Queries};
 ghost use Rattle.wf_top.specs.Prepared.{IsPrepared};
 
 use crate::answer::answer;
-use crate::ending::{Ending, Place};
 use crate::prepared::Prepared;
-use crate::refusal::Refusal;
 use std::alloc::Global;
 use wf_io::{Sink, WholeLines};
+use wf_message::{Ending, Place, Refusal};
 use wf_query::{BatchFault, read_query};
 
 /// The ending at a line of queries that is refused.

@@ -2,19 +2,19 @@
 ghost use Rattle.std.specs.Prelude.{◌≡◌, ◌<◌, ◌≤◌, ℕ, List, [], Some, cond, false, length, get_or, IfErr, OnOk};
 ghost use Rattle.wf_io.specs.Told.{File};
 ghost use Rattle.wf_model.specs.Meaning.{pairs_of};
-ghost use Rattle.wf_top.specs.Endings.{end_of, end_after};
+ghost use Rattle.wf_message.specs.Endings.{end_of, end_after};
 ghost use Rattle.wf_top.specs.Outcome.{IsViewWritten, Views};
 ghost use Rattle.wf_top.specs.Viewed.{IsViewedBy};
 ghost use Rattle.wf_top.specs.ViewText.{module_line};
 ghost use Rattle.wf_top.specs.Meets.{EndsBy, IsWritten};
 ghost use Rattle.wf_top.specs.Stages.{IsWritingCause, IsCause, IsStop};
 
-use crate::ending::Ending;
 use crate::spec::spec_stage;
 use crate::view::{Viewed, view_stage};
 use crate::view_text::add_module_line;
 use std::alloc::Global;
 use wf_io::{Shelf, Sink};
+use wf_message::Ending;
 use wf_spec::ModNo;
 
 /// Puts the line of a module, if the module is seen. The line is made whole before it is put, in place of what `line` held.

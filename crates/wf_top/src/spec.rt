@@ -6,21 +6,20 @@ ghost use Rattle.wf_model.specs.Linear.{IsLinear};
 ghost use Rattle.wf_recur.specs.Cycles.{AreCyclesOf};
 ghost use Rattle.wf_spec.specs.Forming.{grammar_of, IsFormed};
 ghost use Rattle.wf_check.specs.Proper.{IsRankingOf};
-ghost use Rattle.wf_top.specs.declared.ending.Place.TheVariants.{Spec as AtSpec};
-ghost use Rattle.wf_top.specs.Endings.{end_of, Refused, NoMemory};
-ghost use Rattle.wf_top.specs.Refusals.{form_text};
+ghost use Rattle.wf_message.specs.declared.ending.Place.TheVariants.{Spec as AtSpec};
+ghost use Rattle.wf_message.specs.Endings.{end_of, Refused, NoMemory};
+ghost use Rattle.wf_message.specs.Refusals.{form_text};
 ghost use Rattle.wf_top.specs.Specification.{IsSpecText, TellsGrammar, RefusesSpec, RefusesParts, RefusesGrammar};
 ghost use Rattle.wf_top.specs.Telling.{OfWhole};
 ghost use Rattle.wf_top.specs.Outcome.{short_most};
 ghost use Rattle.wf_top.specs.Stages.{Declines, IsTold, StopsAt, IsReadingCause};
 
-use crate::ending::{Ending, Place};
 use crate::file::{SHORT, read_file};
-use crate::refusal::Refusal;
 use std::alloc::Global;
 use wf_check::{CheckFault, Proper, proper};
 use wf_io::Shelf;
 use wf_json::{JsonFault, read_spec};
+use wf_message::{Ending, Place, Refusal};
 use wf_recur::{Cycles, RecurFault, cycles};
 use wf_spec::{FormFault, Grammar, Parts};
 

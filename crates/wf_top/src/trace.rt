@@ -2,9 +2,9 @@
 ghost use Rattle.std.specs.Prelude.{◌≡◌, ◌≤◌, ℕ, List, Some, IfErr, IfOk, OnOk};
 ghost use Rattle.wf_io.specs.Told.{File};
 ghost use Rattle.wf_flat.specs.Table.{IsRunOf, events_of};
-ghost use Rattle.wf_top.specs.declared.ending.Place.TheVariants.{Events, Queries};
+ghost use Rattle.wf_message.specs.declared.ending.Place.TheVariants.{Events, Queries};
 ghost use Rattle.wf_top.specs.Answers.{IsAnswer};
-ghost use Rattle.wf_top.specs.Endings.{end_of, end_after};
+ghost use Rattle.wf_message.specs.Endings.{end_of, end_after};
 ghost use Rattle.wf_top.specs.RunTold.{TellsRun, RefusesRun};
 ghost use Rattle.wf_top.specs.Outcome.{QueriesStage, AnswersRun, Traces, long_most, instance_most};
 ghost use Rattle.wf_top.specs.Meets.{EndsBy};
@@ -13,7 +13,6 @@ ghost use Rattle.wf_top.specs.Prepared.{IsPrepared};
 ghost use Rattle.wf_top.specs.Viewed.{IsViewedBy};
 
 use crate::command::TraceWords;
-use crate::ending::{Ending, Place};
 use crate::events::run_of_bytes;
 use crate::file::{LONG, read_file};
 use crate::prepared::Prepared;
@@ -23,6 +22,7 @@ use crate::view::{Viewed, view_stage};
 use std::alloc::Global;
 use wf_flat::{Flat, PlainRun};
 use wf_io::{Shelf, Sink};
+use wf_message::{Ending, Place};
 
 /// The run of EVENTS.
 fn events_stage<H: Shelf>(

@@ -8,10 +8,9 @@ ghost use Rattle.wf_label.specs.Values.{AreLabelBits};
 ghost use Rattle.verdict_model.specs.Verdicts.{IsVerdict};
 ghost use Rattle.wf_vlabel.specs.Seen.{IsLabelOfView};
 ghost use Rattle.wf_decode.specs.Reading.{most_legs};
-ghost use Rattle.wf_top.specs.Endings.{end_of, NoMemory};
+ghost use Rattle.wf_message.specs.Endings.{end_of, NoMemory};
 ghost use Rattle.wf_top.specs.Viewed.{IsViewedBy};
 
-use crate::ending::Ending;
 use crate::view::Viewed;
 use bool_mat::Steps;
 use std::alloc::Global;
@@ -19,6 +18,7 @@ use std::marker::Brand;
 use std::sync::ledger::{Blank, Ledger};
 use wf_decode::{Scratch, Verdict, decide};
 use wf_label::LabelRef;
+use wf_message::Ending;
 use wf_vlabel::ViewLabel;
 
 /// The verdict on two labels, with a counter of row products of its own.

@@ -5,10 +5,10 @@ ghost use Rattle.wf_model.specs.Meaning.{pairs_of};
 ghost use Rattle.wf_body.specs.Matrices.{HasRows};
 ghost use Rattle.wf_top.specs.ViewText.{pair_text, row_text, pairs_text, state_text, module_line};
 
-use crate::names::{input_name, module_name, output_name};
 use crate::view::Viewed;
 use bool_mat::has_column;
 use std::alloc::AllocError;
+use wf_message::{input_name, module_name, output_name};
 use wf_spec::{Grammar, ModNo, PortNo};
 
 /// Appends a pair of ports of a module.

@@ -1,7 +1,7 @@
 -- The exit statuses of the program.
 use Rattle.std.specs.Prelude.{ℕ}
-use Rattle.wf_top.specs.declared.status.Status.{Status}
-use Rattle.wf_top.specs.declared.status.Status.TheVariants.{Done, Usage, Refused, ReadFault, WriteFault, NoMemory}
+use Rattle.wf_message.specs.declared.status.Status.{Status}
+use Rattle.wf_message.specs.declared.status.Status.TheVariants.{Done, Usage, Refused, ReadFault, WriteFault, NoMemory}
 
 -- the exit status that tells a status
 abbrev pub code_of : Status → ℕ

@@ -1,7 +1,7 @@
 use Rattle.std.proofs.Common.{◌∙◌, refl}
 use Rattle.std.proofs.lemmas.Result.{err_from_is_err_and}
-use Rattle.wf_top.specs.declared.ending.Place.TheVariants.{Labels}
-use Rattle.wf_top.specs.Endings.{end_of}
+use Rattle.wf_message.specs.declared.ending.Place.TheVariants.{Labels}
+use Rattle.wf_message.specs.Endings.{end_of}
 use Rattle.wf_top.specs.Telling.{OfWhole}
 use Rattle.wf_top.specs.LabelsTold.{TellsEntries, RefusesLabels}
 use Rattle.wf_top.specs.Outcome.{long_most}

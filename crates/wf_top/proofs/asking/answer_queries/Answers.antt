@@ -9,7 +9,7 @@ use Rattle.wf_io.specs.Lines.{Line, lines_of}
 use Rattle.wf_query.specs.declared.batching.BatchFault.{BatchFault}
 use Rattle.wf_query.specs.Answers.{IsAnswerText}
 use Rattle.wf_query.specs.Lines.{Ended, ArePut, ended_by}
-use Rattle.wf_top.specs.Endings.{end_of}
+use Rattle.wf_message.specs.Endings.{end_of}
 use Rattle.wf_top.proofs.Stages.{passed_on, wanting}
 use Rattle.wf_top.proofs.AnsweredLines.{queries_stop, queries_put, fault_stops, fault_caused}
 use Rattle.wf_top.proofs.AskUntouched.{fault_wants_none}

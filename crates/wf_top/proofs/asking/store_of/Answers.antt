@@ -1,4 +1,4 @@
-use Rattle.wf_top.specs.Endings.{end_of}
+use Rattle.wf_message.specs.Endings.{end_of}
 use Rattle.wf_top.proofs.LabelsTaken.{store_told, store_declines}
 use Rattle.wf_top.proofs.asking.store_of.Goals as goal
 

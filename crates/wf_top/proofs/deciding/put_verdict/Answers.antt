@@ -2,7 +2,7 @@ use Rattle.std.proofs.Common.{◌∙◌, refl}
 use Rattle.std.proofs.lemmas.Result.{err_from_is_err_and}
 use Rattle.hex.specs.Hex.{decode_of}
 use Rattle.wf_top.specs.Called.{bytes_in}
-use Rattle.wf_top.specs.Endings.{end_of, NoMemory}
+use Rattle.wf_message.specs.Endings.{end_of, NoMemory}
 use Rattle.wf_top.proofs.Stages.{passed_on, ends_as, wanting}
 use Rattle.wf_top.proofs.TwoLabels.{label_told, first_refused, second_refused, line_put, line_part}
 use Rattle.wf_top.proofs.deciding.put_verdict.Goals as goal

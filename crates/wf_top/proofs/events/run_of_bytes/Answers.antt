@@ -2,8 +2,8 @@ use Rattle.std.proofs.Common.{Some, ap}
 use Rattle.std.specs.Prelude.{codes}
 use Rattle.std.proofs.lemmas.Result.{err_from_is_err_and}
 use Rattle.wf_io.specs.Lines.{LinesLeft, Lends, Ends, lines_of}
-use Rattle.wf_top.specs.declared.ending.Place.TheVariants.{Events}
-use Rattle.wf_top.specs.Endings.{end_of}
+use Rattle.wf_message.specs.declared.ending.Place.TheVariants.{Events}
+use Rattle.wf_message.specs.Endings.{end_of}
 use Rattle.wf_top.specs.RunTold.{RefusesRun}
 use Rattle.wf_top.specs.Outcome.{instance_most}
 use Rattle.wf_top.proofs.EventLines.{handed_on, declined, taken_none, taken_more, run_told, long_refused, line_refused}

@@ -1,9 +1,9 @@
 use Rattle.std.proofs.Common.{Some, refl, inl}
 use Rattle.std.proofs.lemmas.Result.{err_from_is_err_and}
 use Rattle.wf_flat.specs.Table.{events_of}
-use Rattle.wf_top.specs.declared.ending.Place.TheVariants.{Events}
-use Rattle.wf_top.specs.Endings.{end_of}
-use Rattle.wf_top.specs.Refusals.{run_name}
+use Rattle.wf_message.specs.declared.ending.Place.TheVariants.{Events}
+use Rattle.wf_message.specs.Endings.{end_of}
+use Rattle.wf_message.specs.Refusals.{run_name}
 use Rattle.wf_top.specs.Telling.{AtLine}
 use Rattle.wf_top.specs.RunTold.{RefusesForm, RefusesText}
 use Rattle.wf_top.specs.Outcome.{instance_most}

@@ -3,7 +3,7 @@ use Rattle.std.proofs.lemmas.Option.{MatchOption-at_some, MatchOption-at_none}
 use Rattle.std.proofs.lemmas.Result.{err_from_is_err_and}
 use Rattle.wf_io.specs.Lines.{LinesLeft, Ends, Lends}
 use Rattle.wf_run.specs.Runs.{RunSeen, IsRunOf}
-use Rattle.wf_top.specs.Endings.{end_of}
+use Rattle.wf_message.specs.Endings.{end_of}
 use Rattle.wf_top.proofs.Behind.{behind_as, behind_passed}
 use Rattle.wf_top.proofs.Ingesting.{put_so_far_none, all_put, long_line, line_labelled, line_stops}
 use Rattle.wf_top.proofs.label_lines.label_lines.Goals as goal

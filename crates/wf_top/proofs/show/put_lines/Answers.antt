@@ -1,6 +1,6 @@
 use Rattle.std.proofs.Common.{◌∙◌, length, ap, arith}
 use Rattle.std.proofs.lemmas.Result.{err_from_is_err_and}
-use Rattle.wf_top.specs.Endings.{end_of}
+use Rattle.wf_message.specs.Endings.{end_of}
 use Rattle.wf_top.proofs.Stages.{passed_on}
 use Rattle.wf_top.proofs.Writing.{cause_stops}
 use Rattle.wf_top.proofs.ViewWritten.{line_more, lines_put, line_stops}

@@ -1,4 +1,4 @@
-use Rattle.wf_top.specs.Endings.{end_of}
+use Rattle.wf_message.specs.Endings.{end_of}
 use Rattle.wf_top.proofs.SpecSteps.{parts_decline}
 use Rattle.wf_top.proofs.spec.grammar_of_parts.Goals as goal
 

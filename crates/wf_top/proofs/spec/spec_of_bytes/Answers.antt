@@ -1,8 +1,8 @@
 use Rattle.std.proofs.Common.{sym, subst}
 use Rattle.std.proofs.lemmas.Result.{IfOk-weaker, IfErr-weaker}
 use Rattle.wf_spec.specs.Held.{HeldGrammar}
-use Rattle.wf_top.specs.declared.ending.Place.TheVariants.{Spec}
-use Rattle.wf_top.specs.Endings.{end_of}
+use Rattle.wf_message.specs.declared.ending.Place.TheVariants.{Spec}
+use Rattle.wf_message.specs.Endings.{end_of}
 use Rattle.wf_top.specs.Telling.{OfWhole}
 use Rattle.wf_top.specs.Specification.{TellsGrammar, RefusesGrammar, RefusesSpec}
 use Rattle.wf_top.proofs.Stages.{declines_by}

@@ -1,6 +1,6 @@
 use Rattle.std.proofs.lemmas.Result.{IfOk-weaker, IfErr-weaker}
-use Rattle.wf_top.specs.declared.ending.Place.TheVariants.{Spec}
-use Rattle.wf_top.specs.Endings.{end_of}
+use Rattle.wf_message.specs.declared.ending.Place.TheVariants.{Spec}
+use Rattle.wf_message.specs.Endings.{end_of}
 use Rattle.wf_top.specs.Telling.{OfWhole}
 use Rattle.wf_top.specs.Specification.{TellsGrammar, RefusesSpec}
 use Rattle.wf_top.specs.Outcome.{short_most}

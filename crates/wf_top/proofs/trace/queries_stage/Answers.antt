@@ -1,6 +1,6 @@
 use Rattle.std.proofs.Common.{◌∙◌, refl, sym, ap}
 use Rattle.std.proofs.lemmas.Result.{err_from_is_err_and}
-use Rattle.wf_top.specs.Endings.{end_of}
+use Rattle.wf_message.specs.Endings.{end_of}
 use Rattle.wf_top.specs.Batched.{end_by}
 use Rattle.wf_top.proofs.Stages.{passed_on}
 use Rattle.wf_top.proofs.AnsweredLines.{queries_stop, queries_put, fault_stops, fault_caused}

@@ -1,8 +1,8 @@
 use Rattle.std.proofs.Common.{sym, subst}
 use Rattle.std.proofs.lemmas.Result.{IfOk-weaker, IfErr-weaker, err_from_is_err_and}
 use Rattle.wf_view.specs.Held.{HeldView}
-use Rattle.wf_top.specs.declared.ending.Place.TheVariants.{View as AtView}
-use Rattle.wf_top.specs.Endings.{end_of}
+use Rattle.wf_message.specs.declared.ending.Place.TheVariants.{View as AtView}
+use Rattle.wf_message.specs.Endings.{end_of}
 use Rattle.wf_top.specs.Telling.{OfWhole}
 use Rattle.wf_top.specs.ViewTold.{TellsView, RefusesUnsafe, RefusesView}
 use Rattle.wf_top.proofs.EventLines.{handed_on}

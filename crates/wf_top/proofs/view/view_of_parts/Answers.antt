@@ -1,4 +1,4 @@
-use Rattle.wf_top.specs.Endings.{end_of}
+use Rattle.wf_message.specs.Endings.{end_of}
 use Rattle.wf_top.proofs.ViewSteps.{view_parts_decline}
 use Rattle.wf_top.proofs.view.view_of_parts.Goals as goal
 

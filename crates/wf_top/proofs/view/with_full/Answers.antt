@@ -1,4 +1,4 @@
-use Rattle.wf_top.specs.Endings.{end_of}
+use Rattle.wf_message.specs.Endings.{end_of}
 use Rattle.wf_top.proofs.ViewSteps.{unsafe_declines}
 use Rattle.wf_top.proofs.view.with_full.Goals as goal
 

@@ -1,0 +1,8 @@
+use Rattle.wf_message.proofs.Putting.{puts_more, puts_part}
+use Rattle.wf_message.proofs.pieces.put_two.Goals as goal
+
+pub returns-in_err-put : goal.returns-in_err-put
+returns-in_err-put g c = puts_part g.E.Sink.put_bytes g.E.Sink.faults g.E.Sink.at_last _ c.args.first.now c.args.second.now _ _ c.from_residual.result c.from_residual.ensures.1 c.in_err-put.ensures
+
+pub returns : goal.returns
+returns g c = puts_more g.E.Sink.put_bytes g.E.Sink.faults g.E.Sink.at_last c.args.first.now c.args.second.now _ c.put.new.err _ c.put-2.result c.in_ok-put.ensures c.put-2.ensures

@@ -1,0 +1,18 @@
+//! How the program ends: endings with their places and refusals, and the line of an ending, put piece by piece.
+#![tactic(auto)]
+
+mod ending;
+mod line;
+mod names;
+mod pieces;
+mod refusal;
+mod status;
+mod told;
+mod told_view;
+
+pub use ending::{Ending, Place, not_built, refused_whole, too_long};
+pub use line::{status_of, tell};
+pub use names::{input_name, module_name, output_name, position_name};
+pub use pieces::{put, put_numbered, put_numbers, put_two};
+pub use refusal::Refusal;
+pub use status::Status;
