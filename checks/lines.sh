@@ -1,5 +1,5 @@
 #!/usr/bin/env bash
-# Prints, for each crate, its lines of code, tests, definitions and proofs, and the number of edits that must be refused, as rows of the table in README.md. All of wf_trials is tests.
+# Prints, for each crate, its lines of code, tests, definitions and proofs, and the number of edits that must be refused, as rows of the table in README.md. All of a crate of tests is counted as tests.
 set -euo pipefail
 
 cd "$(dirname "${BASH_SOURCE[0]}")/.."
@@ -10,13 +10,16 @@ lines() {
 
 for crate in $(sed -e 's/#.*//' crates.txt | awk -F: 'NF > 1 { print $1 }'); do
     folder=crates/$crate
-    if [ "$crate" = wf_trials ]; then
-        code=0
-        tests=$(lines "$folder/src" -name '*.rt')
-    else
-        code=$(lines "$folder/src" -name '*.rt' ! -name '*tests.rt')
-        tests=$(lines "$folder/src" -name '*tests.rt')
-    fi
+    case $crate in
+        wf_samples | *_trials)
+            code=0
+            tests=$(lines "$folder/src" -name '*.rt')
+            ;;
+        *)
+            code=$(lines "$folder/src" -name '*.rt' ! -name '*tests.rt')
+            tests=$(lines "$folder/src" -name '*tests.rt')
+            ;;
+    esac
     specs=$(lines "$folder/specs" -name '*.antt') || specs=0
     proofs=$(lines "$folder/proofs" -name '*.antt') || proofs=0
     edits=$(find "$folder/must-fail" -name '*.edit' 2>/dev/null | wc -l) || edits=0

@@ -10,8 +10,3 @@ mod store;
 pub use append::{append_entry, append_head};
 pub use fault::StoreFault;
 pub use store::Store;
-
-#[cfg(test)]
-mod store_tests;
-#[cfg(test)]
-mod tests;

@@ -10,4 +10,3 @@ pub mod Passing
 pub mod Rowing
 pub mod Telling
 pub mod Turning
-pub mod Twisting

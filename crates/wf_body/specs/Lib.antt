@@ -1,5 +1,4 @@
 pub mod Body
 pub mod Matrices
 pub mod Order
-pub mod Twisting
 pub mod Words

@@ -15,6 +15,3 @@ mod word;
 pub use crossing::{between, between_all};
 pub use ends::{induced, into_position, out_of_position};
 pub use law::body_law;
-
-#[cfg(test)]
-mod tests;

@@ -13,6 +13,3 @@ mod unit;
 pub use check::proper;
 pub use fault::CheckFault;
 pub use ranking::Proper;
-
-#[cfg(test)]
-mod tests;

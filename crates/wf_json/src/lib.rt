@@ -17,6 +17,3 @@ pub use reading::{TextFault, read_value};
 pub use spec::read_spec;
 pub use view::read_view;
 pub use writing::canonical;
-
-#[cfg(test)]
-mod tests;

@@ -8,8 +8,6 @@
 mod check;
 mod cursor;
 mod label;
-#[cfg(test)]
-mod label_tests;
 mod parts;
 mod passing;
 mod reference;
@@ -20,6 +18,3 @@ pub use cursor::{Cursor, Mark};
 pub use label::{Label, Place, PlaceStep};
 pub use reference::LabelRef;
 pub use write::{write_ending, write_label, write_step};
-
-#[cfg(test)]
-mod write_tests;

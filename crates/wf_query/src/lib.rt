@@ -12,6 +12,3 @@ pub use batching::{BatchFault, batch};
 pub use deciding::answer;
 pub use law::query_law;
 pub use query::{LineWrong, Query, read_query};
-
-#[cfg(test)]
-mod tests;

@@ -14,8 +14,3 @@ pub use full::FullDeps;
 pub use law::{one_witness_law, witness_law};
 pub use safety::full_deps;
 pub use witness::{Choice, Witness};
-
-#[cfg(test)]
-mod check_tests;
-#[cfg(test)]
-mod tests;

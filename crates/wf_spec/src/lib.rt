@@ -13,8 +13,6 @@ mod links;
 mod module;
 mod production;
 mod rule;
-#[cfg(test)]
-mod tests;
 mod wiring;
 
 pub use deps::Deps;

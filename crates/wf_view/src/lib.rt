@@ -13,6 +13,3 @@ mod view;
 pub use fault::{ViewFault, ViewSpot};
 pub use law::described_law;
 pub use view::View;
-
-#[cfg(test)]
-mod tests;

@@ -1,0 +1,389 @@
+// Texts that are specifications, texts that are views, texts that are neither, and canonical texts.
+use std::process::Abort;
+use std::test::Fail;
+use wf_json::{JsonFault, Member, canonical, digest, read_spec, read_view};
+use wf_model::{EdgePart, EntryPart, ExitPart, Parts, ProdPart, ViewParts};
+use wf_samples::{LINE, grammar};
+
+/// A workflow that makes a tree of sequences: a Main is done by an Align, a Refine, a Build and a Report; a Refine by a Realign and a Refine behind it, or by a Score; and a Build by a Split and an Infer. Pairs are given to Realign and Score.
+const PHYLO: &str = r#"{"start":"Main",
+"modules":[
+{"name":"Main","in":["seqs","cfg"],"out":["tree","report"]},
+{"name":"Align","in":["s"],"out":["m","log"]},
+{"name":"Refine","in":["m","c"],"out":["r","q"]},
+{"name":"Realign","in":["m","c"],"out":["m2","c2"]},
+{"name":"Score","in":["m","c"],"out":["r","q"]},
+{"name":"Build","in":["m"],"out":["t","n"]},
+{"name":"Split","in":["m"],"out":["a","n"]},
+{"name":"Infer","in":["m"],"out":["t"]},
+{"name":"Report","in":["log","q","n"],"out":["out"]}],
+"productions":[
+{"head":"Main","body":[["al","Align"],["re","Refine"],["bu","Build"],["rp","Report"]],
+ "edges":[["al.m","re.m"],["al.log","rp.log"],["re.r","bu.m"],["re.q","rp.q"],["bu.n","rp.n"]],
+ "in":[["seqs","al.s"],["cfg","re.c"]],"out":[["bu.t","tree"],["rp.out","report"]]},
+{"head":"Refine","body":[["rl","Realign"],["nx","Refine"]],
+ "edges":[["rl.m2","nx.m"],["rl.c2","nx.c"]],
+ "in":[["m","rl.m"],["c","rl.c"]],"out":[["nx.r","r"],["nx.q","q"]]},
+{"head":"Refine","body":[["sc","Score"]],
+ "in":[["m","sc.m"],["c","sc.c"]],"out":[["sc.r","r"],["sc.q","q"]]},
+{"head":"Build","body":[["sp","Split"],["inf","Infer"]],
+ "edges":[["sp.a","inf.m"]],
+ "in":[["m","sp.m"]],"out":[["inf.t","t"],["sp.n","n"]]}],
+"deps":[
+{"module":"Realign","pairs":[["m","m2"],["c","c2"]]},
+{"module":"Score","pairs":[["m","r"],["m","q"],["c","q"]]}]}"#;
+
+/// A view that expands Main and Refine, and gives two pairs to Build.
+const VIEW: &str =
+    r#"{"expand":["Main","Refine"],"deps":[{"module":"Build","pairs":[["m","t"],["m","n"]]}]}"#;
+
+/// An S is done by a P. Neither has an input, so the part that gives no pairs to P says nothing. The members stand in another order, one has no meaning, and there are spaces and lines between them.
+const SPACED: &str =
+    r#"{ "modules": [ {"out":["b"], "name":"S"}, {"name":"P","out":["y"],"color":1} ],
+ "deps": [ {"module":"P","pairs":[]} ],
+ "productions": [ {"out":[["u.y","b"]], "body":[["u","P"]], "head":"S"} ], "start": "S" }"#;
+
+/// The canonical text of `SPACED`.
+const UNSPACED: &str =
+    r#"{"start":"S","modules":[{"name":"S","in":[],"out":["b"]},{"name":"P","in":[],"out":["y"]}],"productions":[{"head":"S","body":[["u","P"]],"edges":[],"in":[],"out":[["u.y","b"]]}]}"#;
+
+/// The digest of the canonical text of `LINE`, by SHA-256.
+const DIGEST: [u8; 32] = [
+    0x8f, 0xbb, 0x4f, 0xca, 0xf0, 0xd4, 0x77, 0x63, 0x20, 0x00, 0x89, 0x79, 0xb9, 0x21, 0x95, 0x0e,
+    0x24, 0xba, 0x2b, 0x3f, 0xfd, 0x93, 0x7a, 0x5f, 0xbe, 0x18, 0x24, 0x81, 0x20, 0x1d, 0xce, 0x8e,
+];
+
+/// Specifications in their form, though not all are those of grammars.
+const SPECS: [&str; 5] = [
+    r#"{"start":"S","modules":[]}"#,
+    r#"{"start":"S","modules":[{"name":"S","in":["a"]}]}"#,
+    r#"{"start":"","modules":[{"name":"S","color":null}],"expand":1}"#,
+    r#"{"start":"S","modules":[],"deps":[{"module":"P","pairs":[]}]}"#,
+    r#"{"start":"S","modules":[],"productions":[{"head":"S","body":[]}]}"#,
+];
+
+/// A link to the port x.y of the position u: the first dot ends the position.
+const DOTTED: &str =
+    r#"{"start":"S","modules":[],"productions":[{"head":"S","body":[],"in":[["a","u.x.y"]]}]}"#;
+
+/// Texts of another form, and the first member that has not its form.
+const WRONG_SPECS: [(&str, Member); 20] = [
+    ("[]", Member::Top),
+    ("null", Member::Top),
+    (r#"{"modules":null}"#, Member::Start),
+    (r#"{"start":null,"modules":[]}"#, Member::Start),
+    (r#"{"start":"S"}"#, Member::Modules),
+    (r#"{"start":"S","modules":null}"#, Member::Modules),
+    (r#"{"start":"S","modules":{}}"#, Member::Modules),
+    (r#"{"start":"S","modules":["S"]}"#, Member::Modules),
+    (
+        r#"{"start":"S","modules":[{}],"productions":3}"#,
+        Member::Modules,
+    ),
+    (
+        r#"{"start":"S","modules":[{"name":"S","out":null}]}"#,
+        Member::Modules,
+    ),
+    (
+        r#"{"start":"S","modules":[{"name":"S","in":[1]}]}"#,
+        Member::Modules,
+    ),
+    (
+        r#"{"start":"S","modules":[],"productions":null}"#,
+        Member::Productions,
+    ),
+    (
+        r#"{"start":"S","modules":[],"productions":[{"head":"S"}]}"#,
+        Member::Productions,
+    ),
+    (
+        r#"{"start":"S","modules":[],"productions":[{"head":"S","body":[["u"]]}]}"#,
+        Member::Productions,
+    ),
+    (
+        r#"{"start":"S","modules":[],"productions":[{"head":"S","body":[["u","P","x"]]}]}"#,
+        Member::Productions,
+    ),
+    (
+        r#"{"start":"S","modules":[],"productions":[{"head":"S","body":[],"edges":[["uy","v.x"]]}]}"#,
+        Member::Productions,
+    ),
+    (
+        r#"{"start":"S","modules":[],"productions":[{"head":"S","body":[],"edges":null}],"deps":0}"#,
+        Member::Productions,
+    ),
+    (
+        r#"{"start":"S","modules":[],"deps":null}"#,
+        Member::DepsList,
+    ),
+    (
+        r#"{"start":"S","modules":[],"deps":[{"module":"P"}]}"#,
+        Member::DepsList,
+    ),
+    (
+        r#"{"start":"S","modules":[],"deps":[{"module":"P","pairs":[["a",1]]}]}"#,
+        Member::DepsList,
+    ),
+];
+
+/// Bytes that are no JSON text, where a specification is read.
+const NO_SPECS: [&[u8]; 5] = [
+    b"",
+    b"{\"start\":\"S\",\"modules\":[]} x",
+    b"{\"start\":\"S\",\"modules\":[],}",
+    b"{\"start\":\"\xff\",\"modules\":[]}",
+    b"{\"start\":\"S\",\"modules\":[],\"a\":1e999}",
+];
+
+/// Bytes that are no JSON text, where a view is read.
+const NO_VIEWS: [&[u8]; 9] = [
+    b"",
+    b"{",
+    b"{} {}",
+    b"{\"expand\":null} x",
+    b"{\"expand\":[\"S\",]}",
+    b"{\"expand\":[\"\xff\"]}",
+    b"{\"deps\":[],}",
+    b"{expand:[]}",
+    b"{\"expand\":1e999}",
+];
+
+/// Views, how many names each expands, if it has a list of them, and how many parts of pairs it has. Of two members of a name the last counts.
+const VIEWS: [(&str, Option<usize>, usize); 11] = [
+    ("{}", None, 0),
+    (" {\"expand\":[]}\n", Some(0), 0),
+    (r#"{"expand":["","S.a","S.a"]}"#, Some(3), 0),
+    (r#"{"deps":[]}"#, None, 0),
+    (r#"{"deps":[{"module":"P","pairs":[]}]}"#, None, 1),
+    (
+        r#"{"deps":[{"module":"P","pairs":[["a","b"]]},{"pairs":[],"module":"P","color":null}],"expand":["S"]}"#,
+        Some(1),
+        2,
+    ),
+    (
+        r#"{"start":null,"Expand":1,"dep":{},"expand":[]}"#,
+        Some(0),
+        0,
+    ),
+    (r#"{"expand":3,"expand":["S"]}"#, Some(1), 0),
+    (r#"{"expand":["S","T"],"expand":[]}"#, Some(0), 0),
+    (r#"{"deps":null,"deps":[]}"#, None, 0),
+    (
+        r#"{"deps":[{"module":1,"pairs":null,"module":"P","pairs":[]}]}"#,
+        None,
+        1,
+    ),
+];
+
+/// Texts of another form, and the first member of a view that has not its form.
+const WRONG_VIEWS: [(&str, Member); 30] = [
+    ("null", Member::Top),
+    ("3", Member::Top),
+    (r#""expand""#, Member::Top),
+    ("[]", Member::Top),
+    (r#"[{"expand":null}]"#, Member::Top),
+    (r#"{"expand":null}"#, Member::Expand),
+    (r#"{"expand":false}"#, Member::Expand),
+    (r#"{"expand":"S"}"#, Member::Expand),
+    (r#"{"expand":{}}"#, Member::Expand),
+    (r#"{"expand":[null]}"#, Member::Expand),
+    (r#"{"expand":["S",1]}"#, Member::Expand),
+    (r#"{"expand":[["S"]]}"#, Member::Expand),
+    (r#"{"expand":null,"deps":[]}"#, Member::Expand),
+    (r#"{"deps":1,"expand":1}"#, Member::Expand),
+    (r#"{"deps":null,"expand":null}"#, Member::Expand),
+    (r#"{"expand":[],"expand":3,"deps":[]}"#, Member::Expand),
+    (r#"{"deps":null}"#, Member::DepsList),
+    (r#"{"deps":0,"expand":[]}"#, Member::DepsList),
+    (r#"{"expand":["S"],"deps":{}}"#, Member::DepsList),
+    (r#"{"deps":["P"]}"#, Member::DepsList),
+    (r#"{"deps":[{}]}"#, Member::DepsList),
+    (r#"{"deps":[{"pairs":[]}]}"#, Member::DepsList),
+    (r#"{"deps":[{"module":"P"}]}"#, Member::DepsList),
+    (r#"{"deps":[{"module":null,"pairs":[]}]}"#, Member::DepsList),
+    (
+        r#"{"deps":[{"module":"P","pairs":null}]}"#,
+        Member::DepsList,
+    ),
+    (
+        r#"{"deps":[{"module":"P","pairs":[["a"]]}]}"#,
+        Member::DepsList,
+    ),
+    (
+        r#"{"deps":[{"module":"P","pairs":[["a","b","c"]]}]}"#,
+        Member::DepsList,
+    ),
+    (
+        r#"{"deps":[{"module":"P","pairs":[["a",1]]}]}"#,
+        Member::DepsList,
+    ),
+    (
+        r#"{"deps":[{"module":"P","pairs":[]},null]}"#,
+        Member::DepsList,
+    ),
+    (r#"{"deps":[],"deps":null}"#, Member::DepsList),
+];
+
+fn has_names_of_line(rt: &impl Abort, parts: &Parts) -> Result<(), Fail> {
+    assert_eq!(rt; parts.start.bytes(), b"S".as_slice());
+    assert!(rt; parts.deps.items().is_empty());
+    let [_, _, third] = parts.modules.items() else {
+        return Err(Fail::new("three modules"));
+    };
+    assert_eq!(rt; third.name.bytes(), b"Q".as_slice());
+    let [production] = parts.productions.items() else {
+        return Err(Fail::new("one production"));
+    };
+    let [first, second] = production.body.items() else {
+        return Err(Fail::new("two positions"));
+    };
+    assert_eq!(rt; first.name.bytes(), b"u".as_slice());
+    assert_eq!(rt; second.module.bytes(), b"Q".as_slice());
+    Ok(())
+}
+
+fn links_of(production: &ProdPart) -> (&[EdgePart], &[EntryPart], &[ExitPart]) {
+    (
+        production.edges.items(),
+        production.entries.items(),
+        production.exits.items(),
+    )
+}
+
+fn has_links_of_line(rt: &impl Abort, parts: &Parts) -> Result<(), Fail> {
+    let [production] = parts.productions.items() else {
+        return Err(Fail::new("one production"));
+    };
+    let ([edge], [entry], [exit]) = links_of(production) else {
+        return Err(Fail::new("one edge, entry and exit"));
+    };
+    assert_eq!(rt; edge.from.pos.bytes(), b"u".as_slice());
+    assert_eq!(rt; edge.to.port.bytes(), b"x".as_slice());
+    assert_eq!(rt; entry.port.bytes(), b"a".as_slice());
+    assert_eq!(rt; exit.from.port.bytes(), b"y".as_slice());
+    Ok(())
+}
+
+fn has_sizes_of_phylo(rt: &impl Abort, parts: &Parts) -> Result<(), Fail> {
+    assert_eq!(rt; parts.modules.items().len(), 9);
+    let [first, _, third, _] = parts.productions.items() else {
+        return Err(Fail::new("four productions"));
+    };
+    assert_eq!(rt; first.body.items().len(), 4);
+    assert_eq!(rt; first.edges.items().len(), 5);
+    assert!(rt; third.edges.items().is_empty());
+    let [_, second] = parts.deps.items() else {
+        return Err(Fail::new("two parts of dependencies"));
+    };
+    assert_eq!(rt; second.pairs.items().len(), 3);
+    Ok(())
+}
+
+#[test]
+fn the_parts_of_a_specification_are_read(rt: HostRuntime) -> Result<(), Fail> {
+    let line = read_spec(rt.alloc(), LINE.as_bytes())?;
+    has_names_of_line(&rt, &line)?;
+    has_links_of_line(&rt, &line)?;
+    let phylo = read_spec(rt.alloc(), PHYLO.as_bytes())?;
+    has_sizes_of_phylo(&rt, &phylo)
+}
+
+/// The port that the one entry of the one production leads to.
+fn entry_port(parts: &Parts) -> &[u8] {
+    for production in parts.productions.items() {
+        for entry in production.entries.items() {
+            return entry.to.port.bytes();
+        }
+    }
+    b""
+}
+
+#[test]
+fn small_texts_are_read(rt: HostRuntime) -> Result<(), Fail> {
+    for text in SPECS {
+        assert!(rt; read_spec(rt.alloc(), text.as_bytes()).is_ok(), "at {text}");
+    }
+    let parts = read_spec(rt.alloc(), DOTTED.as_bytes())?;
+    assert_eq!(rt; entry_port(&parts), b"x.y".as_slice());
+    Ok(())
+}
+
+#[test]
+fn the_first_wrong_member_is_told(rt: HostRuntime) {
+    for (text, member) in WRONG_SPECS {
+        let fault = JsonFault::WrongShape { member };
+        let read = read_spec(rt.alloc(), text.as_bytes());
+        assert_eq!(rt; read.err(), Some(fault), "at {text}");
+    }
+}
+
+#[test]
+fn the_first_wrong_member_of_a_view_is_told(rt: HostRuntime) {
+    for (text, member) in WRONG_VIEWS {
+        let fault = JsonFault::WrongShape { member };
+        let read = read_view(rt.alloc(), text.as_bytes());
+        assert_eq!(rt; read.err(), Some(fault), "at {text}");
+    }
+}
+
+#[test]
+fn other_bytes_are_no_json(rt: HostRuntime) {
+    for bytes in NO_SPECS {
+        let read = read_spec(rt.alloc(), bytes);
+        assert_eq!(rt; read.err(), Some(JsonFault::NotJson), "at {bytes:?}");
+    }
+    for bytes in NO_VIEWS {
+        let read = read_view(rt.alloc(), bytes);
+        assert_eq!(rt; read.err(), Some(JsonFault::NotJson), "at {bytes:?}");
+    }
+}
+
+fn count_expanded(parts: &ViewParts) -> Option<usize> {
+    match &parts.expand {
+        Some(names) => Some(names.items().len()),
+        None => None,
+    }
+}
+
+#[test]
+fn views_are_read(rt: HostRuntime) -> Result<(), Fail> {
+    for (text, expanded, deps) in VIEWS {
+        let parts = read_view(rt.alloc(), text.as_bytes())?;
+        assert_eq!(rt; count_expanded(&parts), expanded, "at {text}");
+        assert_eq!(rt; parts.deps.items().len(), deps, "at {text}");
+    }
+    Ok(())
+}
+
+#[test]
+fn the_parts_of_a_view_are_read(rt: HostRuntime) -> Result<(), Fail> {
+    let parts = read_view(rt.alloc(), VIEW.as_bytes())?;
+    let Some(names) = &parts.expand else {
+        return Err(Fail::new("names"));
+    };
+    let [first, second] = names.items() else {
+        return Err(Fail::new("two names"));
+    };
+    assert_eq!(rt; first.bytes(), b"Main".as_slice());
+    assert_eq!(rt; second.bytes(), b"Refine".as_slice());
+    let [build] = parts.deps.items() else {
+        return Err(Fail::new("one part of dependencies"));
+    };
+    assert_eq!(rt; build.module.bytes(), b"Build".as_slice());
+    let [_, last] = build.pairs.items() else {
+        return Err(Fail::new("two pairs"));
+    };
+    assert_eq!(rt; last.input.bytes(), b"m".as_slice());
+    assert_eq!(rt; last.output.bytes(), b"n".as_slice());
+    Ok(())
+}
+
+#[test]
+fn texts_of_a_grammar_have_one_canonical_text(rt: HostRuntime) -> Result<(), Fail> {
+    for (text, canonical_text) in [(LINE, LINE), (SPACED, UNSPACED)] {
+        let written = canonical(rt.alloc(), &grammar(rt.alloc(), text)?)?;
+        assert_eq!(rt; written.as_slice(), canonical_text.as_bytes(), "at {text}");
+    }
+    assert_eq!(rt; digest(rt.alloc(), &grammar(rt.alloc(), LINE)?)?, DIGEST);
+    Ok(())
+}

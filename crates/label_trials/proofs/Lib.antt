@@ -1,0 +1,2 @@
+pub mod WholeRounds
+pub mod Components

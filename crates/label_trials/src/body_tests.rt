@@ -1,0 +1,91 @@
+// Matrices of the second production of the twisting grammar: L to w:W, l:L, v:W, where W exchanges its two ports and L keeps them.
+ghost use Rattle.std.specs.Prelude.{◌≡◌, ◌+◌, ◌<◌, length, IfSome, IsTrue, OnOk};
+ghost use Rattle.wf_model.specs.Grammar.{body_of, head_of};
+ghost use Rattle.wf_body.specs.Matrices.{HaveRows};
+ghost use Rattle.wf_safe.specs.Full.{AreFullRows};
+ghost use Rattle.wf_safe.specs.Inducing.{IsSeenExpanded};
+ghost use Rattle.wf_view.specs.Held.{IsHeldFor};
+
+use bool_mat::{MatNo, MatPool};
+use std::alloc::{AllocError, Global};
+use std::test::Fail;
+use wf_body::{between, between_all, induced, into_position, out_of_position};
+use wf_safe::FullDeps;
+use wf_samples::{TWISTING, full, sample, view};
+use wf_spec::{Deps, Grammar, PosNo, ProdNo, Step};
+use wf_view::View;
+
+/// Whether the view shows the body of a production: its head is seen and expanded.
+fn is_shown(g: &Grammar, p: ProdNo, view: &View) -> bool
+    requires production { p.0 < length g.now.core.productions }
+    requires view { IsHeldFor g.now.core view.now }
+    ensures { IsTrue result → IsSeenExpanded g.now.core view.now.core (head_of g.now.core p.0) }
+{
+    let head = g.production(p).head();
+    view.seen(head) && view.expanded(head)
+}
+
+/// The pairs that the modules have, if there is a second production, which has three positions, and the view shows its body.
+fn pairs<'a>(g: &Grammar, view: &View, full: &'a FullDeps) -> Option<&'a Deps>
+    requires view { IsHeldFor g.now.core view.now }
+    requires full { AreFullRows g.now.core view.now.core full.now }
+    ensures second { IfSome result (λ d. 1 < length g.now.core.productions) }
+    ensures three { IfSome result (λ d. length (body_of g.now.core 1) ≡ 3) }
+    ensures rows { IfSome result (λ d. HaveRows g.now.core 1 d.now) }
+{
+    if g.productions().len() < 2 {
+        return None;
+    }
+    let p = ProdNo(1);
+    if g.production(p).positions().len() != 3 || !is_shown(g, p, view) {
+        return None;
+    }
+    Some(full.deps())
+}
+
+/// Pushes the matrices of the second production: that of the head, those from the head to l and from l to the head, that from w to v, and those from w to each position.
+fn push_all(alloc: Global, g: &Grammar, deps: &Deps, pool: &mut MatPool) -> Result<(), AllocError>
+    requires second { 1 < length g.now.core.productions }
+    requires three { length (body_of g.now.core 1) ≡ 3 }
+    requires rows { HaveRows g.now.core 1 deps.now }
+    ensures { OnOk result (length pool.new ≡ length pool.old + 7) }
+{
+    let production = ProdNo(1);
+    let [w, l, v] = [PosNo(0), PosNo(1), PosNo(2)];
+    let at_w = Step {
+        production,
+        position: w,
+    };
+    let at_l = Step {
+        production,
+        position: l,
+    };
+    let _whole = induced(alloc, g, production, deps, pool)?;
+    let _into = into_position(alloc, g, at_l, deps, pool)?;
+    let _out_of = out_of_position(alloc, g, at_l, deps, pool)?;
+    let _across = between(alloc, g, at_w, v, deps, pool)?;
+    let _all = between_all(alloc, g, at_w, deps, pool)?;
+    Ok(())
+}
+
+#[test]
+fn ports_are_exchanged_and_kept(rt: HostRuntime) -> Result<(), Fail> {
+    let s = sample(rt.alloc(), TWISTING)?;
+    let view = view(rt.alloc(), &s.grammar, "{}")?;
+    let full = full(rt.alloc(), &s, &view)?;
+    let mut pool = MatPool::new(rt.alloc());
+    let Some(deps) = pairs(&s.grammar, &view, &full) else {
+        return Err(Fail::new("a second production of three positions"));
+    };
+    push_all(rt.alloc(), &s.grammar, deps, &mut pool)?;
+    let kept = [0b01, 0b10].as_slice();
+    let exchanged = [0b10, 0b01].as_slice();
+    assert_eq!(rt; pool.get(MatNo(0)).rows, kept);
+    assert_eq!(rt; pool.get(MatNo(1)).rows, exchanged);
+    assert_eq!(rt; pool.get(MatNo(2)).rows, exchanged);
+    assert_eq!(rt; pool.get(MatNo(3)).rows, kept);
+    assert_eq!(rt; pool.get(MatNo(4)).rows, [0, 0].as_slice());
+    assert_eq!(rt; pool.get(MatNo(5)).rows, kept);
+    assert_eq!(rt; pool.get(MatNo(6)).rows, kept);
+    Ok(())
+}

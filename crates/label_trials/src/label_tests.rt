@@ -1,0 +1,88 @@
+// Bytes that are tried as labels of two grammars.
+ghost use Rattle.wf_model.specs.Linear.{IsLinear};
+ghost use Rattle.wf_recur.specs.Cycles.{AreCyclesOf};
+
+use std::test::Fail;
+use wf_label::{LabelRef, Mark};
+use wf_samples::{Accepted, LINE, TWISTING, sample};
+use wf_spec::{EdgeNo, PortNo, PosNo, ProdNo, Step};
+
+/// Each line: a grammar, and bytes that are no label of it.
+const REFUSED: [(&str, &[u8]); 9] = [
+    (LINE, b""),
+    (LINE, &[0x00]),
+    (LINE, &[0x10]),
+    (LINE, &[0x28]),
+    (LINE, &[0x30]),
+    (LINE, &[0xb1]),
+    (LINE, &[0xb0, 0x00]),
+    // A step along the continuing step, and a chain number of 2^24.
+    (TWISTING, &[0xfe, 0xac]),
+    (TWISTING, &[0xf0, 0x00, 0x00, 0x08, 0x00, 0x00, 0x0b]),
+];
+
+const INPUT: Option<Mark> = Some(Mark::Input(PortNo(0)));
+
+const OUTPUT: Option<Mark> = Some(Mark::Output(PortNo(0)));
+
+/// The step to the first position of production 0.
+const INTO: Option<Mark> = Some(Mark::Into(Step {
+    production: ProdNo(0),
+    position: PosNo(0),
+}));
+
+/// The first edge of production 0.
+const END: Option<Mark> = Some(Mark::End {
+    production: ProdNo(0),
+    edge: EdgeNo(0),
+});
+
+/// The first edge of production 1.
+const END_OF_NEXT: Option<Mark> = Some(Mark::End {
+    production: ProdNo(1),
+    edge: EdgeNo(0),
+});
+
+/// Each line: a grammar, the bytes of a label of it, the length of the label, and what a cursor tells at its first four calls.
+const TOLD: [(&str, &[u8], u32, [Option<Mark>; 4]); 4] = [
+    (LINE, &[0x20], 3, [INPUT, None, None, None]),
+    (LINE, &[0x60], 3, [OUTPUT, None, None, None]),
+    (LINE, &[0xb0], 4, [END, None, None, None]),
+    (
+        TWISTING,
+        &[0xf0, 0x00, 0x0c, 0x35, 0x0b],
+        40,
+        [INTO, Some(Mark::Chain(100_000)), END_OF_NEXT, None],
+    ),
+];
+
+/// The length of a label, and what a cursor tells at its first four calls; None where the bytes are no label.
+fn told(s: &Accepted, bytes: &[u8]) -> Option<(u32, [Option<Mark>; 4])>
+    requires linear { IsLinear s.now.grammar.core }
+    requires cycles { AreCyclesOf s.now.grammar.core s.now.cycles }
+{
+    let Ok(label) = LabelRef::check(&s.grammar, &s.cycles, bytes) else {
+        return None;
+    };
+    let mut cursor = label.cursor(&s.grammar, &s.cycles);
+    let marks = [cursor.next(), cursor.next(), cursor.next(), cursor.next()];
+    Some((label.length(), marks))
+}
+
+#[test]
+fn bytes_that_are_no_label_are_refused(rt: HostRuntime) -> Result<(), Fail> {
+    for (text, bytes) in REFUSED {
+        let s = sample(rt.alloc(), text)?;
+        assert_eq!(rt; told(&s, bytes), None, "at {bytes:?}");
+    }
+    Ok(())
+}
+
+#[test]
+fn labels_are_told_mark_by_mark(rt: HostRuntime) -> Result<(), Fail> {
+    for (text, bytes, length, marks) in TOLD {
+        let s = sample(rt.alloc(), text)?;
+        assert_eq!(rt; told(&s, bytes), Some((length, marks)), "at {bytes:?}");
+    }
+    Ok(())
+}

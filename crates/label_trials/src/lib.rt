@@ -1,0 +1,33 @@
+//! Tests of the crates that compute with bodies, safe views, labels and runs, by their public calls.
+#![tactic(auto)]
+
+#[cfg(test)]
+mod body_tests;
+#[cfg(test)]
+mod decide_tests;
+#[cfg(test)]
+mod events;
+#[cfg(test)]
+mod file_tests;
+#[cfg(test)]
+mod label_bits_tests;
+#[cfg(test)]
+mod label_tests;
+#[cfg(test)]
+mod labeller_tests;
+#[cfg(test)]
+mod products;
+#[cfg(test)]
+mod query_tests;
+#[cfg(test)]
+mod run_table_tests;
+#[cfg(test)]
+mod safe_tests;
+#[cfg(test)]
+mod store_tests;
+#[cfg(test)]
+mod view_label_tests;
+#[cfg(test)]
+mod viewed;
+#[cfg(test)]
+mod witness_tests;

@@ -1,0 +1,284 @@
+// Runs as tables and runs in arenas: the events that they take and refuse, and the items and paths of a run of the line grammar.
+ghost use Rattle.wf_model.specs.Linear.{IsLinear};
+ghost use Rattle.wf_model.specs.Proper.{IsProper};
+ghost use Rattle.wf_check.specs.Proper.{IsRankingOf};
+ghost use Rattle.wf_flat.specs.Table.{IsRunOf};
+ghost use Rattle.wf_recur.specs.Cycles.{AreCyclesOf};
+
+use crate::events::Given::{Expand, Start};
+use crate::events::{Given, event, placed, table, take};
+use bumpalo::Bump;
+use std::alloc::Global;
+use std::test::Fail;
+use wf_flat::{Flat, Item, PlainRun, Port, find_item};
+use wf_samples::{Accepted, LINE, LOOP, full, sample, view};
+use wf_spec::RunFault::{
+    AlreadyExpanded, NameBad, NameTwice, NotStarted, PositionsWrong, StartedTwice,
+    TooManyInstances, UnknownInstance, UnknownProduction, WrongHead,
+};
+use wf_spec::{Event, PortNo, RunFault, Side};
+
+/// A root, and its expansion in the loop grammar.
+const BEGUN: &[Given] = &[Start("r"), Expand("r", 0, &["l0"])];
+
+/// The whole run of the line grammar: instance 1 is the P, and instance 2 the Q.
+const WHOLE: &[Given] = &[Start("r"), Expand("r", 0, &["i1", "i2"])];
+
+/// Why an event is refused, if it is, and how many instances and how many expansions there are then.
+type Outcome = (Option<RunFault>, usize, usize);
+
+/// Each line: a grammar, how many instances a run may have, the events before, the event, and what comes of it. An event that is refused breaks as many of the later rules as it can.
+const EVENTS: [(&str, u8, &[Given], Given, Outcome); 17] = [
+    (
+        LINE,
+        2,
+        &[Start("r")],
+        Expand("r", 0, &["i1", "i2"]),
+        (Some(TooManyInstances), 1, 0),
+    ),
+    (
+        LINE,
+        3,
+        &[Start("r")],
+        Expand("r", 0, &["i1", "i2"]),
+        (None, 3, 1),
+    ),
+    (
+        LOOP,
+        0,
+        &[],
+        Expand("q", 3, &["?", "?", "q"]),
+        (Some(NotStarted), 0, 0),
+    ),
+    (LOOP, 2, BEGUN, Start("?"), (Some(StartedTwice), 2, 1)),
+    (LOOP, 0, &[], Start("?"), (Some(NameBad), 0, 0)),
+    (LOOP, 0, &[], Start("r"), (Some(TooManyInstances), 0, 0)),
+    (
+        LOOP,
+        2,
+        BEGUN,
+        Expand("q", 3, &["?", "?", "r"]),
+        (Some(UnknownInstance), 2, 1),
+    ),
+    (
+        LOOP,
+        2,
+        BEGUN,
+        Expand("r", 3, &["?", "?", "r"]),
+        (Some(UnknownProduction), 2, 1),
+    ),
+    (
+        LOOP,
+        2,
+        BEGUN,
+        Expand("r", 1, &["?", "?", "r"]),
+        (Some(WrongHead), 2, 1),
+    ),
+    (
+        LOOP,
+        2,
+        BEGUN,
+        Expand("r", 0, &["?", "?", "r"]),
+        (Some(AlreadyExpanded), 2, 1),
+    ),
+    (
+        LOOP,
+        2,
+        BEGUN,
+        Expand("l0", 1, &["?", "?", "r"]),
+        (Some(PositionsWrong), 2, 1),
+    ),
+    (
+        LOOP,
+        2,
+        BEGUN,
+        Expand("l0", 1, &["?", "r"]),
+        (Some(NameBad), 2, 1),
+    ),
+    (
+        LOOP,
+        2,
+        BEGUN,
+        Expand("l0", 1, &["w0", "r"]),
+        (Some(NameTwice), 2, 1),
+    ),
+    (
+        LOOP,
+        2,
+        BEGUN,
+        Expand("l0", 1, &["w0", "w0"]),
+        (Some(NameTwice), 2, 1),
+    ),
+    (
+        LOOP,
+        3,
+        BEGUN,
+        Expand("l0", 1, &["w0", "l1"]),
+        (Some(TooManyInstances), 2, 1),
+    ),
+    (LOOP, 4, BEGUN, Expand("l0", 1, &["w0", "l1"]), (None, 4, 2)),
+    (LOOP, 3, BEGUN, Expand("l0", 2, &["w0"]), (None, 3, 2)),
+];
+
+/// The input of the root.
+const ROOT_INPUT: Port = Port {
+    instance: 0,
+    side: Side::Input,
+    port: PortNo(0),
+};
+
+/// The output of the root.
+const ROOT_OUTPUT: Port = Port {
+    instance: 0,
+    side: Side::Output,
+    port: PortNo(0),
+};
+
+/// The output of the P.
+const EDGE_FROM: Port = Port {
+    instance: 1,
+    side: Side::Output,
+    port: PortNo(0),
+};
+
+/// The input of the Q.
+const EDGE_TO: Port = Port {
+    instance: 2,
+    side: Side::Input,
+    port: PortNo(0),
+};
+
+/// The item of the edge.
+const INNER: Item = Item {
+    maker: Some(0),
+    from: Some(EDGE_FROM),
+    to: Some(EDGE_TO),
+};
+
+/// Each line: a name, and the item of the whole run that has it, if one has.
+const ITEMS: [(&str, Option<Item>); 10] = [
+    (
+        "r.a",
+        Some(Item {
+            maker: None,
+            from: None,
+            to: Some(ROOT_INPUT),
+        }),
+    ),
+    (
+        "r.b",
+        Some(Item {
+            maker: None,
+            from: Some(ROOT_OUTPUT),
+            to: None,
+        }),
+    ),
+    ("i1.y", Some(INNER)),
+    // An output that leaves its body by an exit, an input below the root, no port, no instance, and no dot or a second one.
+    ("i2.y", None),
+    ("i1.x", None),
+    ("r.y", None),
+    ("i3.y", None),
+    (".a", None),
+    ("r", None),
+    ("r.a.", None),
+];
+
+/// Each line: a view, whether it shows the item of the edge, and whether it joins the root's input to its output, the ends of the edge, and the root's output to its input.
+const VIEWS: [(&str, bool, [bool; 3]); 3] = [
+    ("{}", true, [true, true, false]),
+    (r#"{"expand":[]}"#, false, [true, false, false]),
+    (
+        r#"{"expand":[],"deps":[{"module":"S","pairs":[]}]}"#,
+        false,
+        [false, false, false],
+    ),
+];
+
+/// What comes of an event in a table that took others before.
+fn told_by_table(
+    alloc: Global,
+    s: &Accepted,
+    most: u8,
+    before: &[Given],
+    event: &Event,
+) -> Result<Outcome, Fail> {
+    let mut run = table(alloc, &s.grammar, most, before)?;
+    let fault = run.take(&s.grammar, event).err();
+    let all = run.instances();
+    let expanded = all.iter().filter(|x| x.production.is_some()).count();
+    Ok((fault, all.len(), expanded))
+}
+
+/// What comes of an event in a run in an arena that took others before.
+fn told_by_run(
+    alloc: Global,
+    s: &Accepted,
+    most: u8,
+    before: &[Given],
+    event: &Event,
+) -> Result<Outcome, Fail>
+    requires linear { IsLinear s.now.grammar.core }
+    requires cycles { AreCyclesOf s.now.grammar.core s.now.cycles }
+{
+    let arena = Bump::new(alloc);
+    let mut run = placed(alloc, &arena, s, most, before)?;
+    let fault = take(&mut run, event).err();
+    Ok((fault, run.instances() as usize, run.expands() as usize))
+}
+
+#[test]
+fn both_kinds_of_run_take_and_refuse_events(rt: HostRuntime) -> Result<(), Fail> {
+    let alloc = rt.alloc();
+    for (text, most, before, given, outcome) in EVENTS {
+        let s = sample(alloc, text)?;
+        let event = event(alloc, given)?;
+        let in_table = told_by_table(alloc, &s, most, before, &event)?;
+        assert_eq!(rt; in_table, outcome, "at {given:?}");
+        let in_run = told_by_run(alloc, &s, most, before, &event)?;
+        assert_eq!(rt; in_run, outcome, "at {given:?}");
+    }
+    Ok(())
+}
+
+#[test]
+fn items_are_found_by_name(rt: HostRuntime) -> Result<(), Fail> {
+    let s = sample(rt.alloc(), LINE)?;
+    let run = table(rt.alloc(), &s.grammar, 3, WHOLE)?;
+    for (name, item) in ITEMS {
+        let found = find_item(&s.grammar, &run, name.as_bytes());
+        assert_eq!(rt; found, item, "at {name}");
+    }
+    Ok(())
+}
+
+/// Whether a view of the run of the line grammar shows the item of the edge, and what ports it joins.
+fn told_by_view(
+    alloc: Global,
+    s: &Accepted,
+    run: &PlainRun,
+    text: &str,
+) -> Result<(bool, [bool; 3]), Fail>
+    requires proper { IsProper s.now.grammar.core }
+    requires ranking { IsRankingOf s.now.grammar.core s.now.ranking }
+    requires run { IsRunOf s.now.grammar.core run.now }
+{
+    let view = view(alloc, &s.grammar, text)?;
+    let full = full(alloc, s, &view)?;
+    let flat = Flat::of(alloc, &s.grammar, run, view.marks(), full.deps())?;
+    let across = flat.joined(alloc, ROOT_INPUT, ROOT_OUTPUT)?;
+    let along = flat.joined(alloc, EDGE_FROM, EDGE_TO)?;
+    let back = flat.joined(alloc, ROOT_OUTPUT, ROOT_INPUT)?;
+    Ok((flat.shows(&INNER), [across, along, back]))
+}
+
+#[test]
+fn views_show_items_and_join_ports(rt: HostRuntime) -> Result<(), Fail> {
+    let s = sample(rt.alloc(), LINE)?;
+    let run = table(rt.alloc(), &s.grammar, 3, WHOLE)?;
+    for (text, shown, joined) in VIEWS {
+        let told = told_by_view(rt.alloc(), &s, &run, text)?;
+        assert_eq!(rt; told, (shown, joined), "at {text}");
+    }
+    Ok(())
+}

@@ -1,0 +1,258 @@
+// Labels of views, whose matrices were worked by hand. A row of a matrix is a number, in which bit `j` stands for column `j`: so the rows 1 and 2 keep two ports, and the rows 2 and 1 exchange them.
+ghost use Rattle.std.specs.Prelude.{◌<◌, IsTrue, length, get_or};
+ghost use Rattle.wf_recur.specs.Cycles.{round_at};
+ghost use Rattle.wf_body.specs.Matrices.{step_of};
+ghost use Rattle.wf_view.specs.Held.{IsHeldFor};
+ghost use Rattle.wf_vlabel.specs.Seen.{IsLabelOfView, Opens, OpensRound};
+
+use crate::viewed::{Viewed, viewed_by};
+use std::test::Fail;
+use wf_recur::CycleNo;
+use wf_samples::{PAIR, ROTATING, TWISTING, sample};
+use wf_spec::{PosNo, ProdNo, Step};
+use wf_vlabel::ViewLabel;
+
+const KEPT: &[u64] = &[1, 2];
+
+const EXCHANGED: &[u64] = &[2, 1];
+
+const UNJOINED: &[u64] = &[0, 0];
+
+/// The rows of a matrix of one pair.
+const ONE: &[u64] = &[1];
+
+/// What is told of a matrix that a view does not show.
+const HIDDEN: &[u64] = &[];
+
+/// The pair grammar under this view shows the body of A and not that of B.
+const FIRST_ALONE: &str = r#"{"expand":["A"]}"#;
+
+/// The specification, the view and a module, and the rows of the pairs of the module.
+const FULL: [(&str, &str, &str, &[u64]); 8] = [
+    (TWISTING, "{}", "S", KEPT),
+    (TWISTING, "{}", "L", KEPT),
+    (TWISTING, "{}", "W", EXCHANGED),
+    (TWISTING, "{}", "T", KEPT),
+    (PAIR, FIRST_ALONE, "A", ONE),
+    (PAIR, FIRST_ALONE, "B", ONE),
+    (PAIR, FIRST_ALONE, "P", ONE),
+    (PAIR, FIRST_ALONE, "Q", HIDDEN),
+];
+
+/// A specification, a view, a step by its production and its position, and the rows of its way in and of its way out.
+const WAYS: [(&str, &str, (u16, u8), &[u64], &[u64]); 8] = [
+    (TWISTING, "{}", (0, 0), KEPT, KEPT),
+    (TWISTING, "{}", (1, 0), KEPT, EXCHANGED),
+    (TWISTING, "{}", (1, 1), EXCHANGED, EXCHANGED),
+    (TWISTING, "{}", (1, 2), EXCHANGED, KEPT),
+    (TWISTING, "{}", (2, 0), KEPT, KEPT),
+    (PAIR, FIRST_ALONE, (0, 0), ONE, ONE),
+    (PAIR, FIRST_ALONE, (0, 1), ONE, ONE),
+    (PAIR, FIRST_ALONE, (2, 1), HIDDEN, HIDDEN),
+];
+
+/// A specification, a view, a step, another position of its body, and the rows of the matrix from the one to the other.
+const BETWEEN: [(&str, &str, (u16, u8), u8, &[u64]); 7] = [
+    (TWISTING, "{}", (1, 0), 1, KEPT),
+    (TWISTING, "{}", (1, 1), 2, KEPT),
+    (TWISTING, "{}", (1, 0), 2, KEPT),
+    (TWISTING, "{}", (1, 1), 0, UNJOINED),
+    (TWISTING, "{}", (1, 1), 1, UNJOINED),
+    (PAIR, FIRST_ALONE, (0, 0), 1, ONE),
+    (PAIR, FIRST_ALONE, (2, 0), 1, HIDDEN),
+];
+
+/// A specification, a view, a place of the first cycle, the number of rounds as a power of 2, and the rows of so many rounds down from the place and up to it. In the rotating grammar one round exchanges the first two ports and then the last two, or the other way about.
+const ROUNDS: [(&str, &str, u16, u8, &[u64], &[u64]); 10] = [
+    (TWISTING, "{}", 0, 0, EXCHANGED, EXCHANGED),
+    (TWISTING, "{}", 0, 1, KEPT, KEPT),
+    (TWISTING, "{}", 0, 23, KEPT, KEPT),
+    (ROTATING, "{}", 0, 0, &[4, 1, 2], &[2, 4, 1]),
+    (ROTATING, "{}", 1, 0, &[2, 4, 1], &[4, 1, 2]),
+    (ROTATING, "{}", 0, 1, &[2, 4, 1], &[4, 1, 2]),
+    (ROTATING, "{}", 1, 2, &[2, 4, 1], &[4, 1, 2]),
+    (PAIR, "{}", 0, 0, ONE, ONE),
+    (PAIR, FIRST_ALONE, 0, 0, HIDDEN, HIDDEN),
+    (PAIR, FIRST_ALONE, 1, 0, HIDDEN, HIDDEN),
+];
+
+/// A specification, a view, a place of the first cycle, and how many continuing steps lead from there to the first module that is not expanded.
+const CUTS: [(&str, &str, u16, Option<u32>); 9] = [
+    (TWISTING, "{}", 0, None),
+    (TWISTING, r#"{"expand":["S"]}"#, 0, Some(0)),
+    (PAIR, "{}", 0, None),
+    (PAIR, "{}", 1, None),
+    (PAIR, FIRST_ALONE, 0, Some(1)),
+    (PAIR, FIRST_ALONE, 1, Some(0)),
+    (PAIR, r#"{"expand":["B"]}"#, 0, Some(0)),
+    (PAIR, r#"{"expand":["B"]}"#, 1, Some(1)),
+    (PAIR, r#"{"expand":[]}"#, 1, Some(0)),
+];
+
+/// A step by a production to a position.
+fn step(at: (u16, u8)) -> Step {
+    Step {
+        production: ProdNo(at.0),
+        position: PosNo(at.1),
+    }
+}
+
+/// The rows of the pairs of a module; none of a module that is not seen.
+fn full_rows<'v>(v: &'v Viewed<'_>, name: &[u8]) -> &'v [u64]
+    requires held { IsHeldFor v.now.label.grammar v.now.view }
+    requires label { IsLabelOfView v.now.label v.now.view.core }
+{
+    let Some(m) = v.label.grammar().find(name) else {
+        return HIDDEN;
+    };
+    if !v.view.seen(m) {
+        return HIDDEN;
+    }
+    v.label.full(m).rows
+}
+
+/// Whether a step leaves a module that is seen and expanded.
+fn is_open(v: &Viewed<'_>, s: Step) -> bool
+    requires held { IsHeldFor v.now.label.grammar v.now.view }
+    requires label { IsLabelOfView v.now.label v.now.view.core }
+    ensures { IsTrue result → Opens v.now.label (step_of s) }
+{
+    let g = v.label.grammar();
+    if s.production.0 as usize >= g.productions().len() {
+        return false;
+    }
+    let rule = g.production(s.production);
+    let head = rule.head();
+    (s.position.0 as usize) < rule.positions().len() && v.view.seen(head) && v.view.expanded(head)
+}
+
+/// The rows of the way in and of the way out of a step; none of a step that the view does not show.
+fn way_rows<'v>(v: &'v Viewed<'_>, s: Step) -> (&'v [u64], &'v [u64])
+    requires held { IsHeldFor v.now.label.grammar v.now.view }
+    requires label { IsLabelOfView v.now.label v.now.view.core }
+{
+    if !is_open(v, s) {
+        return (HIDDEN, HIDDEN);
+    }
+    (
+        v.label.into_position(s).rows,
+        v.label.out_of_position(s).rows,
+    )
+}
+
+/// The rows of the matrix from a position to another; none where the view does not show their body.
+fn between_rows<'v>(v: &'v Viewed<'_>, s: Step, to: PosNo) -> &'v [u64]
+    requires held { IsHeldFor v.now.label.grammar v.now.view }
+    requires label { IsLabelOfView v.now.label v.now.view.core }
+{
+    let other = Step {
+        production: s.production,
+        position: to,
+    };
+    if !is_open(v, s) || !is_open(v, other) {
+        return HIDDEN;
+    }
+    v.label.between(s, to).rows
+}
+
+/// How many continuing steps lead from a place of the first cycle to the first module that is not expanded.
+fn cut_at(label: &ViewLabel<'_>, place: u16) -> Result<Option<u32>, Fail> {
+    let cycles = label.cycles();
+    if cycles.count() == 0 || place >= cycles.length(CycleNo(0)) {
+        return Err(Fail::new("a place of a cycle"));
+    }
+    Ok(label.cut(CycleNo(0), place))
+}
+
+/// Whether the first cycle is seen and expanded whole from a place on.
+fn is_whole(v: &Viewed<'_>, place: u16) -> bool
+    requires held { IsHeldFor v.now.label.grammar v.now.view }
+    requires label { IsLabelOfView v.now.label v.now.view.core }
+    ensures cycle { IsTrue result → 0 < length v.now.label.cycles.rounds }
+    ensures place { IsTrue result → place < length (round_at v.now.label.cycles 0) }
+    ensures round { IsTrue result → OpensRound v.now.label (get_or (round_at v.now.label.cycles 0) place 0) }
+{
+    let cycles = v.label.cycles();
+    let first = CycleNo(0);
+    if cycles.count() == 0 || place >= cycles.length(first) {
+        return false;
+    }
+    v.view.seen(cycles.at(first, place)) && v.label.cut(first, place).is_none()
+}
+
+/// The rows of so many rounds down from a place of the first cycle and up to it, as a power of 2; none where the view does not show the whole cycle.
+fn round_rows<'v>(v: &'v Viewed<'_>, place: u16, power: u8) -> (&'v [u64], &'v [u64])
+    requires held { IsHeldFor v.now.label.grammar v.now.view }
+    requires label { IsLabelOfView v.now.label v.now.view.core }
+    requires power { power < 24 }
+{
+    if !is_whole(v, place) {
+        return (HIDDEN, HIDDEN);
+    }
+    let first = CycleNo(0);
+    (
+        v.label.square_in(first, place, power).rows,
+        v.label.square_out(first, place, power).rows,
+    )
+}
+
+#[test]
+fn modules_have_their_pairs(rt: HostRuntime) -> Result<(), Fail> {
+    let alloc = rt.alloc();
+    for (spec, view, module, want) in FULL {
+        let s = sample(alloc, spec)?;
+        let v = viewed_by(alloc, &s, view)?;
+        assert_eq!(rt; full_rows(&v, module.as_bytes()), want, "of {module}");
+    }
+    Ok(())
+}
+
+#[test]
+fn bodies_have_their_ways_in_and_out(rt: HostRuntime) -> Result<(), Fail> {
+    let alloc = rt.alloc();
+    for (spec, view, at, into, out) in WAYS {
+        let s = sample(alloc, spec)?;
+        let v = viewed_by(alloc, &s, view)?;
+        let ways = way_rows(&v, step(at));
+        assert_eq!(rt; ways.0, into, "into {at:?}");
+        assert_eq!(rt; ways.1, out, "out of {at:?}");
+    }
+    Ok(())
+}
+
+#[test]
+fn bodies_have_their_ways_across(rt: HostRuntime) -> Result<(), Fail> {
+    let alloc = rt.alloc();
+    for (spec, view, at, to, want) in BETWEEN {
+        let s = sample(alloc, spec)?;
+        let v = viewed_by(alloc, &s, view)?;
+        let rows = between_rows(&v, step(at), PosNo(to));
+        assert_eq!(rt; rows, want, "from {at:?} to {to}");
+    }
+    Ok(())
+}
+
+#[test]
+fn cycles_have_their_rounds(rt: HostRuntime) -> Result<(), Fail> {
+    let alloc = rt.alloc();
+    for (spec, view, place, power, down, up) in ROUNDS {
+        let s = sample(alloc, spec)?;
+        let v = viewed_by(alloc, &s, view)?;
+        assert!(rt; power < 24);
+        let rows = round_rows(&v, place, power);
+        assert_eq!(rt; rows.0, down, "down from {place} by {power}");
+        assert_eq!(rt; rows.1, up, "up to {place} by {power}");
+    }
+    Ok(())
+}
+
+#[test]
+fn chains_are_cut(rt: HostRuntime) -> Result<(), Fail> {
+    let alloc = rt.alloc();
+    for (spec, view, place, want) in CUTS {
+        let s = sample(alloc, spec)?;
+        let v = viewed_by(alloc, &s, view)?;
+        assert_eq!(rt; cut_at(&v.label, place)?, want, "at {place} under {view}");
+    }
+    Ok(())
+}

@@ -1,0 +1,244 @@
+// Queries on the items of label files, worked by hand.
+//
+// Of LINE 20 is the label of the input, 60 that of the output, and B0 that of the edge. Of FORKING B0 is the edge of the first way to do S, and 94 that of the second.
+use crate::word_tests::{name, words};
+use std::alloc::{AllocError, Global};
+use std::test::Fail;
+use wf_io::{MemFile, MemShelf, MemSink};
+use wf_model::Seq;
+use wf_samples::{FORKING, LINE, LOOP};
+use wf_top::Status::{Done, ReadFault, Refused, WriteFault};
+use wf_top::{Status, run};
+
+/// The head of the label files of LINE, without its last byte.
+const SHORT: &[u8] =
+    b"WFL1\x8f\xbb\x4f\xca\xf0\xd4\x77\x63\x20\x00\x89\x79\xb9\x21\x95\x0e\x24\xba\x2b\x3f\xfd\x93\x7a\x5f\xbe\x18\x24\x81\x20\x1d\xce";
+
+/// The label file of LINE for no events: the head alone.
+const HEAD: &[u8] =
+    b"WFL1\x8f\xbb\x4f\xca\xf0\xd4\x77\x63\x20\x00\x89\x79\xb9\x21\x95\x0e\x24\xba\x2b\x3f\xfd\x93\x7a\x5f\xbe\x18\x24\x81\x20\x1d\xce\x8e";
+
+/// The label file of a run of LINE in which nothing is expanded.
+const START: &[u8] =
+    b"WFL1\x8f\xbb\x4f\xca\xf0\xd4\x77\x63\x20\x00\x89\x79\xb9\x21\x95\x0e\x24\xba\x2b\x3f\xfd\x93\x7a\x5f\xbe\x18\x24\x81\x20\x1d\xce\x8e\x03r.a\x00\x01\x20\x03r.b\x00\x01\x60";
+
+/// The label file of a run of LINE that is finished.
+const WHOLE: &[u8] =
+    b"WFL1\x8f\xbb\x4f\xca\xf0\xd4\x77\x63\x20\x00\x89\x79\xb9\x21\x95\x0e\x24\xba\x2b\x3f\xfd\x93\x7a\x5f\xbe\x18\x24\x81\x20\x1d\xce\x8e\x03r.a\x00\x01\x20\x03r.b\x00\x01\x60\x04i1.y\x00\x01\xb0";
+
+/// The same without its last byte.
+const CUT: &[u8] =
+    b"WFL1\x8f\xbb\x4f\xca\xf0\xd4\x77\x63\x20\x00\x89\x79\xb9\x21\x95\x0e\x24\xba\x2b\x3f\xfd\x93\x7a\x5f\xbe\x18\x24\x81\x20\x1d\xce\x8e\x03r.a\x00\x01\x20\x03r.b\x00\x01\x60\x04i1.y\x00\x01";
+
+/// The same with the first name again in the second entry.
+const TWICE: &[u8] =
+    b"WFL1\x8f\xbb\x4f\xca\xf0\xd4\x77\x63\x20\x00\x89\x79\xb9\x21\x95\x0e\x24\xba\x2b\x3f\xfd\x93\x7a\x5f\xbe\x18\x24\x81\x20\x1d\xce\x8e\x03r.a\x00\x01\x20\x03r.a\x00\x01\x60\x04i1.y\x00\x01\xb0";
+
+/// Labels of FORKING that no run has both.
+const FORGED: &[u8] =
+    b"WFL1\x79\x02\xb5\x59\xf3\xf1\x57\xae\x01\xc3\x09\xdf\x9f\x20\xce\x67\xd9\xbf\x00\x68\x65\x09\x7b\xc2\xe9\xda\x25\x03\x0e\x33\x54\x38\x03r.a\x00\x01\x20\x03p.y\x00\x01\xb0\x03q.y\x00\x01\x94";
+
+const QUERIES: &str = "r.a i1.y\ni1.y r.b\nr.b r.a\ni1.y i1.y\nr.a i2.y\n";
+
+/// Each line: the specification, the view, the label file, the queries, the status, the answers and the line on err.
+const ROWS: [(&str, &str, &[u8], &str, Status, &str, &str); 13] = [
+    (
+        LINE,
+        "{}",
+        WHOLE,
+        QUERIES,
+        Done,
+        "yes\nyes\nno\nno\nunknown\n",
+        "",
+    ),
+    (
+        LINE,
+        "{\"expand\":[]}",
+        WHOLE,
+        QUERIES,
+        Done,
+        "hidden\nhidden\nno\nhidden\nunknown\n",
+        "",
+    ),
+    (LINE, "{}", WHOLE, "", Done, "", ""),
+    (
+        LINE,
+        "{}",
+        START,
+        "r.a r.b\r\n\nr.a i1.y",
+        Done,
+        "yes\nunknown\n",
+        "",
+    ),
+    (LINE, "{}", HEAD, "r.a r.b\n", Done, "unknown\n", ""),
+    (
+        FORKING,
+        "{}",
+        FORGED,
+        "p.y q.y\nr.a q.y\np.y r.b\n",
+        Done,
+        "clash\nyes\nunknown\n",
+        "",
+    ),
+    (
+        LINE,
+        "{}",
+        CUT,
+        QUERIES,
+        Refused,
+        "",
+        "refused: labels: Damaged\n",
+    ),
+    (
+        LINE,
+        "{}",
+        SHORT,
+        "r.a\n",
+        Refused,
+        "",
+        "refused: labels: NotLabels\n",
+    ),
+    (
+        LINE,
+        "{}",
+        TWICE,
+        QUERIES,
+        Refused,
+        "",
+        "refused: labels: Damaged\n",
+    ),
+    (
+        LOOP,
+        "{}",
+        WHOLE,
+        QUERIES,
+        Refused,
+        "",
+        "refused: labels: OtherSpec\n",
+    ),
+    (
+        LINE,
+        "{",
+        SHORT,
+        "r.a\n",
+        Refused,
+        "",
+        "refused: view: NotJson\n",
+    ),
+    (
+        LINE,
+        "{}",
+        WHOLE,
+        "r.a i1.y\nr.b r.a\nr.a\nr.a r.b\n",
+        Refused,
+        "yes\nno\n",
+        "refused: queries line 3: LineWrong\n",
+    ),
+    (
+        LINE,
+        "{}",
+        WHOLE,
+        "r.a i1.y\nr.a  r.b\n",
+        Refused,
+        "yes\n",
+        "refused: queries line 2: LineWrong\n",
+    ),
+];
+
+/// Each line: the words, whether reading past the label file fails, the room on out, the status, the answers and the line on err.
+const FAULTS: [(&str, bool, usize, Status, &str, &str); 5] = [
+    (
+        "ask spec view labels queries",
+        true,
+        64,
+        ReadFault,
+        "",
+        "fault: reading labels\n",
+    ),
+    (
+        "ask spec view none queries",
+        false,
+        64,
+        ReadFault,
+        "",
+        "fault: reading labels\n",
+    ),
+    (
+        "ask spec view labels none",
+        false,
+        64,
+        ReadFault,
+        "",
+        "fault: reading queries\n",
+    ),
+    (
+        "ask spec none none none",
+        false,
+        64,
+        ReadFault,
+        "",
+        "fault: reading view\n",
+    ),
+    (
+        "ask spec view labels queries",
+        false,
+        5,
+        WriteFault,
+        "yes\ny",
+        "fault: writing\n",
+    ),
+];
+
+fn file(alloc: Global, called: &str, bytes: &[u8], broken: bool) -> Result<MemFile, AllocError> {
+    Ok(MemFile {
+        name: name(alloc, called)?,
+        bytes: Seq::from_vec(Vec::from_slice(alloc, bytes)?),
+        broken,
+    })
+}
+
+fn shelf(
+    alloc: Global,
+    texts: (&str, &str, &[u8], &str),
+    broken: bool,
+) -> Result<MemShelf, AllocError> {
+    let (spec, view, labels, queries) = texts;
+    let mut files = Vec::new(alloc);
+    files.push(file(alloc, "spec", spec.as_bytes(), false)?)?;
+    files.push(file(alloc, "view", view.as_bytes(), false)?)?;
+    files.push(file(alloc, "labels", labels, broken)?)?;
+    files.push(file(alloc, "queries", queries.as_bytes(), false)?)?;
+    Ok(MemShelf::new(Seq::from_vec(files), 5))
+}
+
+#[test]
+fn labels_answer_queries(rt: HostRuntime) -> Result<(), Fail> {
+    let alloc = rt.alloc();
+    for (spec, view, labels, queries, status, answers, message) in ROWS {
+        let mut shelf = shelf(alloc, (spec, view, labels, queries), false)?;
+        let mut out = MemSink::new(alloc, 64)?;
+        let mut err = MemSink::new(alloc, 64)?;
+        let words = words(alloc, "ask spec view labels queries")?;
+        let got = run(alloc, &words, &mut shelf, &mut out, &mut err);
+        assert_eq!(rt; got, status, "at {queries:?}");
+        assert_eq!(rt; out.bytes(), answers.as_bytes(), "at {queries:?}");
+        assert_eq!(rt; err.bytes(), message.as_bytes(), "at {queries:?}");
+    }
+    Ok(())
+}
+
+#[test]
+fn files_may_break_and_a_sink_may_be_full(rt: HostRuntime) -> Result<(), Fail> {
+    let alloc = rt.alloc();
+    for (line, broken, room, status, answers, message) in FAULTS {
+        let mut shelf = shelf(alloc, (LINE, "{}", WHOLE, QUERIES), broken)?;
+        let mut out = MemSink::new(alloc, room)?;
+        let mut err = MemSink::new(alloc, 64)?;
+        let words = words(alloc, line)?;
+        let got = run(alloc, &words, &mut shelf, &mut out, &mut err);
+        assert_eq!(rt; got, status, "at {line:?}");
+        assert_eq!(rt; out.bytes(), answers.as_bytes(), "at {line:?}");
+        assert_eq!(rt; err.bytes(), message.as_bytes(), "at {line:?}");
+    }
+    Ok(())
+}

@@ -1,0 +1,19 @@
+//! Tests of the program over files in memory, by its one public call.
+#![tactic(auto)]
+
+#[cfg(test)]
+mod ask_tests;
+#[cfg(test)]
+mod decide_tests;
+#[cfg(test)]
+mod event_tests;
+#[cfg(test)]
+mod ingest_tests;
+#[cfg(test)]
+mod spec_tests;
+#[cfg(test)]
+mod verdict_tests;
+#[cfg(test)]
+mod view_tests;
+#[cfg(test)]
+mod word_tests;

@@ -1,0 +1,8 @@
+//! Worked grammars and views for the crates of tests: their texts, and what the program reads from a text.
+#![tactic(auto)]
+
+mod reading;
+mod texts;
+
+pub use reading::{Accepted, full, grammar, sample, view};
+pub use texts::{FORKING, LINE, LOOP, PAIR, ROTATING, TWISTING};
