@@ -3,7 +3,7 @@ ghost use Rattle.wf_recur.specs.Cycles.{AreCyclesOf};
 
 use std::alloc::{AllocError, Global};
 use std::test::Fail;
-use wf_recur::{CycleNo, OnCycle, RecurFault, cycles};
+use wf_recur::{CycleNo, RecurFault, cycles};
 use wf_samples::{Accepted, LINE, LOOP, PAIR, grammar, sample};
 use wf_spec::{ModNo, PosNo, ProdNo, Step};
 
@@ -46,48 +46,51 @@ fn cycles_are_gone_round_from_their_least_modules(rt: HostRuntime) -> Result<(),
     Ok(())
 }
 
-fn step(production: u16, position: u8) -> Step {
-    Step {
-        production: ProdNo(production),
-        position: PosNo(position),
-    }
-}
+/// A module, by its grammar and its name, and where it stands: the cycle, the place on it, and the production and the position of the step that leads back. Each of these steps but that of D is to the second position of a body.
+const STANDS: [(&str, &str, Option<(u16, u16, u16, u8)>); 10] = [
+    (LINE, "S", None),
+    (LOOP, "S", None),
+    (LOOP, "L", Some((0, 0, 1, 1))),
+    (LOOP, "P", None),
+    (PAIR, "A", Some((0, 0, 0, 1))),
+    (PAIR, "B", Some((0, 1, 2, 1))),
+    (PAIR, "Q", None),
+    (TWO_CYCLES, "S", None),
+    (TWO_CYCLES, "B", Some((1, 0, 3, 1))),
+    (TWO_CYCLES, "D", Some((0, 1, 6, 0))),
+];
 
-/// The place of a module on a cycle, with its step.
-fn stand(cycle: u16, place: u16, step: Step) -> Option<OnCycle> {
-    let cycle = CycleNo(cycle);
-    Some(OnCycle { cycle, place, step })
-}
-
-/// Where the module of a name stands.
-fn stand_of(s: &Accepted, name: &str) -> Result<Option<OnCycle>, Fail>
+/// Where the module of a name stands, in the same numbers.
+fn stand_of(s: &Accepted, name: &str) -> Result<Option<(u16, u16, u16, u8)>, Fail>
     requires { AreCyclesOf s.now.grammar.core s.now.cycles }
 {
     let Some(m) = s.grammar.find(name.as_bytes()) else {
         return Err(Fail::new("a module of the name"));
     };
-    Ok(s.cycles.on(m))
+    let Some(on) = s.cycles.on(m) else {
+        return Ok(None);
+    };
+    let Step {
+        production,
+        position,
+    } = on.step;
+    Ok(Some((on.cycle.0, on.place, production.0, position.0)))
 }
 
-/// Each module that leads back to itself has the step by which it does, as the number of the production and that of the position: all of these but that of D lead from the second position of a body.
 #[test]
 fn modules_stand_on_their_cycles(rt: HostRuntime) -> Result<(), Fail> {
-    for (text, name, on) in [
-        (LINE, "S", None),
-        (LOOP, "S", None),
-        (LOOP, "L", stand(0, 0, step(1, 1))),
-        (LOOP, "P", None),
-        (PAIR, "A", stand(0, 0, step(0, 1))),
-        (PAIR, "B", stand(0, 1, step(2, 1))),
-        (PAIR, "Q", None),
-        (TWO_CYCLES, "S", None),
-        (TWO_CYCLES, "B", stand(1, 0, step(3, 1))),
-        (TWO_CYCLES, "D", stand(0, 1, step(6, 0))),
-    ] {
+    for (text, name, on) in STANDS {
         let s = sample(rt.alloc(), text)?;
         assert_eq!(rt; stand_of(&s, name)?, on, "at {name} of {text}");
     }
     Ok(())
+}
+
+fn step(production: u16, position: u8) -> Step {
+    Step {
+        production: ProdNo(production),
+        position: PosNo(position),
+    }
 }
 
 /// L and K both have two steps that lead back, and L is the lesser. Its steps are to the L of production 2, to the K of production 3, which leads to an L again, and to the L of production 3: the first two of these are told, by production and then by position.

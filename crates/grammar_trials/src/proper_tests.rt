@@ -2,6 +2,7 @@
 ghost use Rattle.wf_check.specs.Proper.{IsRankingOf};
 
 use std::alloc::Global;
+use std::process::Abort;
 use std::test::Fail;
 use wf_check::{CheckFault, Proper, proper};
 use wf_samples::grammar;
@@ -34,18 +35,24 @@ fn rank_and_choice(g: &Grammar, p: &Proper, name: &[u8]) -> Option<(u32, ProdNo)
     Some((p.rank(m), p.choice(m)))
 }
 
+fn are_ranked(rt: &impl Abort, g: &Grammar, p: &Proper)
+    requires { IsRankingOf g.now.core p.now }
+{
+    for (letter, rank, choice) in RANKS {
+        let got = rank_and_choice(g, p, &[letter]);
+        assert_eq!(rt; got, Some((rank, ProdNo(choice))));
+    }
+    let of_atomic = rank_and_choice(g, p, b"P").map(|(rank, _)| rank);
+    assert_eq!(rt; of_atomic, Some(0));
+}
+
 #[test]
 fn ranks_and_choices_are_least(rt: HostRuntime) -> Result<(), Fail> {
     let g = grammar(rt.alloc(), RANKED)?;
     let Ok(p) = proper(rt.alloc(), &g) else {
         return Err(Fail::new("a proper grammar"));
     };
-    for (letter, rank, choice) in RANKS {
-        let got = rank_and_choice(&g, &p, &[letter]);
-        assert_eq!(rt; got, Some((rank, ProdNo(choice))));
-    }
-    let of_atomic = rank_and_choice(&g, &p, b"P").map(|(rank, _)| rank);
-    assert_eq!(rt; of_atomic, Some(0));
+    are_ranked(&rt, &g, &p);
     Ok(())
 }
 

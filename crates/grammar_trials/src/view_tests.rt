@@ -159,32 +159,11 @@ fn rows_of<'a>(g: &Grammar, v: &'a View, name: &[u8]) -> &'a [u64]
     v.shown_rows(m)
 }
 
-#[test]
-fn modules_are_seen_below_those_that_are_expanded(rt: HostRuntime) -> Result<(), Fail> {
-    let g = grammar(rt.alloc(), LETTERS)?;
-    for (text, expanded, seen) in EXPANDED_AND_SEEN {
-        let v = view(rt.alloc(), &g, text)?;
-        let letters = expanded_and_seen(rt.alloc(), &g, &v)?;
-        are_letters(&rt, &letters, expanded, seen);
-    }
-    Ok(())
-}
-
 fn shows(rt: &impl Abort, g: &Grammar, v: &View, of_c: &[u64], of_n: &[u64])
     requires { IsHeldFor g.now.core v.now }
 {
     assert_eq!(rt; rows_of(g, v, b"C"), of_c, "where N has {of_n:?}");
     assert_eq!(rt; rows_of(g, v, b"N"), of_n, "where C has {of_c:?}");
-}
-
-#[test]
-fn pairs_are_those_of_deps_parts(rt: HostRuntime) -> Result<(), Fail> {
-    let g = grammar(rt.alloc(), LETTERS)?;
-    for (text, of_c, of_n) in SHOWN {
-        let v = view(rt.alloc(), &g, text)?;
-        shows(&rt, &g, &v, of_c, of_n);
-    }
-    Ok(())
 }
 
 /// The fault of a text that describes no view.
@@ -193,11 +172,41 @@ fn fault_of(alloc: Global, g: &Grammar, text: &str) -> Result<Option<ViewFault>,
     Ok(View::build(alloc, g, &parts).err())
 }
 
-#[test]
-fn the_first_fault_is_told(rt: HostRuntime) -> Result<(), Fail> {
-    let g = grammar(rt.alloc(), LETTERS)?;
-    for (text, fault) in FAULTS {
-        assert_eq!(rt; fault_of(rt.alloc(), &g, text)?, Some(fault), "at {text}");
+fn are_seen(rt: &impl Abort, alloc: Global, g: &Grammar) -> Result<(), Fail> {
+    for (text, expanded, seen) in EXPANDED_AND_SEEN {
+        let v = view(alloc, g, text)?;
+        let letters = expanded_and_seen(alloc, g, &v)?;
+        are_letters(rt, &letters, expanded, seen);
     }
     Ok(())
+}
+
+fn are_shown(rt: &impl Abort, alloc: Global, g: &Grammar) -> Result<(), Fail> {
+    for (text, of_c, of_n) in SHOWN {
+        let v = view(alloc, g, text)?;
+        shows(rt, g, &v, of_c, of_n);
+    }
+    Ok(())
+}
+
+fn are_told(rt: &impl Abort, alloc: Global, g: &Grammar) -> Result<(), Fail> {
+    for (text, fault) in FAULTS {
+        assert_eq!(rt; fault_of(alloc, g, text)?, Some(fault), "at {text}");
+    }
+    Ok(())
+}
+
+#[test]
+fn modules_are_seen_below_those_that_are_expanded(rt: HostRuntime) -> Result<(), Fail> {
+    are_seen(&rt, rt.alloc(), &grammar(rt.alloc(), LETTERS)?)
+}
+
+#[test]
+fn pairs_are_those_of_deps_parts(rt: HostRuntime) -> Result<(), Fail> {
+    are_shown(&rt, rt.alloc(), &grammar(rt.alloc(), LETTERS)?)
+}
+
+#[test]
+fn the_first_fault_is_told(rt: HostRuntime) -> Result<(), Fail> {
+    are_told(&rt, rt.alloc(), &grammar(rt.alloc(), LETTERS)?)
 }
