@@ -10,13 +10,14 @@ use Rattle.wf_model.specs.Linear.{IsOnCycle}
 use Rattle.wf_model.proofs.Lists.{in_filter_from}
 use Rattle.wf_model.proofs.Level.{in_numbers}
 use Rattle.wf_model.proofs.Walks.{walk-append}
-use Rattle.label_model.specs.Continuing.{continuing, is_composite, is_least}
-use Rattle.label_model.proofs.Composites.{composite_is}
+use Rattle.label_model.specs.Continuing.{continuing, is_least}
+use Rattle.wf_model.proofs.Composites.{composite_is}
 use Rattle.label_model.proofs.ContinuingSteps.{continuing_found}
 use Rattle.label_model.proofs.Differing.{no_more_below, numbers_differ, differ_filter}
 use Rattle.label_model.proofs.LeastModules.{least, least_is, composite_up, cycle_up}
 use Rattle.decode_model.specs.Counts.{Numbers}
 use Rattle.decode_model.specs.CostLaws.{NumbersLaw}
+use Rattle.wf_model.specs.Composite.{is_composite}
 
 -- below a higher number more pass, if the lower one passes
 more_pass : (p : ℕ → Bool) (a b : ℕ) → a < b → p a ≡ true → count_by p (numbers_from 0 a) < count_by p (numbers_from 0 b)

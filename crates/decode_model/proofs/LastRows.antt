@@ -8,11 +8,13 @@ use Rattle.wf_model.specs.Reach.{Step, target_of, module_along}
 use Rattle.wf_laws.specs.Splits.{IntoAll, OutAll}
 use Rattle.decode_model.specs.Ways.{Pairs, Crosses}
 use Rattle.decode_model.specs.Rows.{Along}
-use Rattle.decode_model.specs.Matrices.{IsOpenStep, Within, Across, ViewMatrices, AreMatrices}
+use Rattle.wf_model.specs.OpenRoutes.{IsOpenStep}
+use Rattle.decode_model.specs.Matrices.{Within, Across, ViewMatrices, AreMatrices}
 use Rattle.decode_model.specs.Legs.{Leg, way_steps, way_down, way_up, AreLegs, crossing}
 use Rattle.decode_model.specs.RowLaws.{RowsLaw, DownRowsLaw, UpRowsLaw}
 use Rattle.decode_model.proofs.RowProducts.{through_law, along_append, along_one}
-use Rattle.decode_model.proofs.SeenLegs.{step_seen, legs_seen}
+use Rattle.wf_model.proofs.OpenRoutes.{step_seen}
+use Rattle.decode_model.proofs.SeenLegs.{legs_seen}
 use Rattle.decode_model.proofs.LegRows.{down_way, up_way}
 
 -- a way down ends at an input of the last module, and a way up begins at an output of it

@@ -11,10 +11,10 @@ use Rattle.wf_model.specs.Reach.{Step, target_of}
 use Rattle.wf_model.specs.Linear.{IsStepOf, IsOnCycle}
 use Rattle.wf_model.proofs.Lists.{in_map_from}
 use Rattle.wf_model.proofs.Walks.{walk-append}
+use Rattle.wf_model.proofs.Going.{step_makes}
+use Rattle.wf_model.proofs.NumberLists.{length-numbers}
 use Rattle.label_model.specs.Bound.{components, cycles}
-use Rattle.label_model.proofs.Deriving.{length-numbers}
 use Rattle.label_model.proofs.Differing.{no_more_below}
-use Rattle.label_model.proofs.ContinuingSteps.{target_made}
 use Rattle.decode_model.specs.Legs.{Leg, One, Chain, Part}
 use Rattle.decode_model.specs.Costs.{cost}
 use Rattle.decode_model.specs.Counts.{IsLegsOfPlace, ends, goes, ends_after, goes_after, ends_part, goes_part, Numbers}
@@ -105,28 +105,28 @@ one_starts : (g : Grammar) (m : ℕ) (legs : List Leg) → IsLegsOfPlace g m leg
 unfolding single_legs
 one_starts g m _ (ends s x) = alone g (IsComposite g) m m (composite g m s x) here
 one_starts g m _ (goes {legs = legs} s x out p) =
-    let st = onward (target_made g m s x) here in
+    let st = onward (step_makes g m s x) here in
     add g (IsComposite g) m (target_of g s) m (single_legs legs) (composite g m s x) here st (λ d. out (x, d)) (one_starts g (target_of g s) legs p)
 one_starts g m _ (ends_after n s on mn nm x) = alone g (IsComposite g) m n (composite g n s x) mn
 one_starts g m _ (goes_after {legs = legs} n s on mn nm x out p) =
-    let st = walk-append mn (onward (target_made g n s x) here) in
+    let st = walk-append mn (onward (step_makes g n s x) here) in
     add g (IsComposite g) m (target_of g s) n (single_legs legs) (composite g n s x) mn st (λ d. out (x, d)) (one_starts g (target_of g s) legs p)
 one_starts g m _ (ends_part n s on mn nm x) = alone g (IsComposite g) m n (composite g n s x) mn
 one_starts g m _ (goes_part {legs = legs} n s on mn nm x out p) =
-    let st = walk-append mn (onward (target_made g n s x) here) in
+    let st = walk-append mn (onward (step_makes g n s x) here) in
     add g (IsComposite g) m (target_of g s) n (single_legs legs) (composite g n s x) mn st (λ d. out (x, d)) (one_starts g (target_of g s) legs p)
 
 chain_starts : (g : Grammar) (m : ℕ) (legs : List Leg) → IsLegsOfPlace g m legs → Starts g (IsOnCycle g) m (chain_legs legs)
 unfolding chain_legs
 chain_starts g m _ (ends s x) = nothing g (IsOnCycle g) m
-chain_starts g m _ (goes {legs = legs} s x out p) = above g (IsOnCycle g) m (target_of g s) (chain_legs legs) (onward (target_made g m s x) here) (chain_starts g (target_of g s) legs p)
+chain_starts g m _ (goes {legs = legs} s x out p) = above g (IsOnCycle g) m (target_of g s) (chain_legs legs) (onward (step_makes g m s x) here) (chain_starts g (target_of g s) legs p)
 chain_starts g m _ (ends_after n s on mn nm x) = alone g (IsOnCycle g) m m on here
 chain_starts g m _ (goes_after {legs = legs} n s on mn nm x out p) =
-    let st = walk-append mn (onward (target_made g n s x) here) in
+    let st = walk-append mn (onward (step_makes g n s x) here) in
     add g (IsOnCycle g) m (target_of g s) m (chain_legs legs) on here st (λ d. out (x, walk-append d mn)) (chain_starts g (target_of g s) legs p)
 chain_starts g m _ (ends_part n s on mn nm x) = alone g (IsOnCycle g) m m on here
 chain_starts g m _ (goes_part {legs = legs} n s on mn nm x out p) =
-    let st = walk-append mn (onward (target_made g n s x) here) in
+    let st = walk-append mn (onward (step_makes g n s x) here) in
     add g (IsOnCycle g) m (target_of g s) m (chain_legs legs) on here st (λ d. out (x, walk-append d mn)) (chain_starts g (target_of g s) legs p)
 
 -- the legs of a place cost at most one for each component, and for each cycle what a chain costs

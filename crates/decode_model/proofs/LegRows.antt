@@ -9,14 +9,15 @@ use Rattle.wf_model.specs.Reach.{Step, target_of, module_along, OutOf}
 use Rattle.wf_laws.specs.Splits.{IntoAll, OutAll}
 use Rattle.decode_model.specs.Rounds.{times}
 use Rattle.decode_model.specs.Rows.{Along}
-use Rattle.decode_model.specs.Matrices.{IsOpenRoute, IsOnceRound, ViewMatrices, AreMatrices}
+use Rattle.wf_model.specs.OpenRoutes.{IsOpenRoute}
+use Rattle.decode_model.specs.Matrices.{IsOnceRound, ViewMatrices, AreMatrices}
 use Rattle.decode_model.specs.Legs.{Leg, One, Chain, Part, leg_steps, way_steps, squares, each_up, leg_down, leg_up, way_down, way_up, IsLeg, AreLegs}
 use Rattle.decode_model.specs.RowLaws.{WaysLaw}
 use Rattle.decode_model.proofs.Crossing.{into_append, out_append, out_first}
 use Rattle.decode_model.proofs.Rounds.{into_times, out_times}
 use Rattle.decode_model.proofs.RowProducts.{along_append, along_one}
 use Rattle.decode_model.proofs.Squares.{squares_power}
-use Rattle.decode_model.proofs.SeenLegs.{open_take}
+use Rattle.wf_model.proofs.OpenRoutes.{open_take}
 
 module _ (g : Grammar) (u : View) (d : Assignment) (v : ViewMatrices) (are : AreMatrices g u d v) where
   each_down_law : (m : ℕ) (steps : List Step) → IsOpenRoute g u m steps → Same (Along (map v.into steps)) (IntoAll g d steps)

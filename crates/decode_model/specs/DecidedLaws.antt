@@ -5,7 +5,8 @@ use Rattle.wf_model.specs.Grammar.{Grammar, Assignment, inputs_of, outputs_of}
 use Rattle.wf_model.specs.View.{View, IsSeenModule}
 use Rattle.wf_model.specs.Reach.{Step, target_of, module_along, Reaches}
 use Rattle.decode_model.specs.Rows.{Through}
-use Rattle.decode_model.specs.Matrices.{IsOpenStep, ViewMatrices, AreMatrices}
+use Rattle.wf_model.specs.OpenRoutes.{IsOpenStep}
+use Rattle.decode_model.specs.Matrices.{ViewMatrices, AreMatrices}
 use Rattle.decode_model.specs.Legs.{Leg, way_steps, way_down, way_up, AreLegs, crossing}
 
 -- Two addresses from m begin with p. Where they part by steps to different positions of one body, bit o of the last row tells whether output o of the second is reached from input i of the first; so it does where the first ends at p, and where the second does

@@ -5,7 +5,8 @@ use Rattle.wf_model.specs.Grammar.{Grammar, head_of}
 use Rattle.wf_model.specs.View.{View}
 use Rattle.wf_model.specs.Reach.{Step, target_of, module_along}
 use Rattle.decode_model.specs.Rounds.{times}
-use Rattle.decode_model.specs.Matrices.{IsOpenStep, IsOpenRoute, IsOnceRound, ViewMatrices}
+use Rattle.wf_model.specs.OpenRoutes.{IsOpenStep, IsOpenRoute}
+use Rattle.decode_model.specs.Matrices.{IsOnceRound, ViewMatrices}
 
 -- a leg of a way: one step; or so many continuing steps from a module, the steps once round being given; or continuing steps one by one
 pub data Leg : Type 0 where

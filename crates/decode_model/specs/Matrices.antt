@@ -1,24 +1,13 @@
 -- The matrices of a view, and what they mean under an assignment.
-use Rattle.std.specs.Prelude.{◌≡◌, ◌≢◌, ℕ, ◌^◌, ◌<◌, IsTrue, List, [], ◌∷◌, length, take}
+use Rattle.std.specs.Prelude.{◌≢◌, ℕ, ◌^◌, ◌<◌, List, length, take}
 use Rattle.bool_mat.specs.Matrix.{Matrix, Power, Means}
-use Rattle.wf_model.specs.Grammar.{Grammar, Assignment, inputs_of, outputs_of, head_of, body_of}
-use Rattle.wf_model.specs.View.{View, expands, IsSeenModule}
+use Rattle.wf_model.specs.Grammar.{Grammar, Assignment, inputs_of, outputs_of, body_of}
+use Rattle.wf_model.specs.View.{View, IsSeenModule}
 use Rattle.wf_model.specs.Reach.{Step, target_of, module_along, Into, OutOf, Between}
+use Rattle.wf_model.specs.OpenRoutes.{IsOpenStep, IsOpenRoute}
 use Rattle.wf_laws.specs.Splits.{IntoAll, OutAll}
 use Rattle.decode_model.specs.Ways.{Pairs}
 use Rattle.decode_model.specs.Rounds.{IsRound}
-
--- a step of a seen, expanded module
-pub record IsOpenStep (g : Grammar) (u : View) (s : Step) : Type 0 where
-  pub in_range : s.production < length g.productions
-  pub seen : IsSeenModule g u (head_of g s.production)
-  pub expanded : IsTrue (expands u (head_of g s.production))
-  pub position : s.position < length (body_of g s.production)
-
--- steps, one after another from the module m, each of a seen, expanded module
-abbrev pub IsOpenRoute : Grammar → View → ℕ → List Step → Type 0
-IsOpenRoute g u m [] = Unit {0}
-IsOpenRoute g u m (s ∷ steps) = IsOpenStep g u s × (head_of g s.production ≡ m) × IsOpenRoute g u (target_of g s) steps
 
 -- the pairs of a module, within its ports
 abbrev pub Within : Grammar → Assignment → ℕ → ℕ → ℕ → Type 0

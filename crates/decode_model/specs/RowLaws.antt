@@ -7,7 +7,8 @@ use Rattle.wf_model.specs.Reach.{Step, target_of, module_along}
 use Rattle.wf_laws.specs.Splits.{IntoAll, OutAll}
 use Rattle.decode_model.specs.Ways.{Pairs, Crosses}
 use Rattle.decode_model.specs.Rows.{Through, Along, Progress}
-use Rattle.decode_model.specs.Matrices.{IsOpenStep, ViewMatrices, AreMatrices}
+use Rattle.wf_model.specs.OpenRoutes.{IsOpenStep}
+use Rattle.decode_model.specs.Matrices.{ViewMatrices, AreMatrices}
 use Rattle.decode_model.specs.Legs.{Leg, way_steps, way_down, way_up, AreLegs, crossing}
 
 -- row products tell what lies in a list of matrices

@@ -7,9 +7,10 @@ use Rattle.wf_model.specs.WellFormed.{IsWellFormed}
 use Rattle.wf_model.specs.Proper.{Makes, Derives}
 use Rattle.wf_model.specs.Reach.{Step, target_of}
 use Rattle.wf_model.specs.Linear.{IsStepOf, Continues}
-use Rattle.wf_model.proofs.Lists.{in_map, in_map_from, in_flat_map, in_flat_map_from, at_in, is_at, in_at, at_below, at_is}
+use Rattle.wf_model.proofs.Lists.{in_map, in_map_from, in_flat_map, in_flat_map_from, in_at, at_below, at_is}
 use Rattle.wf_model.proofs.Level.{in_numbers, numbers_in}
 use Rattle.wf_model.proofs.Walks.{walk-append, walk_one}
+use Rattle.wf_model.proofs.Going.{step_makes}
 use Rattle.label_model.specs.Continuing.{derives, steps_of, continuing, is_step, continues, next_by, after}
 use Rattle.label_model.specs.ContinuingLaws.{ContinuingLaw}
 use Rattle.label_model.proofs.Finding.{find_gives, find_none, cases_option}
@@ -52,9 +53,6 @@ continuing_law g wf lin m s = (
   (λ c. let q = continuing_found g wf m s c in q.1 ∙ ap Some (lin m q.0 s (continuing_is g m q.0 q.1) c)),
 )
 
-pub target_made : (g : Grammar) (m : ℕ) (s : Step) → IsStepOf g m s → Makes g m (target_of g s)
-target_made g m s h = (s.production, (h.in_range, h.head), at_in (target_of g s) s.position (body_of g s.production) (is_at s.position (body_of g s.production) 0 h.position))
-
 -- what stands in a body of a module is the target of a step of it
 pub step_to : (g : Grammar) (a b : ℕ) → Makes g a b → (s : Step) × IsStepOf g a s × (target_of g s ≡ b)
 step_to g a b h =
@@ -71,7 +69,7 @@ on_cycle g wf a b h w =
 pub target_continues : (g : Grammar) → IsWellFormed g → (m : ℕ) (s : Step) → continuing g m ≡ Some s → (t : Step) × (continuing g (target_of g s) ≡ Some t)
 target_continues g wf m s e =
     let c = continuing_is g m s e in
-    go (target_of g s) c.1 (target_made g m s c.0)
+    go (target_of g s) c.1 (step_makes g m s c.0)
   where
     go : (k : ℕ) → Derives g k m → Makes g m k → (t : Step) × (continuing g k ≡ Some t)
     go k w mk = first w mk

@@ -11,20 +11,14 @@ use Rattle.wf_model.specs.Linear.{IsLinear, GoesOn, IsLeast, AreCycles}
 use Rattle.wf_model.proofs.Lists.{in_filter_from, some_from, some_gives}
 use Rattle.wf_model.proofs.Level.{in_numbers, numbers_in}
 use Rattle.wf_model.proofs.Walks.{walk-append, walk_one}
+use Rattle.wf_model.proofs.Going.{goes_derives, makes_goes}
 use Rattle.label_model.specs.Continuing.{derives, continuing, is_least}
 use Rattle.label_model.specs.Bound.{cycles}
 use Rattle.label_model.specs.ContinuingLaws.{CyclesLaw}
 use Rattle.label_model.proofs.Differing.{no_more, no_more_below, in_order_differ, numbers_differ, differ_filter}
 use Rattle.label_model.proofs.Finding.{cases_option}
 use Rattle.label_model.proofs.Deriving.{derives_gives, derives_from}
-use Rattle.label_model.proofs.ContinuingSteps.{continuing_is, continuing_found, target_made, step_to}
-
-goes_makes : (g : Grammar) (a b : ℕ) → GoesOn g a b → Makes g a b
-goes_makes g a b h = subst (λ z. Makes g a z) h.2 (target_made g a h.0 h.1.0)
-
-goes_derives : (g : Grammar) {a b : ℕ} → Walk (GoesOn g) a b → Derives g a b
-goes_derives g here = here
-goes_derives g (onward {x = x} {y = y} r w) = onward (goes_makes g x y r) (goes_derives g w)
+use Rattle.label_model.proofs.ContinuingSteps.{continuing_is, continuing_found}
 
 -- along a cycle each module derives those before it
 goes_back : (g : Grammar) {a b : ℕ} → Walk (GoesOn g) a b → Derives g b a
@@ -32,15 +26,10 @@ goes_back g here = here
 goes_back g (onward {x = x} {y = y} r w) = walk-append (goes_back g w) (subst (λ z. Derives g z x) r.2 r.1.1)
 
 module _ (g : Grammar) (wf : IsWellFormed g) (lin : IsLinear g) where
-  makes_goes : (a b : ℕ) → Makes g a b → Derives g b a → GoesOn g a b
-  makes_goes a b h w =
-      let s = step_to g a b h in
-      (s.0, (s.1, subst (λ z. Derives g z a) (sym s.2) w), s.2)
-
   -- modules that derive each other are on one cycle
   derives_goes : {a b : ℕ} → Walk (Makes g) a b → Derives g b a → Walk (GoesOn g) a b
   derives_goes here back = here
-  derives_goes (onward {x = x} {y = y} r w) back = onward (makes_goes x y r (walk-append w back)) (derives_goes w (walk-append back (walk_one r)))
+  derives_goes (onward {x = x} {y = y} r w) back = onward (makes_goes g x y r (walk-append w back)) (derives_goes w (walk-append back (walk_one r)))
 
   -- the test by which cycles are counted
   test : ℕ → Bool

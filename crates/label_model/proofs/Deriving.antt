@@ -1,12 +1,14 @@
 -- What a module derives as it is computed is what the definition names.
-use Rattle.std.proofs.Common.{◌≡◌, ℕ, zero, suc, ◌<◌, ◌≤◌, ◌⊎◌, Bool, true, false, cond, eqb, List, [], ◌∷◌, length, refl, sym, ap, subst, inl, inr, ⊎_elim, arith}
-use Rattle.std.proofs.lemmas.Bool.{eqb-true, eq-eqb, or_cases, or_left, or_right, cases_eq}
+use Rattle.std.proofs.Common.{◌≡◌, ℕ, zero, suc, ◌<◌, ◌≤◌, Bool, true, false, cond, eqb, List, [], ◌∷◌, length, refl, sym, subst, inl, inr, ⊎_elim, arith}
+use Rattle.std.proofs.lemmas.Bool.{eqb-true, eq-eqb, or_cases, or_left, or_right}
 use Rattle.wf_model.specs.Lists.{IsIn, AllDiffer, some, numbers_from, Walk, here, onward}
 use Rattle.wf_model.specs.Grammar.{Grammar, head_of, body_of}
 use Rattle.wf_model.specs.WellFormed.{IsWellFormed}
 use Rattle.wf_model.specs.Proper.{Makes, Derives}
 use Rattle.wf_model.proofs.Lists.{in_flat_map, in_flat_map_from, some_from, some_gives}
 use Rattle.wf_model.proofs.Level.{in_numbers, numbers_in}
+use Rattle.wf_model.proofs.Going.{made_below}
+use Rattle.wf_model.proofs.NumberLists.{length-numbers, in_or_not}
 use Rattle.label_model.specs.Continuing.{makes, derives_within, derives}
 use Rattle.label_model.specs.ContinuingLaws.{DerivesLaw}
 use Rattle.label_model.proofs.Differing.{no_more}
@@ -56,10 +58,6 @@ trail_within g b (k ∷ ks) a zero h l = absurd (omega arith)
 trail_within g b (k ∷ ks) a (suc n) h l =
     or_right (eqb a b) (some (λ k. derives_within g n k b) (makes g a)) (some_from (λ k. derives_within g n k b) k (makes g a) (makes_from g a k h.0) (trail_within g b ks k n h.1 (omega arith)))
 
-is_in : (a : ℕ) (ks : List ℕ) → IsIn a ks ⊎ (IsIn a ks → ⊥)
-is_in a [] = inr (λ h. h)
-is_in a (k ∷ ks) = ⊎_elim (λ e. inl (inl e)) (λ n. ⊎_elim (λ h. inl (inr h)) (λ m. inr (λ z. ⊎_elim n m z)) (is_in a ks)) (cases_eq a k)
-
 -- a trail on which no module stands twice
 record IsSimple (g : Grammar) (b a : ℕ) (ks : List ℕ) : Type 0 where
   trail : IsTrail g b a ks
@@ -76,20 +74,13 @@ unfolding IsTrail
 simple g here = ([], record { trail = refl; differ = ((λ h. h), tt) })
 simple g {b = b} (onward {x = x} {y = y} r w) =
     let s = simple g w in
-    ⊎_elim (λ i. cut g b s.0 y x i s.1) (λ n. (y ∷ s.0, record { trail = (r, s.1.trail); differ = (n, s.1.differ) })) (is_in x (y ∷ s.0))
-
-made_small : (g : Grammar) → IsWellFormed g → (a b : ℕ) → Makes g a b → b < length g.modules
-made_small g wf a b h = (wf.bodies h.0 h.1.0).modules b h.2
+    ⊎_elim (λ i. cut g b s.0 y x i s.1) (λ n. (y ∷ s.0, record { trail = (r, s.1.trail); differ = (n, s.1.differ) })) (in_or_not x (y ∷ s.0))
 
 trail_small : (g : Grammar) → IsWellFormed g → (b : ℕ) (ks : List ℕ) (a : ℕ) → IsTrail g b a ks → (k : ℕ) → IsIn k ks → k < length g.modules
 unfolding IsTrail
 trail_small g wf b [] a h k i = absurd i
-trail_small g wf b (j ∷ ks) a h k (inl e) = subst (λ z. z < length g.modules) (sym e) (made_small g wf a j h.0)
+trail_small g wf b (j ∷ ks) a h k (inl e) = subst (λ z. z < length g.modules) (sym e) (made_below g wf a j h.0)
 trail_small g wf b (j ∷ ks) a h k (inr i) = trail_small g wf b ks j h.1 k i
-
-pub length-numbers : (k n : ℕ) → length (numbers_from k n) ≡ n
-length-numbers k zero = refl
-length-numbers k (suc n) = ap suc (length-numbers (suc k) n)
 
 pub derives_from : (g : Grammar) → IsWellFormed g → (a b : ℕ) → Derives g a b → derives g a b ≡ true
 unfolding derives

@@ -4,18 +4,13 @@ use Rattle.std.proofs.lemmas.List.Sums.{length-filter}
 use Rattle.wf_model.specs.Lists.{IsIn, IsAt, AllDiffer, numbers_from}
 use Rattle.wf_model.proofs.Lists.{in_map, in_map_from, in_append_left, in_append_right, in_append_cases, in_filter, in_filter_from, in_at}
 use Rattle.wf_model.proofs.Level.{numbers_in}
-
--- a list is split at an element of it
-split_at : {A : Type 0} (x : A) (ys : List A) → IsIn x ys → (l : List A) × (r : List A) × (ys ≡ l ++ x ∷ r)
-split_at x [] h = absurd h
-split_at x (y ∷ ys) (inl e) = ([], ys, ap (λ z. z ∷ ys) (sym e))
-split_at x (y ∷ ys) (inr h) = let r = split_at x ys h in (y ∷ r.0, r.1, ap (λ z. y ∷ z) r.2)
+use Rattle.wf_model.proofs.Positions.{parted}
 
 -- elements that differ are no more than the elements of a list that has them all
 pub no_more : {A : Type 0} (xs ys : List A) → AllDiffer xs → ((x : A) → IsIn x xs → IsIn x ys) → length xs ≤ length ys
 no_more [] ys d h = omega arith
 no_more {A} (x ∷ xs) ys d h =
-    let s = split_at x ys (h x (inl refl)) in
+    let s = parted x ys (h x (inl refl)) in
     let rest : (z : A) → IsIn z xs → IsIn z (s.0 ++ s.1) = λ z i.
     ⊎_elim (λ a. in_append_left z s.0 s.1 a)
     (λ b. ⊎_elim (λ (e : z ≡ x). absurd (d.0 (subst (λ w. IsIn w xs) e i))) (λ c. in_append_right z s.0 s.1 c) b)

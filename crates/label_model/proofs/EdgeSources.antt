@@ -1,23 +1,17 @@
 -- The edges of a body begin at ports that differ.
-use Rattle.std.proofs.Common.{◌≡◌, ℕ, suc, ◌<◌, ◌≤◌, Bool, true, false, cond, eqb, List, [], ◌∷◌, ◌++◌, length, map, count_by, refl, sym, ap, subst, inl, inr, arith}
+use Rattle.std.proofs.Common.{◌≡◌, ℕ, suc, ◌<◌, ◌≤◌, Bool, true, false, cond, List, [], ◌∷◌, ◌++◌, length, map, count_by, refl, sym, ap, subst, inl, inr, arith}
 use Rattle.std.specs.Prelude.{filter}
 use Rattle.std.proofs.lemmas.List.Sums.{length-filter}
-use Rattle.std.proofs.lemmas.Bool.{eq-eqb, and_from}
 use Rattle.wf_model.specs.Lists.{IsIn, AllDiffer}
 use Rattle.wf_model.specs.Grammar.{Grammar, Inner, Edge, production_at}
 use Rattle.wf_model.specs.WellFormed.{IsWellFormed, IsInnerOutput, same_inner}
 use Rattle.wf_model.proofs.Lists.{in_filter, in_append_left, in_map_from}
-
-has_some : {A : Type 0} (x : A) (xs : List A) → IsIn x xs → 0 < length xs
-has_some x [] h = absurd h
-has_some x (y ∷ xs) h = omega arith
+use Rattle.wf_model.proofs.Positions.{has_length}
+use Rattle.wf_model.proofs.ItemNames.{same_itself}
 
 -- an element that passes a test is one more
 filter_long : (test : Inner → Bool) (x : Inner) (xs : List Inner) → test x ≡ true → length (filter test (x ∷ xs)) ≡ suc (length (filter test xs))
 filter_long test x xs t = ap (λ b. length (cond b (x ∷ filter test xs) (filter test xs))) t
-
-same_inner_self : (i : Inner) → same_inner i i ≡ true
-same_inner_self i = and_from (eqb i.position i.position) (eqb i.port i.port) (eq-eqb i.position i.position refl) (eq-eqb i.port i.port refl)
 
 -- ports that are counted once differ
 once_differ : (xs ys : List Inner) → ((x : Inner) → IsIn x xs → count_by (same_inner x) (xs ++ ys) ≤ 1) → AllDiffer xs
@@ -25,8 +19,8 @@ once_differ [] ys h = tt
 once_differ (x ∷ xs) ys h = (
   (λ i.
       let a = h x (inl refl) in
-      let b = has_some x (filter (same_inner x) (xs ++ ys)) (in_filter (same_inner x) x (xs ++ ys) (in_append_left x xs ys i) (same_inner_self x)) in
-      let c = filter_long (same_inner x) x (xs ++ ys) (same_inner_self x) in
+      let b = has_length x (filter (same_inner x) (xs ++ ys)) (in_filter (same_inner x) x (xs ++ ys) (in_append_left x xs ys i) (same_itself x)) in
+      let c = filter_long (same_inner x) x (xs ++ ys) (same_itself x) in
       absurd (omega (arith, a, b, c, length-filter (same_inner x) (x ∷ (xs ++ ys))))),
   once_differ xs ys (λ y i. let a = h y (inr i) in let c = fewer (same_inner y) (xs ++ ys) (same_inner y x) in omega (arith, a, c, length-filter (same_inner y) (x ∷ (xs ++ ys)), length-filter (same_inner y) (xs ++ ys))),
 )

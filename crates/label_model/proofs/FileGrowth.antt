@@ -9,7 +9,7 @@ use Rattle.wf_model.specs.declared.event.Event.TheVariants.{Start, Expand}
 use Rattle.wf_model.specs.Run.{made, IsRun}
 use Rattle.wf_model.specs.Items.{Item, items_by}
 use Rattle.wf_model.proofs.Runs.{name_in, AllExtend-append}
-use Rattle.wf_model.proofs.SameLinks.{flat_map_same}
+use Rattle.wf_model.proofs.Mapping.{flat_map_same}
 use Rattle.label_model.specs.Labels.{Label, OfEdge}
 use Rattle.label_model.specs.Places.{place_of}
 use Rattle.label_model.specs.RunLabels.{labelled_by, labelled}

@@ -17,7 +17,7 @@ length-entry e =
     omega (arith, a, b, c)
 
 -- an entry part by part, and what follows it
-entry_spread : (e : Entry) (r : List ℕ) → entry_bytes e ++ r ≡ length e.name ∷ (e.name ++ (length e.label / 256 ∷ (length e.label % 256 ∷ (e.label ++ r))))
+pub entry_spread : (e : Entry) (r : List ℕ) → entry_bytes e ++ r ≡ length e.name ∷ (e.name ++ (length e.label / 256 ∷ (length e.label % 256 ∷ (e.label ++ r))))
 entry_spread e r = simp append_assoc
 
 -- one entry stands at a front

@@ -5,21 +5,19 @@ use Rattle.std.proofs.lemmas.List.Sums.{count_by-le-length}
 use Rattle.wf_model.specs.Lists.{IsIn, numbers_from}
 use Rattle.wf_model.specs.Grammar.{Grammar, Production, Edge, Position, production_at, module_at, body_of}
 use Rattle.wf_model.specs.WellFormed.{IsWellFormed}
-use Rattle.wf_model.proofs.Lists.{in_map_from, in_at, at_in, at_below, at_is, is_at}
-use Rattle.label_model.specs.Continuing.{continuing, is_composite, is_least}
+use Rattle.wf_model.proofs.Lists.{in_map_from, at_in, at_below, is_at}
+use Rattle.wf_model.proofs.Composites.{production_no}
+use Rattle.wf_model.proofs.NumberLists.{length-numbers}
+use Rattle.label_model.specs.Continuing.{continuing, is_least}
 use Rattle.label_model.specs.Bound.{components, cycles, largest, most_alternatives, most_positions, most_edges}
 use Rattle.label_model.proofs.Differing.{no_more_below, differ_map}
-use Rattle.label_model.proofs.Lists.{length-numbers}
 use Rattle.label_model.proofs.EdgeSources.{sources_differ}
+use Rattle.wf_model.specs.Composite.{is_composite}
 
 -- the largest of numbers up to n is at most n
 largest_within : (n : ℕ) (ns : List ℕ) → 1 ≤ n → ((k : ℕ) → IsIn k ns → k ≤ n) → largest ns ≤ n
 largest_within n [] h each = h
 largest_within n (k ∷ ns) h each = let a = each k (inl refl) in let r = largest_within n ns h (λ j i. each j (inr i)) in omega arith
-
--- a production has a number
-production_no : (g : Grammar) (r : Production) → IsIn r g.productions → (p : ℕ) × (p < length g.productions) × (production_at g p ≡ r)
-production_no g r h = let k = in_at r g.productions h in (k.0, at_below r k.0 g.productions k.1, at_is r k.0 g.productions (record { head = 0; positions = []; edges = []; entries = []; exits = [] }) k.1)
 
 module _ (g : Grammar) (wf : IsWellFormed g) where
   pub few_alternatives : most_alternatives g ≤ 1024

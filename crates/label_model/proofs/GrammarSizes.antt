@@ -8,8 +8,9 @@ use Rattle.wf_model.specs.Grammar.{Grammar, Production, Position, production_at,
 use Rattle.wf_model.specs.WellFormed.{IsWellFormed}
 use Rattle.wf_model.specs.Reach.{Step}
 use Rattle.wf_model.specs.Linear.{IsStepOf}
-use Rattle.wf_model.proofs.Lists.{in_map, at_in, is_at}
+use Rattle.wf_model.proofs.Lists.{in_map}
 use Rattle.wf_model.proofs.Level.{numbers_in}
+use Rattle.wf_model.proofs.Composites.{production_in}
 use Rattle.label_model.specs.Bound.{largest, most_alternatives, most_positions, most_edges}
 use Rattle.label_model.proofs.Alternatives.{count_grows}
 
@@ -18,9 +19,6 @@ in_largest : (n : ℕ) (ns : List ℕ) → IsIn n ns → n ≤ largest ns
 in_largest n [] h = absurd h
 in_largest n (k ∷ ns) (inl e) = omega (arith, e)
 in_largest n (k ∷ ns) (inr h) = let r = in_largest n ns h in omega arith
-
-pub production_in : (g : Grammar) (p : ℕ) → p < length g.productions → IsIn (production_at g p) g.productions
-production_in g p h = at_in (production_at g p) p g.productions (is_at p g.productions (record { head = 0; positions = []; edges = []; entries = []; exits = [] }) h)
 
 -- an alternative number has room below the largest number of alternatives
 pub alternative_within : (g : Grammar) → IsWellFormed g → (p : ℕ) → p < length g.productions → alternative_of g p + 1 ≤ most_alternatives g

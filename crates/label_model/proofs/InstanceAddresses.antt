@@ -11,9 +11,10 @@ use Rattle.wf_model.proofs.Lists.{bytes_same, at_is, at_below, in_at}
 use Rattle.wf_model.proofs.Runs.{name_kept, name_in, name_cases, expansion_later, AllExtend-append}
 use Rattle.wf_model.proofs.Differ.{one_of_name}
 use Rattle.wf_model.proofs.Taking.{run_differs}
+use Rattle.wf_model.proofs.Expanding.{one_expansion}
+use Rattle.wf_model.proofs.Open.{root_kept}
 use Rattle.wf_laws.proofs.Routes.{address_kept, address_more}
-use Rattle.wf_laws.proofs.Depth.{root_kept}
-use Rattle.wf_laws.proofs.Agreeing.{one_expansion, route_law}
+use Rattle.wf_laws.proofs.Agreeing.{route_law}
 use Rattle.label_model.specs.RunLabels.{address_in}
 use Rattle.label_model.specs.RunLaws.{InstanceLaw}
 use Rattle.label_model.proofs.LookingBack.{address_start, address_old, address_child, address_short}

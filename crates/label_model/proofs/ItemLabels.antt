@@ -1,5 +1,5 @@
 -- The labels that are listed with the items of a run.
-use Rattle.std.proofs.Common.{◌≡◌, ℕ, zero, suc, ◌+◌, ◌<◌, List, [], ◌∷◌, ◌++◌, map, length, get_or, zip, None, refl, sym, ap, ◌∙◌, subst, inl, inr, ⊎_elim, arith, append-nil, length-append}
+use Rattle.std.proofs.Common.{◌≡◌, ◌≢◌, ℕ, zero, suc, ◌+◌, ◌<◌, List, [], ◌∷◌, ◌++◌, map, length, get_or, zip, None, refl, sym, ap, ◌∙◌, subst, inl, inr, ⊎_elim, arith, append-nil, length-append}
 use Rattle.std.proofs.lemmas.List.{length-map}
 use Rattle.wf_model.specs.Lists.{IsIn, IsAt, numbers_from}
 use Rattle.wf_model.specs.Grammar.{Grammar, Edge, production_at, module_at, head_of, inputs_of, outputs_of}
@@ -13,7 +13,8 @@ use Rattle.label_model.specs.Places.{place_of, IsEnding}
 use Rattle.label_model.specs.RunLabels.{address_in, labelled_by, labelled, labels_by}
 use Rattle.label_model.proofs.InstanceAddresses.{instance_law}
 use Rattle.label_model.proofs.TakenEvents.{taken, expansion_of}
-use Rattle.label_model.proofs.Lists.{length-numbers, zip-append}
+use Rattle.label_model.proofs.Lists.{zip-append}
+use Rattle.wf_model.proofs.NumberLists.{length-numbers}
 
 -- an item and the label of its edge
 pub record IsOfEdge (g : Grammar) (events : List Event) (t : Item) (l : Label) (i : List ℕ) (p : ℕ) (names : List (List ℕ)) : Type 0 where
@@ -46,6 +47,11 @@ numbered h [] j n t l e q = absurd q
 numbered h (x ∷ ts) j zero t l e q = absurd (omega arith)
 numbered h (x ∷ ts) j (suc n) t l e (inl w) = (0, ap (λ z. z.0) w, ap (λ z. z.1) w ∙ ap h (let v : j ≡ j + 0 = omega arith in v), omega arith)
 numbered h (x ∷ ts) j (suc n) t l e (inr q) = let f : n ≡ length ts = omega arith in let r = numbered h ts (suc j) n t l f q in (suc r.0, r.1, r.2 ∙ ap h (let w : suc j + r.0 ≡ j + suc r.0 = omega arith in w), omega (arith, r.3))
+
+-- a run that has a label has its start event
+pub label_started : (g : Grammar) (events : List Event) (t : Item) (l : Label) → IsIn (t, l) (labelled g events) → events ≢ []
+label_started g [] t l h q = h
+label_started g (e ∷ events) t l h q = absurd (cc)
 
 -- what an item and its label are
 pub data IsKind (g : Grammar) (events : List Event) (t : Item) (l : Label) : Type 0 where

@@ -8,15 +8,15 @@ use Rattle.wf_model.specs.Linear.{IsLinear}
 use Rattle.wf_model.specs.Reach.{Step, target_of}
 use Rattle.bit_pack.specs.Gamma.{digits, gamma}
 use Rattle.bit_pack.proofs.Codes.{below_digits, digits_few, length_law as gamma_length_law}
-use Rattle.label_model.specs.Continuing.{is_composite}
 use Rattle.label_model.specs.Labels.{PlaceStep, chain_bits, step_bits, ending_bits, prefix_bits, label_bits, IsChain, Leaves, Leads}
 use Rattle.label_model.specs.Bound.{gamma_length, components, cycles, most_alternatives, most_positions, most_edges, bound, chains}
 use Rattle.label_model.specs.BoundLaws.{LengthLaw}
 use Rattle.label_model.proofs.Visits.{one_visit_law, visits_once, count_cons}
 use Rattle.label_model.proofs.GrammarSizes.{alternative_within, position_within, edge_within}
+use Rattle.wf_model.specs.Composite.{is_composite}
 
 -- a larger number has no fewer digits
-digits_grow : (m n : ℕ) → m ≤ n → digits m ≤ digits n
+pub digits_grow : (m n : ℕ) → m ≤ n → digits m ≤ digits n
 digits_grow m n h = digits_few m (digits n) (omega (arith, below_digits n))
 
 -- a smaller number has no longer code

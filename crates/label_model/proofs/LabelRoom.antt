@@ -8,13 +8,13 @@ use Rattle.wf_model.specs.Linear.{IsLinear}
 use Rattle.wf_model.specs.Reach.{target_of}
 use Rattle.bit_pack.specs.Gamma.{digits, gamma}
 use Rattle.bit_pack.proofs.Codes.{digits_few}
-use Rattle.label_model.specs.Continuing.{is_composite}
 use Rattle.label_model.specs.Labels.{PlaceStep, Place, Input, Output, OfEdge, prefix_bits, label_bits, IsChain, Leads, IsPlace}
 use Rattle.label_model.specs.Bound.{gamma_length, components, cycles, most_alternatives, most_positions, most_edges, bound, ChainsBelow}
 use Rattle.label_model.specs.BoundLaws.{RoomLaw}
 use Rattle.label_model.proofs.LabelLengths.{length_law, prefix_length}
 use Rattle.label_model.proofs.RunBounds.{start_module, port_bits}
 use Rattle.label_model.proofs.GrammarLimits.{few_alternatives, few_positions, few_edges, few_components, few_cycles}
+use Rattle.wf_model.specs.Composite.{is_composite}
 
 -- a chain number is below 2^24
 chain_low : (g : Grammar) (m : ℕ) (c : Option ℕ) (k d : ℕ) → IsChain g m c k → c ≡ Some d → d < 2 ^ 24

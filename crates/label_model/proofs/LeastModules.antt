@@ -9,10 +9,11 @@ use Rattle.wf_model.specs.Proper.{Makes, Derives}
 use Rattle.wf_model.proofs.Lists.{some_from, some_gives, at_in, is_at}
 use Rattle.wf_model.proofs.Level.{numbers_in, in_numbers}
 use Rattle.wf_model.proofs.Walks.{walk-append}
-use Rattle.label_model.specs.Continuing.{derives, continuing, is_composite, is_least}
+use Rattle.label_model.specs.Continuing.{derives, continuing, is_least}
 use Rattle.label_model.proofs.Finding.{find_gives, find_none, found_first}
 use Rattle.label_model.proofs.Deriving.{derives_gives, derives_from}
 use Rattle.label_model.proofs.ContinuingSteps.{on_cycle}
+use Rattle.wf_model.specs.Composite.{is_composite}
 
 -- k and m derive each other
 test : Grammar → ℕ → ℕ → Bool

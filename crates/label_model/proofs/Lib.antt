@@ -25,6 +25,7 @@ pub mod ItemLabels
 pub mod OneItem
 pub mod AcceptedLabels
 pub mod RunBounds
+pub mod RunDigits
 pub mod EdgeSources
 pub mod GrammarLimits
 pub mod LabelRoom
@@ -35,6 +36,5 @@ pub mod NamesDiffer
 pub mod GoodFiles
 pub mod RunPrefixes
 pub mod PrefixRoom
-pub mod Composites
 pub mod WorkedLabels
 pub mod EntrySizes

@@ -1,10 +1,5 @@
 -- Lists of numbers in order, and lists of pairs.
-use Rattle.std.proofs.Common.{◌≡◌, ℕ, zero, suc, List, [], ◌∷◌, ◌++◌, map, length, zip, refl, ap, arith}
-use Rattle.wf_model.specs.Lists.{numbers_from}
-
-pub length-numbers : (k n : ℕ) → length (numbers_from k n) ≡ n
-length-numbers k zero = refl
-length-numbers k (suc n) = ap suc (length-numbers (suc k) n)
+use Rattle.std.proofs.Common.{◌≡◌, List, [], ◌∷◌, ◌++◌, map, length, zip, refl, ap, arith}
 
 pub zip-append : {A B : Type 0} (a c : List A) (b d : List B) → length a ≡ length b → zip (a ++ c) (b ++ d) ≡ zip a b ++ zip c d
 zip-append [] c [] d e = refl

@@ -1,12 +1,11 @@
 -- The address of an instance, looked for from the latest event back.
-use Rattle.std.proofs.Common.{◌≡◌, ℕ, zero, suc, ◌+◌, ◌≤◌, Bool, true, false, not, cond, List, [], ◌∷◌, ◌++◌, length, reverse, bytes_eq, refl, ap, ◌∙◌, subst, ⊎_elim, arith, append-nil, length-append}
+use Rattle.std.proofs.Common.{◌≡◌, ℕ, zero, suc, ◌+◌, ◌≤◌, Bool, true, false, not, cond, List, [], ◌∷◌, ◌++◌, length, reverse, bytes_eq, refl, ap, ◌∙◌, subst, arith, append-nil, length-append}
 use Rattle.std.specs.List.{position_or_len}
 use Rattle.std.proofs.lemmas.List.{reverse-append}
-use Rattle.std.proofs.lemmas.Bool.{cases_Bool}
 use Rattle.wf_model.specs.Lists.{IsIn, IsAt, AllDiffer, some}
 use Rattle.wf_model.specs.declared.event.Event.{Event}
 use Rattle.wf_model.specs.declared.event.Event.TheVariants.{Start, Expand}
-use Rattle.wf_model.proofs.Lists.{same_bytes, bytes_same, among_from, among_gives, at_in}
+use Rattle.wf_model.proofs.Lists.{same_bytes, bytes_same, among_from, among_none, at_in}
 use Rattle.label_model.specs.RunLabels.{address_back, address_in}
 use Rattle.label_model.specs.Bound.{expand_events}
 
@@ -19,10 +18,6 @@ position_is c (suc k) (n ∷ names) d h = go (position_is c k names d.1 h) (byte
     go : position_or_len (bytes_eq c) names ≡ k → (b : Bool) → bytes_eq c n ≡ b → cond (not b) (1 + position_or_len (bytes_eq c) names) 0 ≡ suc k
     go r true e = absurd (d.0 (subst (λ z. IsIn z names) (same_bytes c n e) (at_in c k names h)))
     go r false e = omega (arith, r)
-
--- a name that is not among them passes no test for it
-among_none : (n : List ℕ) (names : List (List ℕ)) → (IsIn n names → ⊥) → some (bytes_eq n) names ≡ false
-among_none n names h = ⊎_elim (λ e. absurd (h (among_gives n names e))) (λ e. e) (cases_Bool (some (bytes_eq n) names))
 
 module _ (b : List Event) where
   pub address_start : (r n : List ℕ) → address_in (b ++ Start r ∷ []) n ≡ address_in b n

@@ -5,7 +5,7 @@ use Rattle.wf_model.specs.Run.{Expanded, expanded_by, IsRun, root_of}
 use Rattle.wf_model.specs.Items.{input_items, output_items, edge_item}
 use Rattle.wf_model.specs.Routes.{IsAddress}
 use Rattle.wf_model.proofs.Lists.{at_below, at_is}
-use Rattle.wf_laws.proofs.Agreeing.{one_expansion}
+use Rattle.wf_model.proofs.Expanding.{one_expansion}
 use Rattle.label_model.specs.Labels.{Input, Output}
 use Rattle.label_model.specs.Places.{place_of}
 use Rattle.label_model.specs.RunLabels.{address_in}

@@ -3,6 +3,7 @@ use Rattle.std.proofs.Common.{◌≡◌, ◌≢◌, ℕ, ◌+◌, ◌≤◌, ◌
 use Rattle.wf_model.specs.Grammar.{Grammar, alternative_of}
 use Rattle.wf_model.specs.Reach.{Step, target_of}
 use Rattle.wf_model.specs.Routes.{IsRoute}
+use Rattle.wf_model.proofs.Going.{same_step}
 use Rattle.label_model.specs.Continuing.{continuing, continues}
 use Rattle.label_model.specs.Labels.{PlaceStep}
 use Rattle.label_model.specs.Places.{chain_by, chain_at, steps_from, chain_from}
@@ -39,10 +40,6 @@ chain_later g (s ∷ a) m c h d e = go (continues g m s) h e (λ b w x. chain_la
         chain_from g (target_of g s) (cond t (c + 1) 0) a ≡ Some d → ((b : ℕ) → steps_from g (target_of g s) b a ≡ [] → chain_from g (target_of g s) b a ≡ Some d → b ≤ d) → c ≤ d
     go true h e ih = let r = ih (c + 1) h e in omega arith
     go false h e ih = absurd (cc)
-
--- steps of one list are one where their numbers are
-same_step : (s t : Step) → s.production ≡ t.production → s.position ≡ t.position → s ≡ t
-same_step s t p q = λ i. record { production = p i; position = q i }
 
 -- what is told of a step
 abbrev pub step_told : Grammar → ℕ → ℕ → Step → PlaceStep

@@ -7,7 +7,6 @@ use Rattle.wf_model.specs.Linear.{IsLinear}
 use Rattle.wf_model.specs.declared.event.Event.{Event}
 use Rattle.wf_model.specs.Run.{Instance, made, IsRun, IsAccepted}
 use Rattle.wf_model.specs.Reach.{module_along}
-use Rattle.label_model.specs.Continuing.{is_composite}
 use Rattle.label_model.specs.Places.{steps_from, chain_from}
 use Rattle.label_model.specs.RunLabels.{address_in, IsPrefix}
 use Rattle.label_model.specs.Bound.{expand_events}
@@ -17,6 +16,7 @@ use Rattle.label_model.proofs.LabelRoom.{prefix_room}
 use Rattle.label_model.proofs.LookingBack.{address_short}
 use Rattle.label_model.proofs.RunBounds.{last_small}
 use Rattle.label_model.proofs.ValidPlaces.{passed_none, led_from}
+use Rattle.wf_model.specs.Composite.{is_composite}
 
 -- a chain number is no larger than the number of the expand events
 pub chain_within : (g : Grammar) (events : List Event) (n : List ℕ) (bits : List Bool) (chain : Option ℕ) → IsPrefix g events n bits chain → (c : ℕ) → chain ≡ Some c → c ≤ expand_events events

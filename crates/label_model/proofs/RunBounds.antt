@@ -1,11 +1,12 @@
 -- The labels of the items of a run are within the bound.
-use Rattle.std.proofs.Common.{◌≡◌, ℕ, suc, ◌+◌, ◌<◌, ◌≤◌, Bool, true, false, cond, List, [], ◌∷◌, ◌++◌, length, map, Option, Some, None, refl, sym, ap, ◌∙◌, subst, inl, inr, ⊎_elim, arith}
+use Rattle.std.proofs.Common.{◌≡◌, ℕ, ◌+◌, ◌^◌, ◌<◌, ◌≤◌, Bool, true, false, cond, List, [], ◌∷◌, ◌++◌, length, map, Option, Some, None, refl, sym, ap, ◌∙◌, subst, inl, inr, ⊎_elim, arith}
 use Rattle.wf_model.specs.Lists.{IsIn, numbers_from}
 use Rattle.wf_model.specs.Grammar.{Grammar, production_at, module_at, inputs_of, outputs_of, alternative_of}
 use Rattle.wf_model.specs.WellFormed.{IsWellFormed}
 use Rattle.wf_model.specs.declared.event.Event.{Event}
 use Rattle.wf_model.specs.declared.event.Event.TheVariants.{Start, Expand}
-use Rattle.wf_model.specs.Run.{made}
+use Rattle.wf_model.specs.Run.{IsAccepted, made}
+use Rattle.wf_model.specs.Linear.{IsLinear}
 use Rattle.wf_model.specs.Reach.{Step, target_of}
 use Rattle.wf_model.proofs.Lists.{in_append_cases, in_append_right, in_map_from, at_in, is_at}
 use Rattle.wf_model.proofs.Runs.{name_in, AllExtend-append}
@@ -59,35 +60,43 @@ pub port_bits : (k : ℕ) → k < 64 → length (gamma (k + 1)) ≤ 13
 unfolding digits
 port_bits k h = gamma_within (k + 1) 64 (omega arith) (omega arith)
 
-last_in : (before : List Event) (e : Event) → IsIn e (before ++ e ∷ [])
-last_in before e = in_append_right e before (e ∷ []) (inl refl)
+-- the label of a port of the root
+pub input_within : (g : Grammar) → IsWellFormed g → (k : ℕ) → k < inputs_of g g.start → length (label_bits (Input k)) ≤ 15
+unfolding label_bits
+input_within g wf k small = let few = (wf.modules (module_at g g.start) (start_module g wf)).few_inputs in omega (arith, port_bits k (omega (arith, small, few)))
+
+pub output_within : (g : Grammar) → IsWellFormed g → (k : ℕ) → k < outputs_of g g.start → length (label_bits (Output k)) ≤ 15
+unfolding label_bits
+output_within g wf k small = let few = (wf.modules (module_at g g.start) (start_module g wf)).few_outputs in omega (arith, port_bits k (omega (arith, small, few)))
+
+last_in : (before later : List Event) (e : Event) → IsIn e (before ++ e ∷ later)
+last_in before later e = in_append_right e before (e ∷ later) (inl refl)
+
+-- the label of an edge that an event of a run makes, where more than so many expand events come before the event
+pub edge_within_bound : (g : Grammar) → IsWellFormed g → IsLinear g → (before later : List Event) (i : List ℕ) (p : ℕ) (names : List (List ℕ)) → IsAccepted g (2 ^ 24) (before ++ Expand i p names ∷ later) →
+    (k : ℕ) → k < length (production_at g p).edges → (n : ℕ) → expand_events before < n → length (label_bits (OfEdge (place_of g g.start (address_in (before ++ Expand i p names ∷ later) i) p k))) ≤ bound g n
+edge_within_bound g wf lin before later i p names acc k small n more =
+    let events = before ++ Expand i p names ∷ later in
+    let here = last_in before later (Expand i p names) in
+    let valid = place_valid g wf events acc i p names here k small in
+    let parts = AllExtend-append g g.start [] before (Expand i p names ∷ later) acc.0 in
+    let same = kept_in g g.start (Expand i p names ∷ later) before i parts.1 (name_in _ (made g g.start before) parts.1.0.stands) in
+    let short : 0 + length (address_in events i) < n = omega (arith, ap length same, address_short before i) in
+    let low : ChainsBelow n (place_of g g.start (address_in events i) p k) = record {
+      steps = λ s w c e. steps_small g (address_in events i) g.start 0 n short s w c e;
+      last = λ c e. last_small g (address_in events i) g.start 0 n c short e;
+    } in
+    length_law g wf lin (place_of g g.start (address_in events i) p k) n valid low
 
 pub bound_law : BoundLaw
-unfolding label_bits
 bound_law g wf lin before (Start r) acc l h =
     ⊎_elim
-    (λ a. let k = in_map_from Input l (numbers_from 0 (inputs_of g g.start)) a in
-    let small = in_numbers k.0 0 (inputs_of g g.start) k.1 in
-    let few = (wf.modules (module_at g g.start) (start_module g wf)).few_inputs in
-    let b = port_bits k.0 (omega (arith, small, few)) in
-    subst (λ z. length (label_bits z) ≤ 15) (sym k.2) (let w : suc (suc (length (gamma (k.0 + 1)))) ≤ 15 = omega (arith, b) in w))
-    (λ a. let k = in_map_from Output l (numbers_from 0 (outputs_of g g.start)) a in
-    let small = in_numbers k.0 0 (outputs_of g g.start) k.1 in
-    let few = (wf.modules (module_at g g.start) (start_module g wf)).few_outputs in
-    let b = port_bits k.0 (omega (arith, small, few)) in
-    subst (λ z. length (label_bits z) ≤ 15) (sym k.2) (let w : suc (suc (length (gamma (k.0 + 1)))) ≤ 15 = omega (arith, b) in w))
+    (λ a. let k = in_map_from Input l (numbers_from 0 (inputs_of g g.start)) a in subst (λ z. length (label_bits z) ≤ 15) (sym k.2) (input_within g wf k.0 (let z = in_numbers k.0 0 (inputs_of g g.start) k.1 in omega arith)))
+    (λ a. let k = in_map_from Output l (numbers_from 0 (outputs_of g g.start)) a in subst (λ z. length (label_bits z) ≤ 15) (sym k.2) (output_within g wf k.0 (let z = in_numbers k.0 0 (outputs_of g g.start) k.1 in omega arith)))
     (in_append_cases l (map Input (numbers_from 0 (inputs_of g g.start))) (map Output (numbers_from 0 (outputs_of g g.start))) h)
 bound_law g wf lin before (Expand i p names) acc l h =
     let events = before ++ Expand i p names ∷ [] in
-    let here = last_in before (Expand i p names) in
     let k = in_map_from (λ e. OfEdge (place_of g g.start (address_in events i) p e)) l (numbers_from 0 (length (production_at g p).edges)) h in
     let small : k.0 < length (production_at g p).edges = let z = in_numbers k.0 0 (length (production_at g p).edges) k.1 in omega arith in
-    let valid = place_valid g wf events acc i p names here k.0 small in
-    let parts = AllExtend-append g g.start [] before (Expand i p names ∷ []) acc.0 in
-    let same = kept_in g g.start (Expand i p names ∷ []) before i parts.1 (name_in _ (made g g.start before) parts.1.0.stands) in
-    let short : 0 + length (address_in events i) < expand_events events = omega (arith, ap length same, address_short before i, expand_events-append before (Expand i p names ∷ [])) in
-    let low : ChainsBelow (expand_events events) (place_of g g.start (address_in events i) p k.0) = record {
-      steps = λ s w c e. steps_small g (address_in events i) g.start 0 (expand_events events) short s w c e;
-      last = λ c e. last_small g (address_in events i) g.start 0 (expand_events events) c short e;
-    } in
-    subst (λ z. length (label_bits z) ≤ bound g (expand_events events)) (sym k.2) (length_law g wf lin (place_of g g.start (address_in events i) p k.0) (expand_events events) valid low)
+    subst (λ z. length (label_bits z) ≤ bound g (expand_events events)) (sym k.2)
+    (edge_within_bound g wf lin before [] i p names acc k.0 small (expand_events events) (omega (arith, expand_events-append before (Expand i p names ∷ []))))

@@ -12,15 +12,17 @@ use Rattle.wf_model.specs.Reach.{Step, target_of}
 use Rattle.wf_model.specs.Linear.{IsStepOf, IsLinear}
 use Rattle.wf_model.proofs.Lists.{in_map_from, in_append_cases}
 use Rattle.wf_model.proofs.Walks.{walk-append, walk_one}
-use Rattle.label_model.specs.Continuing.{continuing, is_composite, is_least, next_by, after}
+use Rattle.label_model.specs.Continuing.{continuing, is_least, next_by, after}
 use Rattle.label_model.specs.Labels.{PlaceStep, Place, IsChain, Leaves, Leads, IsPlace}
 use Rattle.label_model.specs.Bound.{components, cycles, chains}
 use Rattle.label_model.specs.PlaceLaws.{OneVisitLaw}
-use Rattle.label_model.proofs.Composites.{composite_is}
+use Rattle.wf_model.proofs.Composites.{composite_is}
+use Rattle.wf_model.proofs.Going.{step_makes}
 use Rattle.label_model.proofs.Differing.{no_more_below}
 use Rattle.label_model.proofs.Finding.{cases_option}
-use Rattle.label_model.proofs.ContinuingSteps.{continuing_is, continuing_law, target_made}
+use Rattle.label_model.proofs.ContinuingSteps.{continuing_is, continuing_law}
 use Rattle.label_model.proofs.LeastModules.{least, least_is, apart, composite_from, composite_up, cycle_up}
+use Rattle.wf_model.specs.Composite.{is_composite}
 
 -- one element more to count
 pub count_cons : (s : PlaceStep) (ss : List PlaceStep) → count_by (λ (s : PlaceStep). is_some s.chain) (s ∷ ss) ≡ cond (is_some s.chain) 1 0 + count_by (λ (s : PlaceStep). is_some s.chain) ss
@@ -32,7 +34,7 @@ count_cons s ss = sym (length-filter (λ (s : PlaceStep). is_some s.chain) (s �
 
 module _ (g : Grammar) (wf : IsWellFormed g) where
   step_leads : (m : ℕ) (s : Step) → IsStepOf g m s → Derives g m (target_of g s)
-  step_leads m s h = walk_one (target_made g m s h)
+  step_leads m s h = walk_one (step_makes g m s h)
 
   after_leads : (c m : ℕ) → Derives g m (after g c m)
   after_leads zero m = here
@@ -83,7 +85,7 @@ module _ (g : Grammar) (wf : IsWellFormed g) where
       on : ((c : Option ℕ) → p c ≡ true → is_some c ≡ true) → is_some (continuing g x) ≡ true
 
     target_small : (m : ℕ) (t : Step) → IsStepOf g m t → target_of g t < length g.modules
-    target_small m t h = let q = target_made g m t h in (wf.bodies q.0 q.1.0).modules (target_of g t) q.2
+    target_small m t h = let q = step_makes g m t h in (wf.bodies q.0 q.1.0).modules (target_of g t) q.2
 
     entered_is : (p : Option ℕ → Bool) (m : ℕ) (ss : List PlaceStep) (c : Option ℕ) (k : ℕ) (h : Leads g m ss k) (j : ℕ) → m < length g.modules → IsChain g k c j → is_composite g j ≡ true → (x : ℕ) → IsIn x (entered p m ss c k h) → IsEntered p m x
     unfolding entered
@@ -96,7 +98,7 @@ module _ (g : Grammar) (wf : IsWellFormed g) where
         let l = h.1 in
         ⊎_elim
         (λ a. let q = in_keep (p s.chain) m x a in
-        let me : IsEntered p m m = record { small = small; below = here; composite = chain_composite m s.chain l.from l.chain (composite_from g wf l.from (target_of g h.0) (target_made g l.from h.0 l.step)); on = λ f. on_chain m s.chain l.from l.chain (f s.chain q.1) } in
+        let me : IsEntered p m m = record { small = small; below = here; composite = chain_composite m s.chain l.from l.chain (composite_from g wf l.from (target_of g h.0) (step_makes g l.from h.0 l.step)); on = λ f. on_chain m s.chain l.from l.chain (f s.chain q.1) } in
         subst (λ z. IsEntered p m z) (sym q.0) me)
         (λ a. let r = entered_is p (target_of g h.0) ss c k h.2 j (target_small l.from h.0 l.step) hc comp x a in
         record { small = r.small; below = walk-append (goes_down m s h.0 l) r.below; composite = r.composite; on = r.on })

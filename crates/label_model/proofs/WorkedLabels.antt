@@ -87,6 +87,7 @@ labels_are_worked = record {
   twisting_components = refl;
   twisting_cycles = refl;
   twisting_bound = refl;
+  twisting_per_digit = refl;
   line_constant = refl;
   line_cycles = refl;
 }

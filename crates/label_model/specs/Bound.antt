@@ -5,8 +5,9 @@ use Rattle.wf_model.specs.Grammar.{Grammar, Production}
 use Rattle.wf_model.specs.declared.event.Event.{Event}
 use Rattle.wf_model.specs.declared.event.Event.TheVariants.{Start, Expand}
 use Rattle.bit_pack.specs.Gamma.{digits}
-use Rattle.label_model.specs.Continuing.{continuing, is_composite, is_least}
+use Rattle.label_model.specs.Continuing.{continuing, is_least}
 use Rattle.label_model.specs.Labels.{PlaceStep, Place}
+use Rattle.wf_model.specs.Composite.{is_composite}
 
 -- how many bits the gamma code of a number has
 abbrev pub gamma_length : ℕ → ℕ
@@ -45,6 +46,10 @@ constant_bits g =
 -- the most bits of a label that is made at the n-th expand event: for each cycle a chain number below n comes in addition
 unfoldable pub bound : Grammar → ℕ → ℕ
 bound g n = constant_bits g + 2 * cycles g * digits n
+
+-- how many bits a label has at most for each binary digit of the length of its run
+abbrev pub bits_per_digit : Grammar → ℕ
+bits_per_digit g = constant_bits g + 2 * cycles g
 
 -- how many expand events there are
 abbrev pub expand_events : List Event → ℕ

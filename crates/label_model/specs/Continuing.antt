@@ -1,7 +1,7 @@
 -- What a module derives, and its continuing step, as they are computed from a grammar.
 use Rattle.std.specs.Prelude.{ℕ, zero, suc, Bool, false, cond, not, ◌||◌, ◌&&◌, ◌==◌, List, [], map, length, flat_map, find, Option, Some, None}
 use Rattle.wf_model.specs.Lists.{some, numbers_from}
-use Rattle.wf_model.specs.Grammar.{Grammar, Production, head_of, body_of}
+use Rattle.wf_model.specs.Grammar.{Grammar, head_of, body_of}
 use Rattle.wf_model.specs.Reach.{Step, target_of}
 
 -- the modules in the bodies of a module
@@ -45,10 +45,6 @@ next_by g m (Some s) = target_of g s
 abbrev pub after : Grammar → ℕ → ℕ → ℕ
 after g zero m = m
 after g (suc n) m = after g n (next_by g m (continuing g m))
-
--- a production expands m
-abbrev pub is_composite : Grammar → ℕ → Bool
-is_composite g m = some (λ (r : Production). r.head == m) g.productions
 
 -- no lower module derives m and is derived by it
 abbrev pub is_least : Grammar → ℕ → Bool

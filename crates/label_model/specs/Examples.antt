@@ -11,7 +11,7 @@ use Rattle.bit_pack.specs.Bits.{packed}
 use Rattle.label_model.specs.Labels.{Label, OfEdge, label_bits, IsLabel}
 use Rattle.label_model.specs.RunLabels.{labelled}
 use Rattle.label_model.specs.Reading.{IsLabelBytes}
-use Rattle.label_model.specs.Bound.{components, cycles, constant_bits, bound}
+use Rattle.label_model.specs.Bound.{components, cycles, constant_bits, bits_per_digit, bound}
 use Rattle.label_model.specs.Files.{entry_bytes, entries_of}
 
 -- as the line grammar, and S may be expanded to the Q and the P in the other order too
@@ -97,5 +97,6 @@ pub record LabelsAreWorked : Type 0 where
   pub twisting_components : components twisting ≡ 2
   pub twisting_cycles : cycles twisting ≡ 1
   pub twisting_bound : bound twisting 100002 ≡ 51
+  pub twisting_per_digit : bits_per_digit twisting ≡ 19
   pub line_constant : constant_bits line ≡ 15
   pub line_cycles : cycles line ≡ 0

@@ -13,7 +13,7 @@ mod reading;
 mod runs;
 mod spelling;
 
-pub use bounds::{bound_law, length_law, room_law};
+pub use bounds::{bound_law, digits_law, length_law, room_law};
 pub use continuing::{continuing_law, cycles_law, derives_law, period_law};
 pub use examples::labels_are_worked;
 pub use files::{

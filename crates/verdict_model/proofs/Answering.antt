@@ -1,5 +1,5 @@
 -- The answer of two labels: it is told by where their items are consumed and produced, and the pairs of the modules.
-use Rattle.std.proofs.Common.{◌≡◌, ◌≢◌, ◌↔◌, ◌⊎◌, ℕ, List, [], ◌∷◌, ◌++◌, Option, Some, None, sym, subst, inl, inr, ⊎_elim}
+use Rattle.std.proofs.Common.{◌≡◌, ◌≢◌, ◌↔◌, ◌⊎◌, ℕ, List, [], ◌++◌, Option, Some, None, sym, subst, inl, inr, ⊎_elim}
 use Rattle.wf_model.specs.Lists.{IsIn}
 use Rattle.wf_model.specs.Grammar.{Grammar, Assignment}
 use Rattle.wf_model.specs.WellFormed.{IsWellFormed}
@@ -14,16 +14,18 @@ use Rattle.wf_model.specs.Items.{Item, PathBetween, Depends}
 use Rattle.wf_model.specs.Reach.{Step, IsAlong, Reaches}
 use Rattle.wf_model.specs.Depends.{IsConsumedAt, IsProducedAt}
 use Rattle.wf_laws.proofs.Reach.{along_kept, more_started}
-use Rattle.wf_laws.proofs.Depth.{root_kept}
 use Rattle.wf_laws.proofs.Depends.{depends_law}
 use Rattle.wf_laws.proofs.Growth.{finishing_law}
+use Rattle.wf_laws.proofs.Full.{full_law, safe_full_law}
 use Rattle.label_model.specs.Labels.{Label, Input, Output, IsLabel}
 use Rattle.label_model.specs.RunLabels.{labelled}
+use Rattle.label_model.proofs.ItemLabels.{label_started}
 use Rattle.verdict_model.specs.Telling.{ConsumedAt, ProducedAt}
 use Rattle.verdict_model.specs.Verdicts.{AreShown, AreClashing, HasBoth, AlwaysDepends, NeverDepends}
-use Rattle.verdict_model.specs.Laws.{OneAnswerLaw, AnswerLaw}
+use Rattle.verdict_model.specs.Laws.{OneAnswerLaw, IsAnswered, AnswerLaw}
 use Rattle.verdict_model.proofs.ToldPorts.{consumed_told, produced_told, consumed_or_none, produced_or_none}
 use Rattle.verdict_model.proofs.BothLabels.{both_law}
+use Rattle.wf_model.proofs.Open.{root_kept}
 
 -- in each finishing of a run the dependency of two items is told by their addresses and the assigned pairs
 finished_depends : (g : Grammar) (u : View) (d : Assignment) → IsWellFormed g → IsInduced g u d → (events more : List Event) → events ≢ [] → IsFinishing g u g.start events more →
@@ -55,11 +57,6 @@ not_produced g u events s t e h = go s.consumed (subst (PathBetween g u g.start 
     go None w = w
     go (Some x) w = w
 
--- a run that has a label has its start event
-label_started : (g : Grammar) (events : List Event) (t : Item) (l : Label) → IsIn (t, l) (labelled g events) → events ≢ []
-label_started g [] t l h q = h
-label_started g (e ∷ events) t l h q = absurd (cc)
-
 module _ (g : Grammar) (u : View) (x y : Label) where
   module _ (d : Assignment) (wf : IsWellFormed g) (ind : IsInduced g u d) (shown : AreShown g u x y) where
     -- so it is in each finishing of each run that has both labels
@@ -89,8 +86,16 @@ module _ (g : Grammar) (u : View) (x y : Label) where
       let h : HasBoth g u x y r.0 f.0 r.2.0 r.3.0 = record { run = r.1; first = r.2.1; second = r.3.1; finishing = f.1 } in
       (never, λ always. never r.0 f.0 r.2.0 r.3.0 h (always r.0 f.0 r.2.0 r.3.0 h))
 
+-- the law of one answer, told by pairs that every production induces
+pub one_answer_induced : (g : Grammar) (u : View) (d : Assignment) → IsWellFormed g → IsInduced g u d → (x y : Label) → AreShown g u x y →
+    (events more : List Event) (s t : Item) → HasBoth g u x y events more s t → Depends g u (events ++ more) s t → AlwaysDepends g u x y
+one_answer_induced g u d wf ind x y shown events more s t h dep = once_reached g u x y d wf ind shown events more s t h dep
+
 pub one_answer_law : OneAnswerLaw
-one_answer_law g u d wf ind x y shown events more s t h dep = once_reached g u x y d wf ind shown events more s t h dep
+one_answer_law g u wf proper composites safe x y shown =
+    let full = safe_full_law g u wf proper composites safe in
+    let once = one_answer_induced g u full.0 wf ((full_law g u full.0 wf proper composites).0 full.1) x y shown in
+    record { always = once; never = λ not events more s t h dep. not (once events more s t h dep) }
 
 -- an output of the root is not consumed, and an input of it is not produced
 output_not_consumed : (g : Grammar) (events : List Event) (run : IsRun g g.start events) (t : Item) (p : ℕ) → IsIn (t, Output p) (labelled g events) → t.consumed ≡ None
@@ -99,8 +104,10 @@ output_not_consumed g events run t p h = ⊎_elim (λ c. absurd c.2) (λ e. e) (
 input_not_produced : (g : Grammar) (events : List Event) (run : IsRun g g.start events) (t : Item) (p : ℕ) → IsIn (t, Input p) (labelled g events) → t.produced ≡ None
 input_not_produced g events run t p h = ⊎_elim (λ c. absurd c.2) (λ e. e) (produced_or_none g events run t (Input p) h)
 
-pub answer_law : AnswerLaw
-answer_law g u d wf proper composites ind x y lx ly shown apart = record {
+-- the law of answers, told by pairs that every production induces
+pub answer_induced : (g : Grammar) (u : View) (d : Assignment) → IsWellFormed g → IsProper g → ExpandsComposites g u → IsInduced g u d →
+    (x y : Label) → IsLabel g x → IsLabel g y → AreShown g u x y → (AreClashing g x y → ⊥) → IsAnswered g u d x y
+answer_induced g u d wf proper composites ind x y lx ly shown apart = record {
   yes = reached_always g u x y d wf ind shown;
   no = λ a b i o c p far. only_never (λ events more s t h dep. far ((depends_told g u x y d wf ind shown events more s t h a b i o c p).0 dep));
   from_output = λ p e. only_never (λ events more s t h dep. not_consumed g u (events ++ more) s t (output_not_consumed g events h.run s p (subst (λ z. IsIn (s, z) (labelled g events)) e h.first.0)) dep);
@@ -109,3 +116,6 @@ answer_law g u d wf proper composites ind x y lx ly shown apart = record {
   where
     only_never : NeverDepends g u x y → NeverDepends g u x y × (AlwaysDepends g u x y → ⊥)
     only_never = never_not_always g u x y wf proper composites lx ly apart
+
+pub answer_law : AnswerLaw
+answer_law g u d wf proper composites full x y lx ly shown apart = answer_induced g u d wf proper composites ((full_law g u d wf proper composites).0 full) x y lx ly shown apart

@@ -1,16 +1,17 @@
 -- Two labels that do not clash have a run that has both.
-use Rattle.std.proofs.Common.{◌≡◌, ◌≢◌, ℕ, ◌<◌, List, [], ◌∷◌, length, get_or, refl, sym, subst, inl, ⊎_elim, arith}
+use Rattle.std.proofs.Common.{◌≡◌, ◌≢◌, ℕ, ◌<◌, List, [], ◌∷◌, length, get_or, refl, sym, subst, ⊎_elim}
 use Rattle.wf_model.specs.Lists.{IsIn}
 use Rattle.wf_model.specs.Grammar.{Grammar, Edge, production_at, head_of, body_of}
 use Rattle.wf_model.specs.WellFormed.{IsWellFormed}
 use Rattle.wf_model.specs.declared.event.Event.{Event}
 use Rattle.wf_model.specs.declared.event.Event.TheVariants.{Start}
-use Rattle.wf_model.specs.Run.{IsName, IsRun, root_of}
+use Rattle.wf_model.specs.Run.{IsRun, root_of}
 use Rattle.wf_model.specs.Items.{Item}
 use Rattle.wf_model.specs.Reach.{Step, target_of, module_along}
 use Rattle.wf_model.specs.Routes.{IsAddress, IsRoute, Agree}
 use Rattle.wf_model.proofs.Lists.{at_below, at_in, is_at}
 use Rattle.wf_laws.proofs.Routes.{routes_law}
+use Rattle.wf_laws.proofs.Making.{first_name, first_is_name}
 use Rattle.label_model.specs.Labels.{Label, Input, Output, OfEdge, IsLabel}
 use Rattle.label_model.specs.RunLabels.{labelled, HasLabel}
 use Rattle.verdict_model.specs.Telling.{Tells}
@@ -54,18 +55,11 @@ module _ (g : Grammar) (wf : IsWellFormed g) where
             (m.0, (subst (λ z. IsIn (m.0, z) (labelled g events)) (sym tells.is) (edge_listed g events run wf m.0 a p e m.1), lab));
       }
 
-  first : List ℕ
-  first = 97 ∷ []
-
-  first_good : IsName first
-  unfolding first
-  first_good = (omega arith, λ c h. inl (⊎_elim (λ e. (omega arith, omega arith)) (λ e. absurd e) h))
-
   -- two addresses that are needed and agree are those of a run that has its start event
   found_both : (x y : Label) (a b : List Step) → IsNeeded g x a → IsNeeded g y b → Agree a b → (events : List Event) × IsRun g g.start events × ((s : Item) × HasLabel g events s x) × ((t : Item) × HasLabel g events t y)
   found_both x y a b na nb ag = let r = routes_law g wf g.start a b na.route nb.route ag in go r.0 r.1 r.2.0 r.2.1 r.3.0 r.3.1
     where
-      at_start : (a : List Step) (x : List ℕ) → IsAddress [] [] a x → IsAddress (Start first ∷ []) first a first
+      at_start : (a : List Step) (x : List ℕ) → IsAddress [] [] a x → IsAddress (Start first_name ∷ []) first_name a first_name
       at_start [] x h = refl
       at_start (s ∷ a) x h = let q = h.1 in absurd (cc)
 
@@ -75,7 +69,7 @@ module _ (g : Grammar) (wf : IsWellFormed g) where
 
       go : (events : List Event) → IsRun g g.start events → (v : List ℕ) → IsAddress events (root_of events) a v → (w : List ℕ) → IsAddress events (root_of events) b w →
           (events : List Event) × IsRun g g.start events × ((s : Item) × HasLabel g events s x) × ((t : Item) × HasLabel g events t y)
-      go [] run v hv w hw = with_both (Start first ∷ []) ((refl, first_good), tt) (λ q. absurd (cc)) first (at_start a v hv) first (at_start b w hw)
+      go [] run v hv w hw = with_both (Start first_name ∷ []) ((refl, first_is_name), tt) (λ q. absurd (cc)) first_name (at_start a v hv) first_name (at_start b w hw)
       go (e ∷ events) run v hv w hw = with_both (e ∷ events) run (λ q. absurd (cc)) v hv w hw
 
   input_needed : (k : ℕ) → IsLabel g (Input k) → IsNeeded g (Input k) []

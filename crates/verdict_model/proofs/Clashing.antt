@@ -54,7 +54,7 @@ left_by : (a : List Step) (p k : ℕ) (c : List Step) (r : ℕ) → Passes a p c
 left_by a p k c r (inl h) = (record { production = p; position = k }, [], ap (λ z. child_of z p k) h.0, h.1)
 left_by a p k c r (inr h) = (h.0, child_of h.1 p k, ap (λ z. child_of z p k) h.2 ∙ append_assoc c (h.0 ∷ h.1) (record { production = p; position = k } ∷ []), h.3)
 
-agreed_at : (c : List Step) (s t : Step) (a b : List Step) → Agree (c ++ s ∷ a) (c ++ t ∷ b) → s.production ≡ t.production
+pub agreed_at : (c : List Step) (s t : Step) (a b : List Step) → Agree (c ++ s ∷ a) (c ++ t ∷ b) → s.production ≡ t.production
 agreed_at [] s t a b h = h.0
 agreed_at (w ∷ c) s t a b h = agreed_at c s t a b (h.1 refl)
 

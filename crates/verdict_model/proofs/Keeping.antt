@@ -4,7 +4,7 @@ use Rattle.std.proofs.lemmas.Bool.{and_parts, and_from}
 use Rattle.wf_model.specs.Lists.{IsIn}
 use Rattle.wf_model.specs.Grammar.{Grammar, module_at}
 use Rattle.wf_model.specs.WellFormed.{IsWellFormed}
-use Rattle.wf_model.specs.View.{View, expands}
+use Rattle.wf_model.specs.View.{View, expands, at_start}
 use Rattle.wf_model.specs.declared.event.Event.{Event}
 use Rattle.wf_model.specs.Run.{Instance, IsRun, seen_in, root_of}
 use Rattle.wf_model.specs.Reach.{Step, module_along, IsAlong}
@@ -23,7 +23,7 @@ use Rattle.verdict_model.specs.Verdicts.{IsHidden}
 use Rattle.verdict_model.specs.Laws.{KeptLaw}
 use Rattle.verdict_model.proofs.LabelsTold.{IsMadeAt, made_there, told_there}
 use Rattle.verdict_model.proofs.RootPorts.{input_item_at, output_item_at}
-use Rattle.verdict_model.proofs.Hiding.{AllExpanded, along_expanded, expanded_along, along_address, shown_expanded, expanded_shown, input_shown, output_shown}
+use Rattle.verdict_model.proofs.Hiding.{AllExpanded, along_open, open_along, along_address, shown_expanded, expanded_shown, input_shown, output_shown}
 
 -- where there is an expansion, there are events
 pub made_started : (g : Grammar) (events : List Event) (t : Item) (a : List Step) (p e : ℕ) → IsMadeAt g events t a p e → events ≢ []
@@ -55,17 +55,18 @@ module _ (g : Grammar) (wf : IsWellFormed g) (u : View) (events : List Event) (r
           let parts = and_parts (bytes_eq s.0.name m.instance) (expands u s.0.module_no) s.2 in
           let ad = (seen_law g u g.start events s.0 run started).0 s.1 in
           let al : IsAlong g u events (root_of events) ad.0 m.instance = subst (IsAlong g u events (root_of events) ad.0) (same_bytes s.0.name m.instance parts.0) ad.1 in
-          let same : ad.0 ≡ a = address_law g wf g.start events run ad.0 a m.instance (along_address g u events ad.0 (root_of events) m.instance al) m.address in
-          expanded_along g u events g.start a (root_of events) m.instance m.ends.route (subst (λ z. IsAlong g u events (root_of events) z m.instance) same al)
-          (ap (λ z. expands u (module_along g g.start z)) (sym same) ∙ (ap (expands u) ad.2 ∙ parts.1))
+          let same : ad.0 ≡ a = address_law g wf g.start events run ad.0 a m.instance (along_address g u events ad.0 (root_of events) m.instance al) m.address in (
+            open_along g u events g.start a (root_of events) m.instance m.ends.route (at_start refl) (subst (λ z. IsAlong g u events (root_of events) z m.instance) same al),
+            ap (λ z. expands u (module_along g g.start z)) (sym same) ∙ (ap (expands u) ad.2 ∙ parts.1),
+          )
 
       from : AllExpanded g u g.start a → IsVisible g u g.start events t
       from all =
-          let al = along_expanded g u events g.start a (root_of events) m.instance m.ends.route all m.address in
+          let al = along_open g u events g.start a (root_of events) m.instance all.0 m.address in
           let i : Instance = record { name = m.instance; module_no = module_along g g.start a } in
-          let seen = (seen_law g u g.start events i run started).1 (a, al.0, refl) in
+          let seen = (seen_law g u g.start events i run started).1 (a, al, refl) in
           maker.1 (some_from (λ (z : Instance). bytes_eq z.name m.instance && expands u z.module_no) i (seen_in g u g.start events) seen
-          (and_from (bytes_eq m.instance m.instance) (expands u i.module_no) (bytes_same m.instance m.instance refl) al.1))
+          (and_from (bytes_eq m.instance m.instance) (expands u i.module_no) (bytes_same m.instance m.instance refl) all.1))
 
   -- an item that no instance made is visible
   unmade_visible : t.maker ≡ None → IsVisible g u g.start events t

@@ -1,5 +1,5 @@
 -- Items that are listed with their labels: those of the ports of the root, and those of the edges of an instance that is expanded.
-use Rattle.std.proofs.Common.{◌≡◌, ◌≢◌, ℕ, zero, suc, ◌+◌, ◌<◌, List, [], ◌∷◌, ◌++◌, map, length, get_or, zip, Some, refl, sym, ap, ◌∙◌, subst, inl, inr, arith, append-nil}
+use Rattle.std.proofs.Common.{◌≡◌, ◌≢◌, ℕ, zero, suc, ◌+◌, ◌<◌, List, [], ◌∷◌, ◌++◌, map, length, get_or, zip, Some, refl, sym, ◌∙◌, subst, inl, inr, arith, append-nil}
 use Rattle.std.proofs.lemmas.List.{length-map}
 use Rattle.wf_model.specs.Lists.{IsIn, IsAt, numbers_from}
 use Rattle.wf_model.specs.Grammar.{Grammar, Edge, production_at, module_at, head_of, inputs_of, outputs_of}
@@ -11,22 +11,19 @@ use Rattle.wf_model.specs.Reach.{Step}
 use Rattle.wf_model.specs.Routes.{IsAddress}
 use Rattle.wf_model.specs.Items.{Item, input_items, output_items, edge_item}
 use Rattle.wf_model.proofs.Lists.{in_append_left, in_append_right, in_flat_map, is_at}
+use Rattle.wf_model.proofs.NumberLists.{length-numbers}
+use Rattle.wf_model.proofs.Mapping.{at_map}
+use Rattle.wf_model.proofs.Expanding.{expanded_from}
 use Rattle.wf_laws.proofs.Routes.{address_law}
-use Rattle.wf_laws.proofs.Order.{expanded_from}
 use Rattle.label_model.specs.Labels.{Label, Input, Output, OfEdge}
 use Rattle.label_model.specs.Places.{place_of, IsEnding}
 use Rattle.label_model.specs.RunLabels.{address_in, labelled_by, labelled}
 use Rattle.label_model.proofs.InstanceAddresses.{instance_law}
 use Rattle.label_model.proofs.TakenEvents.{expansion_of}
-use Rattle.label_model.proofs.Lists.{length-numbers, zip-append}
+use Rattle.label_model.proofs.Lists.{zip-append}
 use Rattle.label_model.proofs.ItemLabels.{no_item, length-inputs, length-outputs}
 use Rattle.verdict_model.proofs.LabelsTold.{IsMadeAt}
 use Rattle.verdict_model.proofs.Clashing.{child_of}
-
-at_map : {A B : Type 0} (f : A → B) (x : A) (k : ℕ) (xs : List A) → IsAt x k xs → IsAt (f x) k (map f xs)
-at_map f x k [] h = absurd h
-at_map f x zero (y ∷ xs) h = ap f h
-at_map f x (suc k) (y ∷ xs) h = at_map f x k xs h
 
 -- an item of a list stands beside its numbered label
 beside : (h : ℕ → Label) (ts : List Item) (j n k : ℕ) (t : Item) → n ≡ length ts → IsAt t k ts → IsIn (t, h (j + k)) (zip ts (map h (numbers_from j n)))

@@ -20,7 +20,7 @@ use Rattle.verdict_model.specs.Telling.{Tells, ConsumedAt, ProducedAt}
 use Rattle.verdict_model.specs.Verdicts.{IsHidden}
 use Rattle.verdict_model.proofs.LabelsTold.{IsMadeAt, made_at, told_there, input_untold, output_untold}
 use Rattle.verdict_model.proofs.RootPorts.{input_item_at, output_item_at}
-use Rattle.verdict_model.proofs.Hiding.{AllExpanded, along_expanded, shown_expanded}
+use Rattle.verdict_model.proofs.Hiding.{AllExpanded, along_open, shown_expanded}
 use Rattle.verdict_model.proofs.Clashing.{child_of}
 
 -- an item is consumed and produced where the edge that makes it leads and begins
@@ -57,10 +57,10 @@ module _ (g : Grammar) (wf : IsWellFormed g) (u : View) (events : List Event) (r
 
       child : (k : ℕ) → k < length (body_of g p) → IsAlong g u events (root_of events) (child_of a p k) (get_or m.names k [])
       child k small =
-          let al = along_expanded g u events g.start a (root_of events) m.instance m.ends.route all m.address in
+          let al = along_open g u events g.start a (root_of events) m.instance all.0 m.address in
           let o = opening g g.start [] events m.instance (record { production = p; names = m.names }) run m.expanded in
-          along_more g u events a (root_of events) m.instance (record { production = p; position = k }) m.names al.0 m.expanded
-          (let w : k < length m.names = omega (arith, o.one_each, small) in w) (ap (expands u) m.ends.of_it.1 ∙ al.1)
+          along_more g u events a (root_of events) m.instance (record { production = p; position = k }) m.names al m.expanded
+          (let w : k < length m.names = omega (arith, o.one_each, small) in w) (ap (expands u) m.ends.of_it.1 ∙ all.1)
 
   module _ (l : Label) (h : IsIn (t, l) (labelled g events)) (shown : IsHidden g u l → ⊥) where
     told_item : (a : List Step) (p e : ℕ) (x : Edge) → Tells g l a p e → IsAt x e (production_at g p).edges → IsBetweenChildren g u events t a p x

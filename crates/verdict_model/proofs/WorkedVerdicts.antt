@@ -6,7 +6,7 @@ use Rattle.wf_model.specs.Finishing.{ExpandsComposites}
 use Rattle.wf_model.specs.Reach.{Step, module_along, Reaches}
 use Rattle.wf_model.proofs.DefaultView.{default_expands_composites}
 use Rattle.wf_laws.specs.LineGrammar.{line, all_pairs, whole_view, shut_view, events, r_a, r_b, i1_y, LineGrammarIsWorked}
-use Rattle.wf_laws.proofs.LineGrammar.{line_induced, line_grammar_is_worked}
+use Rattle.wf_laws.proofs.LineGrammar.{line_grammar_is_worked}
 use Rattle.label_model.specs.Continuing.{derives_within, derives, continuing}
 use Rattle.label_model.specs.Labels.{Label, Place, Input, Output, OfEdge, IsLabel}
 use Rattle.label_model.specs.Places.{place_of}
@@ -50,7 +50,7 @@ listed = (inl refl, inr (inl refl), inr (inr (inl refl)))
 
 -- where the root is expanded, the edges of its productions are shown
 edge_shown : IsHidden line whole_view first_edge → ⊥
-edge_shown = expanded_shown line worked.well_formed whole_view first_edge [] 0 0 line_tells refl
+edge_shown = expanded_shown line worked.well_formed whole_view first_edge [] 0 0 line_tells (tt, refl)
 
 composites : ExpandsComposites line whole_view
 composites = subst (ExpandsComposites line) worked.default (default_expands_composites line)
@@ -70,7 +70,7 @@ edge_clashes h = agree_not_parting [] [] 0 0 0 0 (refl, λ e. tt) (clash_parting
 
 -- what the law of answers says of two of them
 answers : (x y : Label) → IsLabel line x → IsLabel line y → AreShown line whole_view x y → (AreClashing line x y → ⊥) → IsAnswered line whole_view all_pairs x y
-answers x y lx ly shown apart = answer_law line whole_view all_pairs worked.well_formed worked.proper composites line_induced x y lx ly shown apart
+answers x y lx ly shown apart = answer_law line whole_view all_pairs worked.well_formed worked.proper composites worked.full x y lx ly shown apart
 
 -- the first position of S and the second
 abbrev at_u : List Step

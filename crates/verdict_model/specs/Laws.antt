@@ -4,7 +4,7 @@ use Rattle.wf_model.specs.Grammar.{Grammar, Assignment}
 use Rattle.wf_model.specs.WellFormed.{IsWellFormed}
 use Rattle.wf_model.specs.Proper.{IsProper}
 use Rattle.wf_model.specs.View.{View}
-use Rattle.wf_model.specs.Safe.{IsInduced}
+use Rattle.wf_model.specs.Safe.{IsSafe, IsFull}
 use Rattle.wf_model.specs.declared.event.Event.{Event}
 use Rattle.wf_model.specs.Run.{IsRun}
 use Rattle.wf_model.specs.Finishing.{ExpandsComposites}
@@ -55,24 +55,28 @@ BothLaw =
     (g : Grammar) → IsWellFormed g → (x y : Label) → IsLabel g x → IsLabel g y → (AreClashing g x y → ⊥) →
     (events : List Event) × IsRun g g.start events × ((s : Item) × HasLabel g events s x) × ((t : Item) × HasLabel g events t y)
 
--- Let the pairs of the modules be those that every production induces, as under a safe view. What holds in one finishing of one run that has two labels, neither of them hidden, holds in every finishing of every such run
+-- Let the view be safe, and neither label hidden. What holds in one finishing of one run that has both labels holds in every finishing of every such run; so where the second item does not depend on the first in all of them, it does in none
 abbrev pub OneAnswerLaw : Type 0
 OneAnswerLaw =
-    (g : Grammar) (u : View) (d : Assignment) → IsWellFormed g → IsInduced g u d → (x y : Label) → AreShown g u x y →
-    (events more : List Event) (s t : Item) → HasBoth g u x y events more s t → Depends g u (events ++ more) s t → AlwaysDepends g u x y
+    (g : Grammar) (u : View) → IsWellFormed g → IsProper g → ExpandsComposites g u → IsSafe g u → (x y : Label) → AreShown g u x y →
+    record {
+      always : (events more : List Event) (s t : Item) → HasBoth g u x y events more s t → Depends g u (events ++ more) s t → AlwaysDepends g u x y;
+      never : (AlwaysDepends g u x y → ⊥) → NeverDepends g u x y;
+    }
 
 -- two labels have one verdict at most
 abbrev pub OneVerdictLaw : Type 0
 OneVerdictLaw = (g : Grammar) (u : View) (x y : Label) (v w : Verdict) → IsVerdict g u x y v → IsVerdict g u x y w → v ≡ w
 
--- The answer of two labels of the grammar, neither of them hidden, that do not clash: it is told by where the first item is consumed, where the second is produced, and the pairs of the modules. An output of the root is consumed nowhere and an input of the root is produced nowhere, so there nothing depends
+-- The answer of two labels of the grammar, neither of them hidden, that do not clash, where all expansions join the pairs of the modules: it is told by where the first item is consumed, where the second is produced, and these pairs. An output of the root is consumed nowhere and an input of the root is produced nowhere, so there nothing depends
 pub record IsAnswered (g : Grammar) (u : View) (d : Assignment) (x y : Label) : Type 0 where
   pub yes : (a b : List Step) (i o : ℕ) → ConsumedAt g x a i → ProducedAt g y b o → Reaches g d g.start a b i o → AlwaysDepends g u x y
   pub no : (a b : List Step) (i o : ℕ) → ConsumedAt g x a i → ProducedAt g y b o → (Reaches g d g.start a b i o → ⊥) → NeverDepends g u x y × (AlwaysDepends g u x y → ⊥)
   pub from_output : (p : ℕ) → x ≡ Output p → NeverDepends g u x y × (AlwaysDepends g u x y → ⊥)
   pub to_input : (p : ℕ) → y ≡ Input p → NeverDepends g u x y × (AlwaysDepends g u x y → ⊥)
 
+-- the full assignment of a view, which a safe view has, tells the answer of two labels
 abbrev pub AnswerLaw : Type 0
 AnswerLaw =
-    (g : Grammar) (u : View) (d : Assignment) → IsWellFormed g → IsProper g → ExpandsComposites g u → IsInduced g u d →
+    (g : Grammar) (u : View) (d : Assignment) → IsWellFormed g → IsProper g → ExpandsComposites g u → IsFull g u d →
     (x y : Label) → IsLabel g x → IsLabel g y → AreShown g u x y → (AreClashing g x y → ⊥) → IsAnswered g u d x y

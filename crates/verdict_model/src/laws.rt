@@ -26,7 +26,9 @@ pub fn both_law()
     ensures { BothLaw }
 {}
 
-/// What holds in one finishing of one run that has both labels holds in every finishing of every such run.
+/// Under a safe view, what holds in one finishing of one run that has both labels holds in every finishing of every such run.
+///
+/// So a no says that the item depends in no finishing of any run that has both.
 ///
 /// Source of the idea: Bao, Davidson, Milo, "Labeling Workflow Views with Fine-Grained Dependencies", VLDB 2012 (safe views).
 pub fn one_answer_law()
@@ -38,7 +40,7 @@ pub fn one_verdict_law()
     ensures { OneVerdictLaw }
 {}
 
-/// The answer of two labels is told by two addresses and the pairs of the modules.
+/// The answer of two labels is told by two addresses and the full assignment, which a safe view has.
 ///
 /// Source of the idea: Bao, Davidson, Milo, "Labeling Workflow Views with Fine-Grained Dependencies", VLDB 2012 (decoding of two labels).
 pub fn answer_law()

@@ -1,5 +1,5 @@
 -- Addresses in one run agree, and each is a route that tells the module of its instance.
-use Rattle.std.proofs.Common.{◌≡◌, ℕ, ◌<◌, IsTrue, List, [], ◌∷◌, length, get_or, Option, Some, refl, sym, ap, ◌∙◌, subst, inl, inr, arith}
+use Rattle.std.proofs.Common.{◌≡◌, ℕ, ◌<◌, IsTrue, List, [], ◌∷◌, length, get_or, Some, refl, ap, subst, inl, inr, arith}
 use Rattle.wf_model.specs.Lists.{IsIn}
 use Rattle.wf_model.specs.Grammar.{Grammar, head_of, body_of}
 use Rattle.wf_model.specs.View.{expands}
@@ -17,10 +17,8 @@ use Rattle.wf_model.proofs.Taking.{run_differs}
 use Rattle.wf_model.proofs.Whole.{all_seen}
 use Rattle.wf_model.proofs.DefaultView.{default_expands_all}
 use Rattle.wf_model.proofs.Open.{open_law}
+use Rattle.wf_model.proofs.Expanding.{one_expansion}
 use Rattle.wf_laws.specs.Agreeing.{AgreeLaw, RouteLaw}
-
-pub one_expansion : (o : Option Expanded) (x y : Expanded) → o ≡ Some x → o ≡ Some y → x ≡ y
-one_expansion o x y e f = let z : Some x ≡ Some y = sym e ∙ f in cc
 
 agree_from : (events : List Event) (a b : List Step) (n x y : List ℕ) → IsAddress events n a x → IsAddress events n b y → Agree a b
 agree_from events [] b n x y h k = tt

@@ -11,6 +11,8 @@ use Rattle.wf_model.specs.Routes.{IsAddress}
 use Rattle.wf_model.proofs.Lists.{same_bytes, bytes_same, is_at, at_in}
 use Rattle.wf_model.proofs.Runs.{expansion_later, expansion_other, name_in, run_state}
 use Rattle.wf_model.proofs.Taking.{extended}
+use Rattle.wf_model.proofs.Expanding.{one_expansion}
+use Rattle.wf_model.proofs.Open.{root_kept}
 use Rattle.wf_laws.specs.Depth.{DepthLaw}
 
 -- a view, of which nothing is asked
@@ -19,14 +21,6 @@ no_view = record { expanded = []; shown = [] }
 
 not_both : (o : Option Expanded) (y : Expanded) → o ≡ None → o ≡ Some y → ⊥
 not_both o y e f = let z : None ≡ Some y = sym e ∙ f in absurd (cc)
-
-one_expansion : (o : Option Expanded) (x y : Expanded) → o ≡ Some x → o ≡ Some y → x ≡ y
-one_expansion o x y e f = let z : Some x ≡ Some y = sym e ∙ f in cc
-
-pub root_kept : (b a : List Event) → b ≢ [] → root_of (b ++ a) ≡ root_of b
-root_kept [] a n = absurd (n refl)
-root_kept (Start r ∷ b) a n = refl
-root_kept (Expand i p names ∷ b) a n = refl
 
 module _ (g : Grammar) (m : ℕ) (b : List Event) (run : IsRun g m b) (k : List ℕ) (p : ℕ) (new : List (List ℕ)) (can : CanExpand g m b k p new) where
   abbrev after : List Event

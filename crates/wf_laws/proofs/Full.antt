@@ -1,5 +1,7 @@
 -- The full assignment of a view: it is what every production induces, and a safe view has one.
+use Rattle.wf_laws.specs.Graft.{place_module}
 use Rattle.std.proofs.Common.{◌≡◌, ℕ, ◌<◌, ◌↔◌, Bool, true, false, IsTrue, List, [], ◌∷◌, length, refl, sym, ap, ◌∙◌, subst, inl, inr, ⊎_elim, arith, true≢false}
+use Rattle.std.specs.Cmp.Derive.{one_truth}
 use Rattle.wf_model.specs.Grammar.{Grammar, Assignment, inputs_of, outputs_of, head_of, body_of}
 use Rattle.wf_model.specs.WellFormed.{IsWellFormed}
 use Rattle.wf_model.specs.View.{View, expands, shows, IsSeenModule, in_body}
@@ -13,7 +15,7 @@ use Rattle.wf_model.specs.Finishing.{ExpandsComposites}
 use Rattle.wf_model.proofs.Lists.{at_in, is_at}
 use Rattle.wf_laws.specs.Views.{FullLaw, SafeFullLaw}
 use Rattle.wf_laws.proofs.Parts.{opened_run}
-use Rattle.wf_laws.proofs.Root.{kid_module, kid_run, kid_law}
+use Rattle.wf_laws.proofs.Root.{kid_run, kid_law}
 use Rattle.wf_laws.proofs.Safe.{KidsJoin, open_joins, bare_links, pairs_join, perceived_shown, one_test_suffices}
 use Rattle.wf_laws.proofs.Growth.{finishing}
 use Rattle.wf_laws.proofs.Making.{first_name, first_is_name}
@@ -55,21 +57,16 @@ module _ (g : Grammar) (u : View) (d : Assignment) (wf : IsWellFormed g) (proper
       λ k hk i o hi ho.
       let law = kid_law g u (perceived u) first_name p names rest wf x.run ex k hk in
       let hb : k < length (body_of g p) = omega (arith, can.one_each) in
-      full (kid_module g p k) (in_body p hp s ex (at_in _ k (body_of g p) (is_at k (body_of g p) 0 hb))) (kid_run names (opened_run first_name p names rest) k)
+      full (place_module g p k) (in_body p hp s ex (at_in _ k (body_of g p) (is_at k (body_of g p) 0 hb))) (kid_run names (opened_run first_name p names rest) k)
       (record { run = law.run; started = λ q. (cc); finished = law.finished x.finished }) i o hi ho in
       let oj = open_joins g u (perceived u) d first_name p names rest wf x.run ex kids i o in
       let f = full m s (opened_run first_name p names rest) x i o hi ho in
       ((λ t. oj.1 (f.0 t)), (λ w. f.1 (oj.0 w)))
 
-same_truth : (a b : Bool) → (a ≡ true → b ≡ true) → (b ≡ true → a ≡ true) → a ≡ b
-same_truth true b f k = sym (f refl)
-same_truth false true f k = k refl
-same_truth false false f k = refl
-
 pub full_law : FullLaw
 full_law g u d wf proper ec = (
   (λ full. record {
-    shown = λ m s ex i o hi ho. let q = shut g u d wf proper ec full m s ex i o hi ho in same_truth (d m i o) (shows u m i o) q.0 q.1;
+    shown = λ m s ex i o hi ho. let q = shut g u d wf proper ec full m s ex i o hi ho in one_truth (d m i o) (shows u m i o) q.0 q.1;
     induced = λ p hp s ex i o hi ho. opened g u d wf proper ec full p hp s ex i o hi ho;
   }),
   (λ ind. one_test_suffices g u d wf ind),

@@ -13,6 +13,7 @@ use Rattle.wf_model.proofs.Lists.{in_append_left, in_append_cases, some_from, so
 use Rattle.wf_model.proofs.Runs.{made-append, named_names, name_in, name_kept, see_all-append, AllExtend-append, expansion_kept, newly-made}
 use Rattle.wf_model.proofs.Open.{maker_made}
 use Rattle.wf_laws.specs.Grown.{GrownLaw}
+use Rattle.wf_laws.proofs.Root.{seen_kept}
 
 module _ (g : Grammar) (u : View) (m : ℕ) where
   -- what comes into sight has a new name
@@ -27,10 +28,6 @@ module _ (g : Grammar) (u : View) (m : ℕ) where
       ⊎_elim (λ q. q) (λ q. absurd (newly_new b s e x.0 j q k))
       (in_append_cases j s (newly_seen g u m s e) (seen_before (b ++ e ∷ []) (s ++ newly_seen g u m s e) a x.1 j (name_kept g m b e j.name k) h))
 
-  seen_after : (s : List Instance) (a : List Event) (j : Instance) → IsIn j s → IsIn j (see_all g u m s a)
-  seen_after s [] j h = h
-  seen_after s (e ∷ a) j h = seen_after (s ++ newly_seen g u m s e) a j (in_append_left j s (newly_seen g u m s e) h)
-
   module _ (events more : List Event) (run : IsRun g m (events ++ more)) where
     extend : AllExtend g m events more
     extend = (AllExtend-append g m [] events more run).1
@@ -41,7 +38,7 @@ module _ (g : Grammar) (u : View) (m : ℕ) where
     seen_same : (j : Instance) → IsIn j.name (names_of (made g m events)) → IsIn j (seen_in g u m (events ++ more)) ↔ IsIn j (seen_in g u m events)
     seen_same j k = (
       (λ h. seen_before events (seen_in g u m events) more extend j k (subst (IsIn j) seen_is h)),
-      (λ h. subst (IsIn j) (sym seen_is) (seen_after (seen_in g u m events) more j h)),
+      (λ h. subst (IsIn j) (sym seen_is) (seen_kept g u m j (seen_in g u m events) more h)),
     )
 
     opens_same : (n : List ℕ) → IsIn n (names_of (made g m events)) → IsTrue (opens u (seen_in g u m (events ++ more)) n) ↔ IsTrue (opens u (seen_in g u m events) n)

@@ -35,7 +35,7 @@ unfolding fresh
 fresh_differ l zero = tt
 fresh_differ l (suc n) = ((λ h. let r = fresh_long (suc l) n (replicate l 97) h in absurd (omega (arith, length-replicate {A = ℕ} l 97))), fresh_differ (suc l) n)
 
-in_replicate : (b c n : ℕ) → IsIn b (replicate n c) → b ≡ c
+pub in_replicate : (b c n : ℕ) → IsIn b (replicate n c) → b ≡ c
 in_replicate b c zero h = absurd h
 in_replicate b c (suc n) (inl e) = e
 in_replicate b c (suc n) (inr h) = in_replicate b c n h
@@ -56,6 +56,19 @@ unfolding longest
 below_longest x [] h = absurd h
 below_longest x (y ∷ xs) (inl e) = omega (arith, ap length e)
 below_longest x (y ∷ xs) (inr h) = let r = below_longest x xs h in omega arith
+
+-- a run that goes on twice goes on by all of these events
+pub extended : (g : Grammar) (m : ℕ) (more more' b : List Event) → AllExtend g m b more → AllExtend g m (b ++ more) more' → AllExtend g m b (more ++ more')
+extended g m [] more' b x y = subst (λ l. AllExtend g m l more') (append-nil b) y
+extended g m (e ∷ more) more' b x y = (x.0, extended g m more more' (b ++ e ∷ []) x.1 (subst (λ l. AllExtend g m l more') (sym (append_assoc b (e ∷ []) more)) y))
+
+module _ (g : Grammar) where
+  -- what is made stays
+  pub made_kept_all : (m : ℕ) (more b : List Event) (i : Instance) → IsIn i (made g m b) → IsIn i (made g m (b ++ more))
+  made_kept_all m more b i h = subst (IsIn i) (sym (made-append g m b more)) (in_append_left i (made g m b) (made g m more) h)
+
+  pub name_kept_all : (m : ℕ) (more b : List Event) (n : List ℕ) → IsIn n (names_of (made g m b)) → IsIn n (names_of (made g m (b ++ more)))
+  name_kept_all m more b n h = let r = name_from n (made g m b) h in subst (λ l. IsIn l (names_of (made g m (b ++ more)))) (sym r.2) (name_in r.0 _ (made_kept_all m more b r.0 r.1))
 
 module _ (g : Grammar) (u : View) (Chosen : ℕ → ℕ → Type 0) where
   abbrev pub Plan : ℕ → ℕ → Type 0
@@ -95,22 +108,12 @@ module _ (g : Grammar) (u : View) (Chosen : ℕ → ℕ → Type 0) where
   settled_later : (events more : List Event) (j : Instance) → IsDone events j → IsDone (events ++ more) j
   settled_later events more j s = λ e. let q = s e in (q.0, q.1, expansion_kept events more j.name _ q.2, q.3)
 
-  pub joined : (m : ℕ) (more' more b : List Event) → AllExtend g m b more → AllExtend g m (b ++ more) more' → AllExtend g m b (more ++ more')
-  joined m more' [] b x y = subst (λ l. AllExtend g m l more') (append-nil b) y
-  joined m more' (e ∷ more) b x y = (x.0, joined m more' more (b ++ e ∷ []) x.1 (subst (λ l. AllExtend g m l more') (sym (append_assoc b (e ∷ []) more)) y))
-
-  made_kept_all : (m : ℕ) (more b : List Event) (i : Instance) → IsIn i (made g m b) → IsIn i (made g m (b ++ more))
-  made_kept_all m more b i h = subst (IsIn i) (sym (made-append g m b more)) (in_append_left i (made g m b) (made g m more) h)
-
-  name_kept_all : (m : ℕ) (more b : List Event) (n : List ℕ) → IsIn n (names_of (made g m b)) → IsIn n (names_of (made g m (b ++ more)))
-  name_kept_all m more b n h = let r = name_from n (made g m b) h in subst (λ l. IsIn l (names_of (made g m (b ++ more)))) (sym r.2) (name_in r.0 _ (made_kept_all m more b r.0 r.1))
-
   settles_both : (m : ℕ) (events : List Event) (i : Instance) (js : List Instance) (more more' : List Event) →
       Settles m events (i ∷ []) more → Settles m (events ++ more) js more' → Settles m events (i ∷ js) (more ++ more')
   settles_both m events i js more more' a b = record {
-    extend = joined m more' more events a.extend b.extend;
+    extend = extended g m more more' events a.extend b.extend;
     others = λ n h q. subst (λ l. expanded_by l n ≡ expanded_by events n) (append_assoc events more more')
-        (b.others n (name_kept_all m more events n h) (λ z. q (inr z)) ∙ a.others n h (λ z. q (⊎_elim (λ e. inl e) (λ e. absurd e) z)));
+        (b.others n (name_kept_all g m more events n h) (λ z. q (inr z)) ∙ a.others n h (λ z. q (⊎_elim (λ e. inl e) (λ e. absurd e) z)));
     settled = λ j q. subst (λ l. IsDone l j) (append_assoc events more more')
         (⊎_elim
         (λ c. ⊎_elim (λ e. settled_later (events ++ more) more' j (a.settled j (inl (inl e)))) (λ e. b.settled j (inl e)) c)
@@ -129,10 +132,10 @@ module _ (g : Grammar) (u : View) (Chosen : ℕ → ℕ → Type 0) where
       ([], record { extend = tt; others = λ k h q. ap (λ l. expanded_by l k) (append-nil events); settled = λ j q. ⊎_elim (λ c. absurd c) (λ c. absurd c) q })
   settle_list n m one (i ∷ js) events run d can =
       let a = one events i run (can i (inl refl)) in
-      let run' : IsRun g m (events ++ a.0) = joined m a.0 events [] run a.1.extend in
+      let run' : IsRun g m (events ++ a.0) = extended g m events a.0 [] run a.1.extend in
       let b = settle_list n m one js (events ++ a.0) run' d.1
       (λ j h. let c = can j (inr h) in (
-        made_kept_all m a.0 events j c.0,
+        made_kept_all g m a.0 events j c.0,
         a.1.others j.name (name_in j _ c.0) (λ z. ⊎_elim (λ e. d.0 (subst (λ l. IsIn l (names_of js)) e (name_in j js h))) (λ e. e) z) ∙ c.1,
         c.2,
       )) in
@@ -173,7 +176,7 @@ module _ (g : Grammar) (u : View) (Chosen : ℕ → ℕ → Type 0) where
           let st = run_state g u m events run in
           let shut : (k : List ℕ) → IsIn k new → expanded_by events k ≡ None = λ k h. unmade events st k (is_new k h) in
           let here = name_in i (made g m events) c.0 in
-          let run1 : IsRun g m (events ++ e ∷ []) = joined m (e ∷ []) events [] run (can, tt) in
+          let run1 : IsRun g m (events ++ e ∷ []) = extended g m events (e ∷ []) [] run (can, tt) in
           let r = settle_list n m one (named new (body_of g p)) (events ++ e ∷ []) run1
           (subst AllDiffer (sym (names-named new (body_of g p) one_each)) can.differ)
           (λ j h. let q = at_named j new (body_of g p) h in
@@ -223,11 +226,11 @@ differ_filter p (i ∷ is) d = go (differ_filter p is d.1) (p i)
     go ih true = ((λ q. let r = name_from i.name (filter p is) q in d.0 (subst (λ l. IsIn l (names_of is)) (sym r.2) (name_in r.0 is (in_filter_from p r.0 is r.1).0))), ih)
 
 -- any production serves
-abbrev Any : ℕ → ℕ → Type 0
-Any m p = Unit {0}
+abbrev pub AnyProduction : ℕ → ℕ → Type 0
+AnyProduction m p = Unit {0}
 
 module _ (g : Grammar) (u : View) (proper : IsProper g) (ec : ExpandsComposites g u) where
-  plan_of_rank : (n m : ℕ) → RankWithin g n m → Ends g u Any n m
+  plan_of_rank : (n m : ℕ) → RankWithin g n m → Ends g u AnyProduction n m
   plan_of_rank zero m h = go (expands u m) refl
     where
       go : (b : Bool) → expands u m ≡ b → expands u m ≡ false
@@ -235,21 +238,21 @@ module _ (g : Grammar) (u : View) (proper : IsProper g) (ec : ExpandsComposites 
       go true e = let c = ec m e in absurd (h c.0 c.1.0 c.1.1)
   plan_of_rank (suc n) m h = go (λ k. plan_of_rank n k) (expands u m) refl h
     where
-      go : ((k : ℕ) → RankWithin g n k → Ends g u Any n k) → (b : Bool) → expands u m ≡ b → RankWithin g (suc n) m → Ends g u Any (suc n) m
+      go : ((k : ℕ) → RankWithin g n k → Ends g u AnyProduction n k) → (b : Bool) → expands u m ≡ b → RankWithin g (suc n) m → Ends g u AnyProduction (suc n) m
       go ih false e h = inl e
       go ih true e (inl a) = let c = ec m e in absurd (a c.0 c.1.0 c.1.1)
       go ih true e (inr q) = inr (q.0, tt, q.1, λ k i. ih k (q.2 k i))
 
-  plan : (m : ℕ) → (n : ℕ) × Ends g u Any n m
+  plan : (m : ℕ) → (n : ℕ) × Ends g u AnyProduction n m
   plan m = go (expands u m) refl
     where
-      go : (b : Bool) → expands u m ≡ b → (n : ℕ) × Ends g u Any n m
+      go : (b : Bool) → expands u m ≡ b → (n : ℕ) × Ends g u AnyProduction n m
       go false e = (0, e)
       go true e = let r = proper.ranked m (ec m e) in (r.0, plan_of_rank r.0 m r.1)
 
-  plans : (js : List Instance) → (n : ℕ) × ((j : Instance) → IsIn j js → Ends g u Any n j.module_no)
+  plans : (js : List Instance) → (n : ℕ) × ((j : Instance) → IsIn j js → Ends g u AnyProduction n j.module_no)
   plans js =
-      let b = ends_bound g u Any (map (λ (j : Instance). j.module_no) js) (λ m h. plan m) in
+      let b = ends_bound g u AnyProduction (map (λ (j : Instance). j.module_no) js) (λ m h. plan m) in
       (b.0, λ j h. b.1 j.module_no (in_map (λ (i : Instance). i.module_no) j js h))
 
   -- not expanded yet
@@ -261,9 +264,9 @@ module _ (g : Grammar) (u : View) (proper : IsProper g) (ec : ExpandsComposites 
   finishing m events run =
       let js = filter (is_shut events) (made g m events) in
       let ps = plans js in
-      let r = settle_list g u Any ps.0 m (settle g u Any ps.0 m) js events run (differ_filter (is_shut events) (made g m events) (made_differ g m [] events tt run))
+      let r = settle_list g u AnyProduction ps.0 m (settle g u AnyProduction ps.0 m) js events run (differ_filter (is_shut events) (made g m events) (made_differ g m [] events tt run))
       (λ j h. let q = in_filter_from (is_shut events) j (made g m events) h in (q.0, none_of (expanded_by events j.name) q.1, ps.1 j h)) in
-      let whole : IsRun g m (events ++ r.0) = joined g u Any m r.0 events [] run r.1.extend in (
+      let whole : IsRun g m (events ++ r.0) = extended g m events r.0 [] run r.1.extend in (
         r.0,
         record {
           run = whole;
@@ -283,7 +286,7 @@ module _ (g : Grammar) (u : View) (proper : IsProper g) (ec : ExpandsComposites 
       clash : (l : List Event) (j : Instance) {p : ℕ} {names : List (List ℕ)} → (expanded_by l j.name ≡ Some (record { production = p; names = names })) → expanded_by l j.name ≡ None → ⊥
       clash l j a b = let q = sym a ∙ b in (cc)
 
-      old : (j : Instance) (more : List Event) → Settles g u Any m events (filter (is_shut events) (made g m events)) more → expands u j.module_no ≡ true → expanded_by (events ++ more) j.name ≡ None → IsIn j (made g m events) → (o : Option Expanded) → expanded_by events j.name ≡ o → ⊥
+      old : (j : Instance) (more : List Event) → Settles g u AnyProduction m events (filter (is_shut events) (made g m events)) more → expands u j.module_no ≡ true → expanded_by (events ++ more) j.name ≡ None → IsIn j (made g m events) → (o : Option Expanded) → expanded_by events j.name ≡ o → ⊥
       old j more st ex none here None e = clash (events ++ more) j (st.settled j (inl (in_filter (is_shut events) j (made g m events) here (ap is_none e))) ex).2 none
       old j more st ex none here (Some y) e = let q = sym (expansion_kept events more j.name y e) ∙ none in (cc)
 

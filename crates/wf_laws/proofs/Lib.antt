@@ -29,3 +29,9 @@ pub mod Ranked
 pub mod SkewedGrammar
 pub mod PathTests
 pub mod Full
+pub mod HeldRuns
+pub mod Below
+pub mod GraftedRuns
+pub mod Graft
+pub mod FreshGrafts
+pub mod GraftAt

@@ -1,6 +1,6 @@
 -- The line grammar, worked: it is well-formed, its run is accepted and finished, and its links, items and dependencies are computed.
 use Rattle.std.proofs.Common.{◌≡◌, ◌↔◌, IsTrue, ℕ, zero, suc, ◌<◌, ◌≤◌, ◌⊎◌, true, false, List, [], ◌∷◌, length, codes, get_or, ap, subst, refl, sym, ◌∙◌, inl, inr, ⊎_elim, arith, lit<, lit≤, ◌≢◌, count_by, true≢false, bytes_eq}
-use Rattle.wf_model.proofs.Lists.{same_bytes, bytes_same}
+use Rattle.wf_model.proofs.Lists.{same_bytes, bytes_same, at_in, is_at}
 use Rattle.wf_model.specs.Lists.{IsIn, IsAt, Walk, here, onward}
 use Rattle.wf_model.specs.Grammar.{Position, Inner, Edge, inputs_of, outputs_of, head_of, body_of, IsProductionOf, IsAtomic}
 use Rattle.wf_model.specs.WellFormed.{IsWellFormed, IsWellFormedBody, IsWellFormedModule, IsShortName, IsInnerInput, IsInnerOutput, IsFollowedBy, same_inner}
@@ -12,7 +12,6 @@ use Rattle.wf_model.specs.Safe.{IsInduced, BodyJoins}
 use Rattle.wf_model.specs.Proper.{IsProper, Derives}
 use Rattle.wf_model.specs.Linear.{IsLinear, Continues}
 use Rattle.wf_model.specs.Reach.{Step, target_of}
-use Rattle.wf_model.proofs.Lists.{at_in, is_at}
 use Rattle.wf_laws.proofs.Safe.{one_test_suffices}
 use Rattle.wf_laws.specs.Examples.{port, edge, into, out}
 use Rattle.wf_laws.specs.LineGrammar.{line, all_pairs, whole_view, events, LineGrammarIsWorked}
@@ -170,6 +169,7 @@ line_grammar_is_worked = record {
   full = one_test_suffices line whole_view all_pairs line_well_formed line_induced;
   accepted = accepted;
   expansion = record { run = accepted.0; started = λ e. absurd (cc); finished = finished line whole_view 0 events refl };
+  grafted = refl;
   items_are = refl;
   links_are = refl;
   pending_has_none = refl;

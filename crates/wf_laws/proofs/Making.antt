@@ -12,7 +12,7 @@ use Rattle.wf_model.proofs.Runs.{named_names, names-named, run_state, expansion_
 use Rattle.wf_laws.specs.Chosen.{IsByOther}
 use Rattle.wf_laws.specs.Settled.{IsSettled, IsSettledBody}
 use Rattle.wf_laws.proofs.Parts.{opened_run}
-use Rattle.wf_laws.proofs.Growth.{fresh, length-fresh, fresh_long, fresh_differ, fresh_good, IsDone, Settles, settle, settle_list, joined, ends_bound}
+use Rattle.wf_laws.proofs.Growth.{fresh, length-fresh, fresh_long, fresh_differ, fresh_good, IsDone, Settles, settle, settle_list, ends_bound, extended}
 
 -- the name of the root of the expansions that are made here
 abbrev pub first_name : List ℕ
@@ -45,7 +45,7 @@ module _ (g : Grammar) (u : View) (Chosen : ℕ → ℕ → Type 0) where
       let i : Instance = record { name = first_name; module_no = m } in
       let start : IsRun g m (Start first_name ∷ []) = ((refl, first_is_name), tt) in
       let r = settle g u Chosen h.0 m (Start first_name ∷ []) i start (inl refl, refl, h.1) in
-      let run : IsRun g m (Start first_name ∷ r.0) = joined g u Chosen m r.0 (Start first_name ∷ []) [] start r.1.extend in
+      let run : IsRun g m (Start first_name ∷ r.0) = extended g m (Start first_name ∷ []) r.0 [] start r.1.extend in
       let each : (j : Instance) → IsIn j (seen_in g u m (Start first_name ∷ r.0)) → IsDone g u Chosen (Start first_name ∷ r.0) j =
       λ j q. r.1.settled j (⊎_elim (λ e. inl (inl e)) (λ e. inr e) ((run_state g u m (Start first_name ∷ r.0) run).seen_made j q)) in (
         Start first_name ∷ r.0,
@@ -95,7 +95,7 @@ module _ (g : Grammar) (u : View) (Chosen : ℕ → ℕ → Type 0) where
 
       made_run : ((more : List Event) × Settles g u Chosen (head_of g p) (Start first_name ∷ Expand first_name p new ∷ []) (named new (body_of g p)) more) → (e : List Event) × IsExpansion g u (head_of g p) e × IsByOther g u (head_of g p) Chosen p e
       made_run r =
-          let run : IsRun g (head_of g p) (opened_run first_name p new r.0) = joined g u Chosen (head_of g p) r.0 (Start first_name ∷ Expand first_name p new ∷ []) [] begun r.1.extend in
+          let run : IsRun g (head_of g p) (opened_run first_name p new r.0) = extended g (head_of g p) (Start first_name ∷ Expand first_name p new ∷ []) r.0 [] begun r.1.extend in
           let told : expanded_by (opened_run first_name p new r.0) first_name ≡ Some (record { production = p; names = new }) = refl in
           let below : (j : Instance) → IsIn j (seen_in g u (head_of g p) (opened_run first_name p new r.0)) → (j ≡ record { name = first_name; module_no = head_of g p }) ⊎ IsDone g u Chosen (opened_run first_name p new r.0) j =
           λ j q. ⊎_elim (λ e. inl e) (λ e. inr (r.1.settled j (in_append_cases j (named new (body_of g p)) (made g (head_of g p) r.0) e))) ((run_state g u (head_of g p) (opened_run first_name p new r.0) run).seen_made j q) in (

@@ -1,5 +1,5 @@
 -- Runs with the same events in another order have the same instances, links and items.
-use Rattle.std.proofs.Common.{◌≡◌, ◌≢◌, ℕ, ◌↔◌, ◌&&◌, Bool, true, false, cond, IsTrue, List, [], ◌∷◌, ◌++◌, get_or, bytes_eq, Option, Some, None, refl, sym, ap, ◌∙◌, subst, inl, inr, append_assoc}
+use Rattle.std.proofs.Common.{◌≡◌, ◌≢◌, ℕ, ◌↔◌, ◌&&◌, cond, IsTrue, List, [], ◌∷◌, ◌++◌, get_or, bytes_eq, Option, Some, None, refl, sym, ap, ◌∙◌, subst, inl, inr, append_assoc}
 use Rattle.wf_model.specs.Lists.{IsIn}
 use Rattle.wf_model.specs.Grammar.{Grammar, Assignment}
 use Rattle.wf_model.specs.View.{View, expands}
@@ -9,24 +9,12 @@ use Rattle.wf_model.specs.Run.{Instance, Expanded, made_by, made, expanded_by, E
 use Rattle.wf_model.specs.Links.{Port, Link, pair_links, opened_links, links_of, links_with, IsLinked, Path}
 use Rattle.wf_model.specs.Reach.{Step, IsAlong}
 use Rattle.wf_model.specs.Items.{Item, items_by, items, IsMadeOpen}
-use Rattle.wf_model.proofs.Lists.{in_flat_map, in_flat_map_from, some_from, some_gives, same_bytes, bytes_same}
+use Rattle.wf_model.proofs.Lists.{in_flat_map, in_flat_map_from, some_from, some_gives, bytes_same}
 use Rattle.wf_model.proofs.Runs.{expansion_kept, expansion_later}
 use Rattle.wf_model.proofs.Walks.{walk_through, walk_one}
+use Rattle.wf_model.proofs.Expanding.{expanded_from}
 use Rattle.wf_laws.specs.Order.{OrderLaw}
 use Rattle.wf_laws.proofs.Address.{seen_law}
-
--- what tells how an instance is expanded is an event
-pub expanded_from : (a : List Event) (n : List ℕ) (x : Expanded) → expanded_by a n ≡ Some x → IsIn (Expand n x.production x.names) a
-expanded_from [] n x h = absurd (cc)
-expanded_from (Start r ∷ a) n x h = inr (expanded_from a n x h)
-expanded_from (Expand i p names ∷ a) n x h = go (λ q. expanded_from a n x q) (bytes_eq i n) refl h
-  where
-    go : (expanded_by a n ≡ Some x → IsIn (Expand n x.production x.names) a) → (t : Bool) → bytes_eq i n ≡ t → cond t (Some (record { production = p; names = names })) (expanded_by a n) ≡ Some x → IsIn (Expand n x.production x.names) (Expand i p names ∷ a)
-    go ih false e q = inr (ih q)
-    go ih true e q =
-        let s : ◌≡◌ {A = Expanded} (record { production = p; names = names }) x = cc in
-        let same = same_bytes i n e in
-        inl (λ t. Expand (sym same t) (sym s t).production (sym s t).names)
 
 -- an expand event of a run tells how its instance is expanded
 expanded_to : (g : Grammar) (m : ℕ) (b a : List Event) (n : List ℕ) (p : ℕ) (names : List (List ℕ)) → AllExtend g m b a → IsIn (Expand n p names) a → expanded_by (b ++ a) n ≡ Some (record { production = p; names = names })

@@ -9,13 +9,10 @@ use Rattle.wf_model.specs.declared.event.Event.TheVariants.{Start, Expand}
 use Rattle.wf_model.specs.Run.{Instance, Expanded, IsName, named, made_by, made, names_of, expanded_by, Extends, AllExtend, IsRun, opens, newly_seen, see_all, seen_in, below, family, sub_run}
 use Rattle.wf_model.specs.Links.{opened_links, links_of, pair_links}
 use Rattle.wf_model.specs.SubRun.{is_among, SubRunLaw}
-use Rattle.wf_model.proofs.Lists.{in_append_left, in_append_cases, among_gives, among_from, filter_none, in_filter_from}
+use Rattle.wf_model.proofs.Lists.{in_append_left, in_append_cases, among_gives, among_from, among_none, filter_none, in_filter_from}
 use Rattle.wf_model.proofs.Runs.{named_names, expansion_other, expansion_start, name_in, made_new, made_cases, see_all-append, IsState, state_more, run_state, AllExtend-append, made-append}
 use Rattle.wf_laws.proofs.Track.{Tracks, track}
-
-pub flat_map_same : {A B : Type 0} (f h : A → List B) (xs : List A) → ((x : A) → IsIn x xs → f x ≡ h x) → flat_map f xs ≡ flat_map h xs
-flat_map_same f h [] e = refl
-flat_map_same f h (x ∷ xs) e = ap (λ l. l ++ flat_map f xs) (e x (inl refl)) ∙ ap (λ l. h x ++ l) (flat_map_same f h xs (λ y i. e y (inr i)))
+use Rattle.wf_model.proofs.Mapping.{flat_map_same}
 
 -- of the instances that get these names, the one that has its own name
 pub the_one : (i : Instance) (ns : List (List ℕ)) (ms : List ℕ) → AllDiffer ns → IsIn i (named ns ms) → filter (is_among (i.name ∷ [])) (named ns ms) ≡ i ∷ []
@@ -51,11 +48,7 @@ NoneExpands n (Start r ∷ events) = NoneExpands n events
 NoneExpands n (Expand i p new ∷ events) = (i ≡ n → ⊥) × NoneExpands n events
 
 not_alone : (i n : List ℕ) → (i ≡ n → ⊥) → some (bytes_eq i) (n ∷ []) ≡ false
-not_alone i n h = go (some (bytes_eq i) (n ∷ [])) refl
-  where
-    go : (o : Bool) → some (bytes_eq i) (n ∷ []) ≡ o → some (bytes_eq i) (n ∷ []) ≡ false
-    go false e = e
-    go true e = absurd (h (⊎_elim (λ a. a) (λ a. absurd a) (among_gives i (n ∷ []) e)))
+not_alone i n h = among_none i (n ∷ []) (λ q. ⊎_elim h (λ a. absurd a) q)
 
 pub skipped : (n : List ℕ) (a r : List Event) → NoneExpands n a → (below (n ∷ []) (a ++ r) ≡ below (n ∷ []) r) × (family (n ∷ []) (a ++ r) ≡ family (n ∷ []) r)
 skipped n [] r h = (refl, refl)

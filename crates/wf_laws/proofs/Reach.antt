@@ -1,4 +1,5 @@
 -- A path between ports far apart splits along their addresses.
+use Rattle.wf_laws.specs.Graft.{place_module}
 use Rattle.std.proofs.Common.{◌≡◌, ℕ, ◌<◌, ◌⊎◌, ◌≢◌, ◌↔◌, Bool, true, false, cond, List, [], ◌∷◌, ◌++◌, length, get_or, bytes_eq, Option, Some, None, refl, sym, ap, ◌∙◌, subst, inl, inr, ⊎_elim, arith, true≢false}
 use Rattle.wf_model.specs.Lists.{IsIn, Walk}
 use Rattle.wf_model.specs.Grammar.{Grammar, Assignment, inputs_of, outputs_of, head_of, body_of}
@@ -17,9 +18,10 @@ use Rattle.wf_model.proofs.Lists.{in_append_cases, at_below, is_at, at_in, bytes
 use Rattle.wf_model.proofs.Walks.{IsLevel, Whole, walk-append, shortened, lengthened, left_by, entered_by, stays}
 use Rattle.wf_laws.proofs.Parts.{child, opened_run}
 use Rattle.wf_model.proofs.Level.{wiring_from, wiring_to, pair_links_from}
-use Rattle.wf_laws.proofs.Root.{kid_module, kid_run, Wired, put, Inner, Own, In, Out, Point, root_apart, child_own, along_own, kid_law, level, to_level, from_level}
-use Rattle.wf_laws.proofs.Safe.{walk_same, KidsJoin, short_to_body, body_to_short, shut_links, bare_links, Agrees, agrees, AnyProduction, passes_all, filled_expansion}
+use Rattle.wf_laws.proofs.Root.{kid_run, Wired, put, Inner, Own, In, Out, Point, root_apart, child_own, along_own, kid_law, level, to_level, from_level}
+use Rattle.wf_laws.proofs.Safe.{walk_same, KidsJoin, short_to_body, body_to_short, shut_links, bare_links, Agrees, agrees, passes_all, filled_expansion}
 use Rattle.wf_laws.proofs.Bodies.{no_return}
+use Rattle.wf_laws.proofs.Growth.{AnyProduction}
 
 -- a root whose module the view does not expand is left by no step of an address
 shut_no_step : (g : Grammar) (u : View) (m : ℕ) (r : List ℕ) (rest : List Event) (y : Expanded) → expands u m ≡ false → IsRun g m (Start r ∷ rest) → expanded_by (Start r ∷ rest) r ≡ Some y → expands u (head_of g y.production) ≡ true → ⊥
@@ -124,16 +126,16 @@ module _ (g : Grammar) (u : View) (leaf d : Assignment) (wf : IsWellFormed g) (i
   in_body_of : (k : ℕ) → k < length names → k < length (body_of g p)
   in_body_of k hk = omega (arith, run.1.0.one_each)
 
-  kid_expansion : (k : ℕ) → k < length names → IsFilled g u leaf d (kid_module g p k) (kid_run names (opened_run r p names rest) k)
+  kid_expansion : (k : ℕ) → k < length names → IsFilled g u leaf d (place_module g p k) (kid_run names (opened_run r p names rest) k)
   kid_expansion k hk =
       let law = kid_law g u leaf r p names rest wf run ex k hk in
       record { run = law.run; started = λ e. (cc); filled = ⊎_elim (λ a. inl (law.finished a)) (λ a. inr a) x.filled }
 
-  kid_module_seen : (k : ℕ) → k < length names → IsSeenModule g u (kid_module g p k)
-  kid_module_seen k hk = in_body p run.1.0.in_range seen ex (at_in _ k (body_of g p) (is_at k (body_of g p) 0 (in_body_of k hk)))
+  place_module_seen : (k : ℕ) → k < length names → IsSeenModule g u (place_module g p k)
+  place_module_seen k hk = in_body p run.1.0.in_range seen ex (at_in _ k (body_of g p) (is_at k (body_of g p) 0 (in_body_of k hk)))
 
   kids : KidsJoin g u leaf d r p names rest wf run ex
-  kids = λ k hk i o hi ho. fill_agrees g u leaf d wf ind (kid_module g p k) (kid_module_seen k hk) (kid_run names (opened_run r p names rest) k) (kid_expansion k hk) i o hi ho
+  kids = λ k hk i o hi ho. fill_agrees g u leaf d wf ind (place_module g p k) (place_module_seen k hk) (kid_run names (opened_run r p names rest) k) (kid_expansion k hk) i o hi ho
 
   -- what no link within a child does
   into_child : (k j q : ℕ) (z : Port (List ℕ)) → k < length names → Inner g u leaf p names (opened_run r p names rest) q z (input (child names k) j) → ⊥
@@ -141,14 +143,14 @@ module _ (g : Grammar) (u : View) (leaf d : Assignment) (wf : IsWellFormed g) (i
       let o = lev.to_own q z (input (child names k) j) c in
       let e : q ≡ k = lev.apart q k (input (child names k) j) o (hk, child_own g u leaf r p names rest wf run ex k) in
       let c' : Inner g u leaf p names (opened_run r p names rest) k z (input (child names k) j) = subst (λ n. Inner g u leaf p names (opened_run r p names rest) n z (input (child names k) j)) e c in
-      (quiet g u leaf d wf (kid_module g p k) (kid_run names (opened_run r p names rest) k) (kid_expansion k hk)).no_in z j c'.1
+      (quiet g u leaf d wf (place_module g p k) (kid_run names (opened_run r p names rest) k) (kid_expansion k hk)).no_in z j c'.1
 
   out_of_child : (k j q : ℕ) (z : Port (List ℕ)) → k < length names → Inner g u leaf p names (opened_run r p names rest) q (output (child names k) j) z → ⊥
   out_of_child k j q z hk c =
       let o = lev.from_own q (output (child names k) j) z c in
       let e : q ≡ k = lev.apart q k (output (child names k) j) o (hk, child_own g u leaf r p names rest wf run ex k) in
       let c' : Inner g u leaf p names (opened_run r p names rest) k (output (child names k) j) z = subst (λ n. Inner g u leaf p names (opened_run r p names rest) n (output (child names k) j) z) e c in
-      (quiet g u leaf d wf (kid_module g p k) (kid_run names (opened_run r p names rest) k) (kid_expansion k hk)).no_out z j c'.1
+      (quiet g u leaf d wf (place_module g p k) (kid_run names (opened_run r p names rest) k) (kid_expansion k hk)).no_out z j c'.1
 
   from_root : (q : ℕ) (s : Side) (i : ℕ) (z : Port (List ℕ)) → Inner g u leaf p names (opened_run r p names rest) q (record { owner = r; side = s; number = i }) z → ⊥
   from_root q s i z c = let o = lev.from_own q (record { owner = r; side = s; number = i }) z c in root_apart g u leaf r p names rest wf run ex q o.0 o.1
@@ -167,7 +169,7 @@ module _ (g : Grammar) (u : View) (leaf d : Assignment) (wf : IsWellFormed g) (i
   )
 
   -- walks of the k-th child's run are paths of it
-  within_kid : (k : ℕ) → k < length names → {y z : Port (List ℕ)} → Walk (Inner g u leaf p names (opened_run r p names rest) k) y z ↔ Path (links_with g u leaf (kid_module g p k) (kid_run names (opened_run r p names rest) k)) y z
+  within_kid : (k : ℕ) → k < length names → {y z : Port (List ℕ)} → Walk (Inner g u leaf p names (opened_run r p names rest) k) y z ↔ Path (links_with g u leaf (place_module g p k) (kid_run names (opened_run r p names rest) k)) y z
   within_kid k hk = ((λ w. walk_same (λ a b q. q.1) w), (λ w. walk_same (λ a b q. (hk, q)) w))
 
   part_of_whole : (k : ℕ) {y z : Port (List ℕ)} → Walk (Inner g u leaf p names (opened_run r p names rest) k) y z → Walk (Whole (Wired g p) (put r names) (Inner g u leaf p names (opened_run r p names rest))) y z
@@ -175,10 +177,10 @@ module _ (g : Grammar) (u : View) (leaf d : Assignment) (wf : IsWellFormed g) (i
 
   -- down: from an input of the root to a port of a child's family
   down : (k : ℕ) → k < length names → (i : ℕ) (y : Port (List ℕ)) → Own names (opened_run r p names rest) k y →
-      Path (links_with g u leaf (head_of g p) (opened_run r p names rest)) (input r i) y ↔ ((j : ℕ) × Into g d (step_to p k) i j × Path (links_with g u leaf (kid_module g p k) (kid_run names (opened_run r p names rest) k)) (input (child names k) j) y)
+      Path (links_with g u leaf (head_of g p) (opened_run r p names rest)) (input r i) y ↔ ((j : ℕ) × Into g d (step_to p k) i j × Path (links_with g u leaf (place_module g p k) (kid_run names (opened_run r p names rest) k)) (input (child names k) j) y)
   down k hk i y o = (there, back)
     where
-      there : Path (links_with g u leaf (head_of g p) (opened_run r p names rest)) (input r i) y → (j : ℕ) × Into g d (step_to p k) i j × Path (links_with g u leaf (kid_module g p k) (kid_run names (opened_run r p names rest) k)) (input (child names k) j) y
+      there : Path (links_with g u leaf (head_of g p) (opened_run r p names rest)) (input r i) y → (j : ℕ) × Into g d (step_to p k) i j × Path (links_with g u leaf (place_module g p k) (kid_run names (opened_run r p names rest) k)) (input (child names k) j) y
       there w =
           ⊎_elim
           (λ a. absurd (root_apart g u leaf r p names rest wf run ex k a.0.0 a.0.1))
@@ -189,17 +191,17 @@ module _ (g : Grammar) (u : View) (leaf d : Assignment) (wf : IsWellFormed g) (i
           (c.0, (c.3, (across_level (input None i) (input (Some k) c.0) tt (in_body_of k hk) (λ q z l. from_root q Input i z l) (λ q z l. into_child k c.0 q z hk l)).0 w1), (within_kid k hk).0 w2))
           (entered_by (Wired g p) (put r names) (Inner g u leaf p names (opened_run r p names rest)) (Point g p) (Own names (opened_run r p names rest)) (In g p) (Out g p) lev k (walk_same (to_level g u leaf r p names rest wf run ex) w) o)
 
-      back : ((j : ℕ) × Into g d (step_to p k) i j × Path (links_with g u leaf (kid_module g p k) (kid_run names (opened_run r p names rest) k)) (input (child names k) j) y) → Path (links_with g u leaf (head_of g p) (opened_run r p names rest)) (input r i) y
+      back : ((j : ℕ) × Into g d (step_to p k) i j × Path (links_with g u leaf (place_module g p k) (kid_run names (opened_run r p names rest) k)) (input (child names k) j) y) → Path (links_with g u leaf (head_of g p) (opened_run r p names rest)) (input r i) y
       back a =
           let w1 = (across_level (input None i) (input (Some k) a.0) tt (in_body_of k hk) (λ q z l. from_root q Input i z l) (λ q z l. into_child k a.0 q z hk l)).1 a.1.1 in
           walk_same (from_level g u leaf r p names rest wf run ex) (walk-append w1 (part_of_whole k ((within_kid k hk).1 a.2)))
 
   -- up: from a port of a child's family to an output of the root
   up : (k : ℕ) → k < length names → (y : Port (List ℕ)) (i : ℕ) → Own names (opened_run r p names rest) k y →
-      Path (links_with g u leaf (head_of g p) (opened_run r p names rest)) y (output r i) ↔ ((j : ℕ) × OutOf g d (step_to p k) j i × Path (links_with g u leaf (kid_module g p k) (kid_run names (opened_run r p names rest) k)) y (output (child names k) j))
+      Path (links_with g u leaf (head_of g p) (opened_run r p names rest)) y (output r i) ↔ ((j : ℕ) × OutOf g d (step_to p k) j i × Path (links_with g u leaf (place_module g p k) (kid_run names (opened_run r p names rest) k)) y (output (child names k) j))
   up k hk y i o = (there, back)
     where
-      there : Path (links_with g u leaf (head_of g p) (opened_run r p names rest)) y (output r i) → (j : ℕ) × OutOf g d (step_to p k) j i × Path (links_with g u leaf (kid_module g p k) (kid_run names (opened_run r p names rest) k)) y (output (child names k) j)
+      there : Path (links_with g u leaf (head_of g p) (opened_run r p names rest)) y (output r i) → (j : ℕ) × OutOf g d (step_to p k) j i × Path (links_with g u leaf (place_module g p k) (kid_run names (opened_run r p names rest) k)) y (output (child names k) j)
       there w =
           ⊎_elim
           (λ a. let q = stays (Wired g p) (put r names) (Inner g u leaf p names (opened_run r p names rest)) (Point g p) (Own names (opened_run r p names rest)) (In g p) (Out g p) lev k a o in
@@ -211,7 +213,7 @@ module _ (g : Grammar) (u : View) (leaf d : Assignment) (wf : IsWellFormed g) (i
           (c.0, (c.3, (across_level (output (Some k) c.0) (output None i) (in_body_of k hk) tt (λ q z l. out_of_child k c.0 q z hk l) (λ q z l. to_root q Output i z l)).0 w2), (within_kid k hk).0 w1))
           (left_by (Wired g p) (put r names) (Inner g u leaf p names (opened_run r p names rest)) (Point g p) (Own names (opened_run r p names rest)) (In g p) (Out g p) lev k (walk_same (to_level g u leaf r p names rest wf run ex) w) o)
 
-      back : ((j : ℕ) × OutOf g d (step_to p k) j i × Path (links_with g u leaf (kid_module g p k) (kid_run names (opened_run r p names rest) k)) y (output (child names k) j)) → Path (links_with g u leaf (head_of g p) (opened_run r p names rest)) y (output r i)
+      back : ((j : ℕ) × OutOf g d (step_to p k) j i × Path (links_with g u leaf (place_module g p k) (kid_run names (opened_run r p names rest) k)) y (output (child names k) j)) → Path (links_with g u leaf (head_of g p) (opened_run r p names rest)) y (output r i)
       back a =
           let w2 = (across_level (output (Some k) a.0) (output None i) (in_body_of k hk) tt (λ q z l. out_of_child k a.0 q z hk l) (λ q z l. to_root q Output i z l)).1 a.1.1 in
           walk_same (from_level g u leaf r p names rest wf run ex) (walk-append (part_of_whole k ((within_kid k hk).1 a.2)) w2)
@@ -219,8 +221,8 @@ module _ (g : Grammar) (u : View) (leaf d : Assignment) (wf : IsWellFormed g) (i
   -- from a family on: out of it, and either back into the same one or into another
   out_and_in : (k l : ℕ) → k < length names → l < length names → (y z : Port (List ℕ)) → Own names (opened_run r p names rest) k y → Own names (opened_run r p names rest) l z →
       Path (links_with g u leaf (head_of g p) (opened_run r p names rest)) y z →
-      ((k ≡ l) × Path (links_with g u leaf (kid_module g p k) (kid_run names (opened_run r p names rest) k)) y z) ⊎
-      ((k ≢ l) × ((j : ℕ) × (i : ℕ) × (j < outputs_of g (kid_module g p k)) × (i < inputs_of g (kid_module g p l)) × Path (links_with g u leaf (kid_module g p k) (kid_run names (opened_run r p names rest) k)) y (output (child names k) j) × Between g d (step_to p k) l j i × Path (links_with g u leaf (kid_module g p l) (kid_run names (opened_run r p names rest) l)) (input (child names l) i) z))
+      ((k ≡ l) × Path (links_with g u leaf (place_module g p k) (kid_run names (opened_run r p names rest) k)) y z) ⊎
+      ((k ≢ l) × ((j : ℕ) × (i : ℕ) × (j < outputs_of g (place_module g p k)) × (i < inputs_of g (place_module g p l)) × Path (links_with g u leaf (place_module g p k) (kid_run names (opened_run r p names rest) k)) y (output (child names k) j) × Between g d (step_to p k) l j i × Path (links_with g u leaf (place_module g p l) (kid_run names (opened_run r p names rest) l)) (input (child names l) i) z))
   out_and_in k l hk hl y z oy oz w =
       ⊎_elim
       (λ a. let q = stays (Wired g p) (put r names) (Inner g u leaf p names (opened_run r p names rest)) (Point g p) (Own names (opened_run r p names rest)) (In g p) (Out g p) lev k a oy in
@@ -246,18 +248,15 @@ module _ (g : Grammar) (u : View) (leaf d : Assignment) (wf : IsWellFormed g) (i
       (left_by (Wired g p) (put r names) (Inner g u leaf p names (opened_run r p names rest)) (Point g p) (Own names (opened_run r p names rest)) (In g p) (Out g p) lev k (walk_same (to_level g u leaf r p names rest wf run ex) w) oy)
 
   -- and back
-  kid_path : (k : ℕ) → k < length names → (y z : Port (List ℕ)) → Path (links_with g u leaf (kid_module g p k) (kid_run names (opened_run r p names rest) k)) y z → Path (links_with g u leaf (head_of g p) (opened_run r p names rest)) y z
+  kid_path : (k : ℕ) → k < length names → (y z : Port (List ℕ)) → Path (links_with g u leaf (place_module g p k) (kid_run names (opened_run r p names rest) k)) y z → Path (links_with g u leaf (head_of g p) (opened_run r p names rest)) y z
   kid_path k hk y z w = walk_same (from_level g u leaf r p names rest wf run ex) (part_of_whole k ((within_kid k hk).1 w))
 
-  cross_path : (k l : ℕ) → k < length names → l < length names → (y z : Port (List ℕ)) (j i : ℕ) → Path (links_with g u leaf (kid_module g p k) (kid_run names (opened_run r p names rest) k)) y (output (child names k) j) → Between g d (step_to p k) l j i → Path (links_with g u leaf (kid_module g p l) (kid_run names (opened_run r p names rest) l)) (input (child names l) i) z → Path (links_with g u leaf (head_of g p) (opened_run r p names rest)) y z
+  cross_path : (k l : ℕ) → k < length names → l < length names → (y z : Port (List ℕ)) (j i : ℕ) → Path (links_with g u leaf (place_module g p k) (kid_run names (opened_run r p names rest) k)) y (output (child names k) j) → Between g d (step_to p k) l j i → Path (links_with g u leaf (place_module g p l) (kid_run names (opened_run r p names rest) l)) (input (child names l) i) z → Path (links_with g u leaf (head_of g p) (opened_run r p names rest)) y z
   cross_path k l hk hl y z j i a m b =
       walk_same (from_level g u leaf r p names rest wf run ex)
       (walk-append (part_of_whole k ((within_kid k hk).1 a))
       (walk-append ((across_level (output (Some k) j) (input (Some l) i) (in_body_of k hk) (in_body_of l hl) (λ q n t. out_of_child k j q n hk t) (λ q n t. into_child l i q n hl t)).1 m)
       (part_of_whole l ((within_kid l hl).1 b))))
-
-  root_expansion : expanded_by (opened_run r p names rest) r ≡ Some (record { production = p; names = names })
-  root_expansion = ap (λ b. cond {A = Option Expanded} b (Some (record { production = p; names = names })) (expanded_by rest r)) (bytes_same r r refl)
 
 -- the first step of an address is by the production that opens the root
 pub record IsFirst (g : Grammar) (u : View) (r : List ℕ) (p : ℕ) (names : List (List ℕ)) (rest : List Event) (s : Step) (a : List Step) (x : List ℕ) : Type 0 where
@@ -306,8 +305,8 @@ module _ (g : Grammar) (u : View) (leaf d : Assignment) (wf : IsWellFormed g) (i
           subst (λ s. o < outputs_of g (module_along g (head_of g p) (s ∷ b)) → Path (links_with g u leaf (head_of g p) (opened_run r p names rest)) (input r i) (output y o) ↔ Down g d (head_of g p) (s ∷ b) i o) f.same
           (λ ho.
           let one = down g u leaf d wf ind r p names rest seen ex x k f.within i (output y o) (f.within, own.1) in
-          let rec : (j : ℕ) → j < inputs_of g (kid_module g p k) → Path (links_with g u leaf (kid_module g p k) (kid_run names (opened_run r p names rest) k)) (input (child names k) j) (output y o) ↔ Down g d (kid_module g p k) b j o =
-          λ j hj. ih (kid_module g p k) (kid_run names (opened_run r p names rest) k) (kid_expansion g u leaf d wf ind r p names rest seen ex x k f.within) (kid_module_seen g u leaf d wf ind r p names rest seen ex x k f.within) y own.0 j o hj ho in
+          let rec : (j : ℕ) → j < inputs_of g (place_module g p k) → Path (links_with g u leaf (place_module g p k) (kid_run names (opened_run r p names rest) k)) (input (child names k) j) (output y o) ↔ Down g d (place_module g p k) b j o =
+          λ j hj. ih (place_module g p k) (kid_run names (opened_run r p names rest) k) (kid_expansion g u leaf d wf ind r p names rest seen ex x k f.within) (place_module_seen g u leaf d wf ind r p names rest seen ex x k f.within) y own.0 j o hj ho in
           ((λ w. let q = one.0 w in (q.0, q.1, (rec q.0 q.1.0).0 q.2)), (λ q. one.1 (q.0, q.1, (rec q.0 q.1.0).1 q.2))))
 
   up_law : (a : List Step) (m : ℕ) (e : List Event) → IsFilled g u leaf d m e → UpClaim a m e
@@ -327,8 +326,8 @@ module _ (g : Grammar) (u : View) (leaf d : Assignment) (wf : IsWellFormed g) (i
           subst (λ s. i < inputs_of g (module_along g (head_of g p) (s ∷ a)) → o < outputs_of g (head_of g p) → Path (links_with g u leaf (head_of g p) (opened_run r p names rest)) (input y i) (output r o) ↔ Up g d (head_of g p) (s ∷ a) i o) f.same
           (λ hi ho.
           let one = up g u leaf d wf ind r p names rest seen ex x k f.within (input y i) o (f.within, own.1) in
-          let rec : (j : ℕ) → j < outputs_of g (kid_module g p k) → Path (links_with g u leaf (kid_module g p k) (kid_run names (opened_run r p names rest) k)) (input y i) (output (child names k) j) ↔ Up g d (kid_module g p k) a i j =
-          λ j hj. ih (kid_module g p k) (kid_run names (opened_run r p names rest) k) (kid_expansion g u leaf d wf ind r p names rest seen ex x k f.within) (kid_module_seen g u leaf d wf ind r p names rest seen ex x k f.within) y own.0 i j hi hj in
+          let rec : (j : ℕ) → j < outputs_of g (place_module g p k) → Path (links_with g u leaf (place_module g p k) (kid_run names (opened_run r p names rest) k)) (input y i) (output (child names k) j) ↔ Up g d (place_module g p k) a i j =
+          λ j hj. ih (place_module g p k) (kid_run names (opened_run r p names rest) k) (kid_expansion g u leaf d wf ind r p names rest seen ex x k f.within) (place_module_seen g u leaf d wf ind r p names rest seen ex x k f.within) y own.0 i j hi hj in
           ((λ w. let q = one.0 w in (q.0, q.1, (rec q.0 q.1.0).0 q.2)), (λ q. one.1 (q.0, q.1, (rec q.0 q.1.0).1 q.2))))
 
   crossing : (a b : List Step) (m : ℕ) (e : List Event) → IsFilled g u leaf d m e → Claim a b m e
@@ -352,18 +351,18 @@ module _ (g : Grammar) (u : View) (leaf d : Assignment) (wf : IsWellFormed g) (i
           let owny = along_own g u leaf r p names rest wf x.run ex k fs.within a (child names k) y (child_own g u leaf r p names rest wf x.run ex k) fs.on in
           let ownz = along_own g u leaf r p names rest wf x.run ex l ft.within b (child names l) z (child_own g u leaf r p names rest wf x.run ex l) ft.on in
           subst (λ n. i < inputs_of g (module_along g (head_of g p) (n ∷ a)) → o < outputs_of g (module_along g (head_of g p) (t ∷ b)) → Path (links_with g u leaf (head_of g p) (opened_run r p names rest)) (input y i) (output z o) ↔ Reaches g d (head_of g p) (n ∷ a) (t ∷ b) i o) fs.same
-          (subst (λ n. i < inputs_of g (module_along g (kid_module g p k) a) → o < outputs_of g (module_along g (head_of g p) (n ∷ b)) → Path (links_with g u leaf (head_of g p) (opened_run r p names rest)) (input y i) (output z o) ↔ Reaches g d (head_of g p) (step_to p k ∷ a) (n ∷ b) i o) ft.same
+          (subst (λ n. i < inputs_of g (module_along g (place_module g p k) a) → o < outputs_of g (module_along g (head_of g p) (n ∷ b)) → Path (links_with g u leaf (head_of g p) (opened_run r p names rest)) (input y i) (output z o) ↔ Reaches g d (head_of g p) (step_to p k ∷ a) (n ∷ b) i o) ft.same
           (λ hi ho.
           let kx = kid_expansion g u leaf d wf ind r p names rest seen ex x in
-          let ks = kid_module_seen g u leaf d wf ind r p names rest seen ex x in
-          let upk : (j : ℕ) → j < outputs_of g (kid_module g p k) → Path (links_with g u leaf (kid_module g p k) (kid_run names (opened_run r p names rest) k)) (input y i) (output (child names k) j) ↔ Up g d (kid_module g p k) a i j =
-          λ j hj. up_law a (kid_module g p k) (kid_run names (opened_run r p names rest) k) (kx k fs.within) (ks k fs.within) y owny.0 i j hi hj in
-          let downl : (j : ℕ) → j < inputs_of g (kid_module g p l) → Path (links_with g u leaf (kid_module g p l) (kid_run names (opened_run r p names rest) l)) (input (child names l) j) (output z o) ↔ Down g d (kid_module g p l) b j o =
-          λ j hj. down_law b (kid_module g p l) (kid_run names (opened_run r p names rest) l) (kx l ft.within) (ks l ft.within) z ownz.0 j o hj ho in
-          let same : k ≡ l → Path (links_with g u leaf (kid_module g p k) (kid_run names (opened_run r p names rest) k)) (input y i) (output z o) ↔ Reaches g d (kid_module g p k) a b i o =
-          λ q. ih (kid_module g p k) (kid_run names (opened_run r p names rest) k) (kx k fs.within) (ks k fs.within) y z owny.0
+          let ks = place_module_seen g u leaf d wf ind r p names rest seen ex x in
+          let upk : (j : ℕ) → j < outputs_of g (place_module g p k) → Path (links_with g u leaf (place_module g p k) (kid_run names (opened_run r p names rest) k)) (input y i) (output (child names k) j) ↔ Up g d (place_module g p k) a i j =
+          λ j hj. up_law a (place_module g p k) (kid_run names (opened_run r p names rest) k) (kx k fs.within) (ks k fs.within) y owny.0 i j hi hj in
+          let downl : (j : ℕ) → j < inputs_of g (place_module g p l) → Path (links_with g u leaf (place_module g p l) (kid_run names (opened_run r p names rest) l)) (input (child names l) j) (output z o) ↔ Down g d (place_module g p l) b j o =
+          λ j hj. down_law b (place_module g p l) (kid_run names (opened_run r p names rest) l) (kx l ft.within) (ks l ft.within) z ownz.0 j o hj ho in
+          let same : k ≡ l → Path (links_with g u leaf (place_module g p k) (kid_run names (opened_run r p names rest) k)) (input y i) (output z o) ↔ Reaches g d (place_module g p k) a b i o =
+          λ q. ih (place_module g p k) (kid_run names (opened_run r p names rest) k) (kx k fs.within) (ks k fs.within) y z owny.0
           (subst (λ n. IsAlong g u (kid_run names (opened_run r p names rest) n) (child names n) b z) (sym q) ownz.0) i o hi
-          (subst (λ n. o < outputs_of g (module_along g (kid_module g p n) b)) (sym q) ho) in (
+          (subst (λ n. o < outputs_of g (module_along g (place_module g p n) b)) (sym q) ho) in (
             (λ w. ⊎_elim
                 (λ c. inl (c.0, (same c.0).0 c.1))
                 (λ c. let v = c.1 in inr (c.0, (v.0, v.1, v.2, v.3, (upk v.0 v.2).0 v.4, v.5, (downl v.1 v.3).0 v.6)))

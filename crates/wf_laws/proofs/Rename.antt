@@ -1,7 +1,7 @@
 -- A run with other names of instances is a run, and is the same but for the names.
-use Rattle.std.proofs.Common.{◌≡◌, ℕ, zero, suc, ◌<◌, ◌↔◌, ◌&&◌, ◌||◌, Bool, true, false, cond, List, [], ◌∷◌, ◌++◌, map, length, flat_map, get_or, bytes_eq, Option, Some, None, refl, sym, ap, ◌∙◌, subst, inl, inr, arith}
-use Rattle.std.proofs.lemmas.List.{map-append, length-map}
-use Rattle.wf_model.specs.Lists.{IsIn, AllDiffer, some, numbers_from}
+use Rattle.std.proofs.Common.{◌≡◌, ℕ, ◌<◌, ◌↔◌, ◌&&◌, ◌||◌, Bool, true, false, cond, List, [], ◌∷◌, ◌++◌, map, length, flat_map, bytes_eq, Option, Some, None, refl, sym, ap, ◌∙◌, subst, inl, inr, arith}
+use Rattle.std.proofs.lemmas.List.{map-append, length-map, get_or-map}
+use Rattle.wf_model.specs.Lists.{IsIn, AllDiffer, numbers_from}
 use Rattle.wf_model.specs.Grammar.{Grammar, Assignment, inputs_of, outputs_of, body_of}
 use Rattle.wf_model.specs.WellFormed.{IsWellFormed}
 use Rattle.wf_model.specs.View.{View, expands}
@@ -12,32 +12,10 @@ use Rattle.wf_model.specs.Links.{Port, Link, input, output, wiring, pair_links, 
 use Rattle.wf_model.proofs.Lists.{in_map, in_map_from, same_bytes, bytes_same, at_below}
 use Rattle.wf_model.proofs.Level.{opening, wiring_from, wiring_to, IsSource, IsTarget}
 use Rattle.wf_laws.specs.Rename.{rename_event, rename_instance, IsRenaming, RenameLaw}
-
-map_same : {A B : Type 0} (h k : A → B) (xs : List A) → ((x : A) → IsIn x xs → h x ≡ k x) → map h xs ≡ map k xs
-map_same h k [] e = refl
-map_same h k (x ∷ xs) e = (λ t. e x (inl refl) t ∷ map_same h k xs (λ y i. e y (inr i)) t)
-
-map_twice : {A B C : Type 0} (h : A → B) (k : B → C) (xs : List A) → map k (map h xs) ≡ map (λ x. k (h x)) xs
-map_twice h k [] = refl
-map_twice h k (x ∷ xs) = ap (λ l. k (h x) ∷ l) (map_twice h k xs)
-
--- the parts of a list of parts, each moved
-map-flat_map : {A B C : Type 0} (h : A → List B) (k : B → C) (xs : List A) → map k (flat_map h xs) ≡ flat_map (λ x. map k (h x)) xs
-map-flat_map h k [] = refl
-map-flat_map h k (x ∷ xs) = map-append k (h x) (flat_map h xs) ∙ ap (λ l. map k (h x) ++ l) (map-flat_map h k xs)
-
-flat_map-map : {A B C : Type 0} (h : A → B) (k : B → List C) (xs : List A) → flat_map k (map h xs) ≡ flat_map (λ x. k (h x)) xs
-flat_map-map h k [] = refl
-flat_map-map h k (x ∷ xs) = ap (λ l. k (h x) ++ l) (flat_map-map h k xs)
-
-flat_map_same : {A B : Type 0} (h k : A → List B) (xs : List A) → ((x : A) → IsIn x xs → h x ≡ k x) → flat_map h xs ≡ flat_map k xs
-flat_map_same h k [] e = refl
-flat_map_same h k (x ∷ xs) e = ap (λ l. l ++ flat_map h xs) (e x (inl refl)) ∙ ap (λ l. k x ++ l) (flat_map_same h k xs (λ y i. e y (inr i)))
-
-get_mapped : {A B : Type 0} (h : A → B) (xs : List A) (k : ℕ) (d : A) (e : B) → k < length xs → get_or (map h xs) k e ≡ h (get_or xs k d)
-get_mapped h [] k d e l = absurd (omega arith)
-get_mapped h (x ∷ xs) zero d e l = refl
-get_mapped h (x ∷ xs) (suc k) d e l = let r : k < length xs = omega arith in get_mapped h xs k d e r
+use Rattle.std.specs.Cmp.Derive.{one_truth}
+use Rattle.std.proofs.lemmas.Simd.{map-map}
+use Rattle.std.proofs.lemmas.List.Folds.{flat_map-map}
+use Rattle.wf_model.proofs.Mapping.{map_same, flat_map_same, map-flat_map}
 
 -- the link of a pair, if the pair is there
 abbrev pair : List ℕ → ℕ → ℕ → Bool → List (Link (List ℕ))
@@ -50,20 +28,15 @@ module _ (f : List ℕ → List ℕ) (renaming : IsRenaming f) where
   abbrev ri : List Instance → List Instance
   ri is = map (rename_instance f) is
 
-  same_test : (s t : Bool) → (s ≡ true → t ≡ true) → (t ≡ true → s ≡ true) → s ≡ t
-  same_test true t a b = sym (a refl)
-  same_test false true a b = b refl
-  same_test false false a b = refl
-
   names_same : (a b : List ℕ) → bytes_eq (f a) (f b) ≡ bytes_eq a b
-  names_same a b = same_test (bytes_eq (f a) (f b)) (bytes_eq a b) (λ e. bytes_same a b (renaming.differ a b (same_bytes (f a) (f b) e))) (λ e. bytes_same (f a) (f b) (ap f (same_bytes a b e)))
+  names_same a b = one_truth (bytes_eq (f a) (f b)) (bytes_eq a b) (λ e. bytes_same a b (renaming.differ a b (same_bytes (f a) (f b) e))) (λ e. bytes_same (f a) (f b) (ap f (same_bytes a b e)))
 
   renamed_named : (ns : List (List ℕ)) (ms : List ℕ) → named (map f ns) ms ≡ ri (named ns ms)
   renamed_named [] ms = refl
   renamed_named (n ∷ ns) [] = refl
   renamed_named (n ∷ ns) (m ∷ ms) = ap (λ l. record { name = f n; module_no = m } ∷ l) (renamed_named ns ms)
 
-  renamed_names : (is : List Instance) → names_of (ri is) ≡ map f (names_of is)
+  pub renamed_names : (is : List Instance) → names_of (ri is) ≡ map f (names_of is)
   renamed_names [] = refl
   renamed_names (i ∷ is) = ap (λ l. f i.name ∷ l) (renamed_names is)
 
@@ -140,8 +113,8 @@ module _ (f : List ℕ → List ℕ) (renaming : IsRenaming f) where
     renamed_pairs : (leaf : Assignment) (k : ℕ) (n : List ℕ) → pair_links g leaf k (f n) ≡ map (move_link f) (pair_links g leaf k n)
     renamed_pairs leaf k n =
         flat_map_same _ (λ i. map (move_link f) (flat_map (λ o. pair n i o (leaf k i o)) (numbers_from 0 (outputs_of g k)))) (numbers_from 0 (inputs_of g k))
-        (λ i hi. flat_map_same _ (λ o. map (move_link f) (pair n i o (leaf k i o))) (numbers_from 0 (outputs_of g k)) (λ o ho. one i o (leaf k i o)) ∙ sym (map-flat_map (λ o. pair n i o (leaf k i o)) (move_link f) (numbers_from 0 (outputs_of g k)))) ∙
-        sym (map-flat_map (λ i. flat_map (λ o. pair n i o (leaf k i o)) (numbers_from 0 (outputs_of g k))) (move_link f) (numbers_from 0 (inputs_of g k)))
+        (λ i hi. flat_map_same _ (λ o. map (move_link f) (pair n i o (leaf k i o))) (numbers_from 0 (outputs_of g k)) (λ o ho. one i o (leaf k i o)) ∙ sym (map-flat_map (move_link f) (λ o. pair n i o (leaf k i o)) (numbers_from 0 (outputs_of g k)))) ∙
+        sym (map-flat_map (move_link f) (λ i. flat_map (λ o. pair n i o (leaf k i o)) (numbers_from 0 (outputs_of g k))) (numbers_from 0 (inputs_of g k)))
       where
         one : (i o : ℕ) (b : Bool) → pair (f n) i o b ≡ map (move_link f) (pair n i o b)
         one i o true = refl
@@ -151,12 +124,12 @@ module _ (f : List ℕ → List ℕ) (renaming : IsRenaming f) where
       -- the owners of a body's links are places that have names
       renamed_place : (n : List ℕ) (names : List (List ℕ)) (k : Option ℕ) → ((i : ℕ) → k ≡ Some i → i < length names) → instance_at (f n) (map f names) k ≡ f (instance_at n names k)
       renamed_place n names None h = refl
-      renamed_place n names (Some k) h = get_mapped f names k [] [] (h k refl)
+      renamed_place n names (Some k) h = get_or-map f names k [] [] (h k refl)
 
       renamed_wiring : (n : List ℕ) (x : Expanded) → expanded_by events n ≡ Some x → map (move_link (instance_at (f n) (map f x.names))) (wiring g x.production) ≡ map (move_link f) (map (move_link (instance_at n x.names)) (wiring g x.production))
       renamed_wiring n x e =
           map_same (move_link (instance_at (f n) (map f x.names))) (λ l. move_link f (move_link (instance_at n x.names) l)) (wiring g x.production) moved ∙
-          sym (map_twice (move_link (instance_at n x.names)) (move_link f) (wiring g x.production))
+          sym (map-map (move_link f) (move_link (instance_at n x.names)) (wiring g x.production))
         where
           below : (k : ℕ) (c q : ℕ) → Rattle.wf_model.specs.Lists.IsAt q c (body_of g x.production) → c ≡ k → k < length x.names
           below k c q a e' = let l = at_below q c (body_of g x.production) a in let o = (opening g m [] events n x run e).one_each in omega arith
@@ -190,9 +163,9 @@ module _ (f : List ℕ → List ℕ) (renaming : IsRenaming f) where
       renamed_links : (leaf : Assignment) → links_with g u leaf m (re events) ≡ map (move_link f) (links_with g u leaf m events)
       renamed_links leaf =
           ap (flat_map (links_of g u leaf (re events))) (renamed_seen events) ∙
-          (flat_map-map (rename_instance f) (links_of g u leaf (re events)) (seen_in g u m events) ∙
+          (flat_map-map (links_of g u leaf (re events)) (rename_instance f) (seen_in g u m events) ∙
           (flat_map_same (λ i. links_of g u leaf (re events) (rename_instance f i)) (λ i. map (move_link f) (links_of g u leaf events i)) (seen_in g u m events) (λ i h. renamed_links_of leaf i) ∙
-          sym (map-flat_map (links_of g u leaf events) (move_link f) (seen_in g u m events))))
+          sym (map-flat_map (move_link f) (links_of g u leaf events) (seen_in g u m events))))
 
       none_from : (o : Option Expanded) → rx o ≡ None → o ≡ None
       none_from None e = refl

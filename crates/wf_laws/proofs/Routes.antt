@@ -1,4 +1,5 @@
 -- Addresses are unique, and two routes that agree have a run.
+use Rattle.wf_laws.specs.Graft.{place_module}
 use Rattle.std.proofs.Common.{◌≡◌, ℕ, suc, ◌<◌, ◌⊎◌, Bool, true, false, cond, List, [], ◌∷◌, ◌++◌, length, get_or, bytes_eq, Option, Some, None, eqb, eq-eqb, refl, sym, ap, ◌∙◌, subst, inl, inr, ⊎_elim, arith, true≢false, append_assoc, append-nil}
 use Rattle.std.proofs.lemmas.List.{append_cancel_left}
 use Rattle.std.proofs.lemmas.Bool.{cases_eq}
@@ -16,8 +17,8 @@ use Rattle.wf_model.proofs.Lists.{in_append_left, in_append_right, some_from, sa
 use Rattle.wf_model.proofs.Runs.{named_at, expansion_kept, expansion_later, expansion_other, name_in, made_new, run_state}
 use Rattle.wf_laws.proofs.Parts.{child, opened_run}
 use Rattle.wf_model.proofs.Level.{opening, numbers_in}
-use Rattle.wf_laws.proofs.Root.{kid_module, kid_run, root_apart, child_own, along_own, kid_law, level}
-use Rattle.wf_laws.proofs.Growth.{fresh, length-fresh, fresh_long, fresh_differ, fresh_good, longest, below_longest}
+use Rattle.wf_laws.proofs.Root.{kid_run, root_apart, child_own, along_own, kid_law, level}
+use Rattle.wf_laws.proofs.Growth.{fresh, length-fresh, fresh_long, fresh_differ, fresh_good, longest, below_longest, extended}
 use Rattle.wf_laws.proofs.Reach.{first_step, step_to}
 
 -- the view that expands every module
@@ -90,7 +91,7 @@ module _ (g : Grammar) (u : View) (wf : IsWellFormed g) where
           let fo = along_own g u no_pairs r p names rest wf run' ex k f.within a (child names k) x (child_own g u no_pairs r p names rest wf run' ex k) f.on in
           let ho = along_own g u no_pairs r p names rest wf run' ex l h.within b (child names l) x (child_own g u no_pairs r p names rest wf run' ex l) h.on in
           let e : k ≡ l = (level g u no_pairs r p names rest wf run' ex).apart k l (input x 0) (f.within, fo.1) (h.within, ho.1) in
-          let rec : a ≡ b = ih (kid_module g p k) (kid_run names (opened_run r p names rest) k) (kid_law g u no_pairs r p names rest wf run' ex k f.within).run x fo.0
+          let rec : a ≡ b = ih (place_module g p k) (kid_run names (opened_run r p names rest) k) (kid_law g u no_pairs r p names rest wf run' ex k f.within).run x fo.0
           (subst (λ n. IsAlong g u (kid_run names (opened_run r p names rest) n) (child names n) b x) (sym e) ho.0) in
           let st : s ≡ t = sym f.same ∙ (ap (step_to p) e ∙ h.same) in
           ap (λ z. z ∷ a) st ∙ ap (λ z. t ∷ z) rec
@@ -159,10 +160,6 @@ Grows g m e n a = (more : List Event) × AllExtend g m e more × IsGrown e (e ++
 fits_shut : (e : List Event) (n : List ℕ) (a : List Step) → expanded_by e n ≡ None → Fits e n a
 fits_shut e n [] h = tt
 fits_shut e n (s ∷ a) h = inl h
-
-extended : (g : Grammar) (m : ℕ) (more more' b : List Event) → AllExtend g m b more → AllExtend g m (b ++ more) more' → AllExtend g m b (more ++ more')
-extended g m [] more' b x y = subst (λ l. AllExtend g m l more') (append-nil b) y
-extended g m (e ∷ more) more' b x y = (x.0, extended g m more more' (b ++ e ∷ []) x.1 (subst (λ l. AllExtend g m l more') (sym (append_assoc b (e ∷ []) more)) y))
 
 unmade : (g : Grammar) (m : ℕ) (e : List Event) → IsRun g m e → (k : List ℕ) → (IsIn k (names_of (made g m e)) → ⊥) → expanded_by e k ≡ None
 unmade g m e run k h = go (expanded_by e k) refl

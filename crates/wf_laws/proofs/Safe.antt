@@ -1,4 +1,5 @@
 -- One test per production suffices: each finished expansion of a seen module joins the pairs assigned.
+use Rattle.wf_laws.specs.Graft.{place_module}
 use Rattle.std.proofs.Common.{◌≡◌, ℕ, zero, suc, ◌+◌, ◌<◌, ◌≤◌, ◌≢◌, ◌↔◌, Bool, true, false, cond, ◌||◌, ◌&&◌, List, [], ◌∷◌, ◌++◌, length, flat_map, bytes_eq, Option, Some, None, IsTrue, refl, sym, ap, ◌∙◌, subst, inl, inr, ⊎_elim, arith}
 use Rattle.wf_model.specs.Lists.{Walk, here, onward}
 use Rattle.wf_model.specs.Grammar.{Grammar, Assignment, inputs_of, outputs_of, head_of, body_of}
@@ -15,7 +16,8 @@ use Rattle.wf_model.proofs.Walks.{Short, walk_one, shortened, lengthened}
 use Rattle.wf_laws.proofs.Expansions.{root_told, kid_shorter, own_by}
 use Rattle.wf_laws.proofs.Parts.{child, opened_run}
 use Rattle.wf_model.proofs.Level.{pair_links_from, pair_links_in, place_links_from, place_links_in}
-use Rattle.wf_laws.proofs.Root.{kid_module, kid_run, kid, kid_seen, Wired, put, Inner, Own, In, Out, Point, root_apart, kid_law, seen_kept, level, to_level, from_level}
+use Rattle.wf_laws.proofs.Root.{kid_run, kid, kid_seen, Wired, put, Inner, Own, In, Out, Point, root_apart, kid_law, seen_kept, level, to_level, from_level}
+use Rattle.wf_laws.proofs.Growth.{AnyProduction}
 
 -- a root whose module is not expanded is all that is seen
 pub unopened : (g : Grammar) (u : View) (m : ℕ) (r : List ℕ) (b rest : List Event) → expands u m ≡ false → (b ≢ []) → AllExtend g m b rest → see_all g u m (record { name = r; module_no = m } ∷ []) rest ≡ record { name = r; module_no = m } ∷ []
@@ -58,10 +60,7 @@ walk_same h (onward {x = x} {y = y} r w) = onward (h x y r) (walk_same h w)
 module _ (g : Grammar) (u : View) (leaf d : Assignment) (r : List ℕ) (p : ℕ) (names : List (List ℕ)) (rest : List Event) (wf : IsWellFormed g) (run : IsRun g (head_of g p) (opened_run r p names rest)) (ex : expands u (head_of g p) ≡ true) where
   -- what is known of the children's runs
   abbrev pub KidsJoin : Type 0
-  KidsJoin = (k : ℕ) → k < length names → (i o : ℕ) → i < inputs_of g (kid_module g p k) → o < outputs_of g (kid_module g p k) → IsTrue (d (kid_module g p k) i o) ↔ Path (links_with g u leaf (kid_module g p k) (kid_run names (opened_run r p names rest) k)) (input (child names k) i) (output (child names k) o)
-
-  sizes : length names ≡ length (body_of g p)
-  sizes = run.1.0.one_each
+  KidsJoin = (k : ℕ) → k < length names → (i o : ℕ) → i < inputs_of g (place_module g p k) → o < outputs_of g (place_module g p k) → IsTrue (d (place_module g p k) i o) ↔ Path (links_with g u leaf (place_module g p k) (kid_run names (opened_run r p names rest) k)) (input (child names k) i) (output (child names k) o)
 
   pub short_to_body : KidsJoin → (x y : Port (Option ℕ)) → Short (Wired g p) (put r names) (Inner g u leaf p names (opened_run r p names rest)) (In g p) (Out g p) x y → IsLinked (body_links g d p) x y
   short_to_body kj x y (inl w) = in_append_left _ (wiring g p) (place_links g d 0 (body_of g p)) w
@@ -69,14 +68,14 @@ module _ (g : Grammar) (u : View) (leaf d : Assignment) (r : List ℕ) (p : ℕ)
       let k = c.0 in
       let i = c.1 in
       let o = c.2 in
-      let hk : k < length names = omega (arith, sizes, i.2) in
+      let hk : k < length names = omega (arith, run.1.0.one_each, i.2) in
       let w : Walk (Inner g u leaf p names (opened_run r p names rest) k) (input (child names k) i.0) (output (child names k) o.0) =
       subst (λ (z : Port (Option ℕ)). Walk (Inner g u leaf p names (opened_run r p names rest) k) (input (child names k) i.0) (put r names z)) o.1
       (subst (λ (z : Port (Option ℕ)). Walk (Inner g u leaf p names (opened_run r p names rest) k) (put r names z) (put r names y)) i.1 c.3) in
       let t = (kj k hk i.0 o.0 i.3 o.3).1 (walk_same (λ a b q. q.1) w) in
       let l : IsLinked (place_links g d 0 (body_of g p)) (input (Some k) i.0) (output (Some k) o.0) =
-      place_links_in g d _ 0 (body_of g p) k (kid_module g p k) (is_at k (body_of g p) 0 i.2)
-      (let e : k ≡ 0 + k = omega arith in subst (λ z. IsLinked (pair_links g d (kid_module g p k) (Some z)) (input (Some k) i.0) (output (Some k) o.0)) e (pair_links_in g d (kid_module g p k) (Some k) i.0 o.0 i.3 o.3 t)) in
+      place_links_in g d _ 0 (body_of g p) k (place_module g p k) (is_at k (body_of g p) 0 i.2)
+      (let e : k ≡ 0 + k = omega arith in subst (λ z. IsLinked (pair_links g d (place_module g p k) (Some z)) (input (Some k) i.0) (output (Some k) o.0)) e (pair_links_in g d (place_module g p k) (Some k) i.0 o.0 i.3 o.3 t)) in
       in_append_right _ (wiring g p) (place_links g d 0 (body_of g p))
       (subst (λ z. IsLinked (place_links g d 0 (body_of g p)) z y) (sym i.1) (subst (λ z. IsLinked (place_links g d 0 (body_of g p)) (input (Some k) i.0) z) (sym o.1) l))
 
@@ -87,12 +86,12 @@ module _ (g : Grammar) (u : View) (leaf d : Assignment) (r : List ℕ) (p : ℕ)
       let q = place_links_from g d (record { from = x; to = y }) 0 (body_of g p) a in
       let w = pair_links_from g d q.1 (Some (0 + q.0)) (record { from = x; to = y }) q.3 in
       let hb = at_below q.1 q.0 (body_of g p) q.2 in
-      let hk : q.0 < length names = omega (arith, sizes) in
-      let m : kid_module g p q.0 ≡ q.1 = at_is q.1 q.0 (body_of g p) 0 q.2 in
+      let hk : q.0 < length names = omega (arith, run.1.0.one_each) in
+      let m : place_module g p q.0 ≡ q.1 = at_is q.1 q.0 (body_of g p) 0 q.2 in
       let z : 0 + q.0 ≡ q.0 = omega arith in
-      let hi : w.0 < inputs_of g (kid_module g p q.0) = subst (λ n. w.0 < inputs_of g n) (sym m) w.2 in
-      let ho : w.1 < outputs_of g (kid_module g p q.0) = subst (λ n. w.1 < outputs_of g n) (sym m) w.3 in
-      let t : IsTrue (d (kid_module g p q.0) w.0 w.1) = subst (λ n. IsTrue (d n w.0 w.1)) (sym m) w.4 in
+      let hi : w.0 < inputs_of g (place_module g p q.0) = subst (λ n. w.0 < inputs_of g n) (sym m) w.2 in
+      let ho : w.1 < outputs_of g (place_module g p q.0) = subst (λ n. w.1 < outputs_of g n) (sym m) w.3 in
+      let t : IsTrue (d (place_module g p q.0) w.0 w.1) = subst (λ n. IsTrue (d n w.0 w.1)) (sym m) w.4 in
       let ex : x ≡ input (Some q.0) w.0 = ap (λ (l : Link (Option ℕ)). l.from) w.5 ∙ ap (λ n. input (Some n) w.0) z in
       let ey : y ≡ output (Some q.0) w.1 = ap (λ (l : Link (Option ℕ)). l.to) w.5 ∙ ap (λ n. output (Some n) w.1) z in
       let v : Walk (Inner g u leaf p names (opened_run r p names rest) q.0) (input (child names q.0) w.0) (output (child names q.0) w.1) = walk_same (λ a b c. (hk, c)) ((kj q.0 hk w.0 w.1 hi ho).0 t) in
@@ -161,7 +160,7 @@ module _ (g : Grammar) (u : View) (leaf : Assignment) (Chosen : ℕ → ℕ → 
 
   -- the root is open, and the children's runs agree
   open_agrees : (r : List ℕ) (p : ℕ) (names : List (List ℕ)) (rest : List Event) → IsSeenModule g u (head_of g p) → expands u (head_of g p) ≡ true → IsFilled g u leaf d (head_of g p) (opened_run r p names rest) → Chosen (head_of g p) p →
-      ((k : ℕ) → k < length names → IsBy g u (kid_module g p k) Chosen (kid_run names (opened_run r p names rest) k)) →
+      ((k : ℕ) → k < length names → IsBy g u (place_module g p k) Chosen (kid_run names (opened_run r p names rest) k)) →
       ((m : ℕ) → IsSeenModule g u m → (e : List Event) → length e ≤ suc (length rest) → IsFilled g u leaf d m e → IsBy g u m Chosen e → Agrees g u leaf d m e) → Agrees g u leaf d (head_of g p) (opened_run r p names rest)
   open_agrees r p names rest seen ex x ch by ih i o hi ho =
       let run = x.run in
@@ -169,7 +168,7 @@ module _ (g : Grammar) (u : View) (leaf : Assignment) (Chosen : ℕ → ℕ → 
       let kids : KidsJoin g u leaf d r p names rest wf run ex =
       (λ k hk. let law = kid_law g u leaf r p names rest wf run ex k hk in
       let hb : k < length (body_of g p) = omega (arith, can.one_each) in
-      ih (kid_module g p k) (in_body p can.in_range seen ex (at_in _ k (body_of g p) (is_at k (body_of g p) 0 hb))) (kid_run names (opened_run r p names rest) k)
+      ih (place_module g p k) (in_body p can.in_range seen ex (at_in _ k (body_of g p) (is_at k (body_of g p) 0 hb))) (kid_run names (opened_run r p names rest) k)
       (kid_shorter g (head_of g p) r p names rest run k hk)
       (record { run = law.run; started = λ e. (cc); filled = ⊎_elim (λ a. inl (law.finished a)) (λ a. inr a) x.filled }) (by k hk)) in
       let oj = open_joins g u leaf d r p names rest wf run ex kids i o in
@@ -178,7 +177,7 @@ module _ (g : Grammar) (u : View) (leaf : Assignment) (Chosen : ℕ → ℕ → 
 
   -- the children's runs are expanded as chosen where the whole is
   kids_by : (r : List ℕ) (p : ℕ) (names : List (List ℕ)) (rest : List Event) (ex : expands u (head_of g p) ≡ true) (run : IsRun g (head_of g p) (opened_run r p names rest)) → IsBy g u (head_of g p) Chosen (opened_run r p names rest) →
-      (k : ℕ) → k < length names → IsBy g u (kid_module g p k) Chosen (kid_run names (opened_run r p names rest) k)
+      (k : ℕ) → k < length names → IsBy g u (place_module g p k) Chosen (kid_run names (opened_run r p names rest) k)
   kids_by r p names rest ex run by k hk =
       own_by g u (head_of g p) (opened_run r p names rest) (kid g p names k) Chosen run (kid_seen g u leaf r p names rest wf run ex k hk) (λ j s n. by j s)
 
@@ -218,10 +217,6 @@ module _ (g : Grammar) (u : View) (leaf : Assignment) (Chosen : ℕ → ℕ → 
           let a = open_agrees r p names rest (subst (IsSeenModule g u) (sym at_m) seen) ex' x' ch (kids_by r p names rest ex' x'.run by')
           (λ k s e l. ih k s e (omega arith)) in
           subst (λ z. Agrees g u leaf d m (Start r ∷ Expand z p names ∷ rest)) (sym at_r) (subst (λ z. Agrees g u leaf d z (opened_run r p names rest)) at_m a)
-
--- any production
-abbrev pub AnyProduction : ℕ → ℕ → Type 0
-AnyProduction m p = Unit {0}
 
 -- the perceived pairs are those shown, where a module is not expanded
 pub perceived_shown : (u : View) (m i o : ℕ) → expands u m ≡ false → perceived u m i o ≡ shows u m i o

@@ -1,4 +1,5 @@
 -- What expansions by a choice of productions tell of the modules that are settled, and the pairs that they join.
+use Rattle.wf_laws.specs.Graft.{place_module}
 use Rattle.std.proofs.Common.{◌≡◌, ℕ, zero, suc, ◌<◌, ◌≤◌, ◌↔◌, Bool, true, false, IsTrue, List, [], ◌∷◌, length, Some, refl, sym, ap, ◌∙◌, subst, inl, arith}
 use Rattle.wf_model.specs.Lists.{IsIn}
 use Rattle.wf_model.specs.Grammar.{Grammar, Assignment, inputs_of, outputs_of, head_of, body_of}
@@ -13,7 +14,7 @@ use Rattle.wf_laws.specs.Chosen.{IsByOther}
 use Rattle.wf_laws.specs.Settled.{IsSettled, IsSettledBody, IsInducedWhereSettled, SettledLaw}
 use Rattle.wf_laws.proofs.OwnRun.{follows}
 use Rattle.wf_laws.proofs.Parts.{child, opened_run, in_family}
-use Rattle.wf_laws.proofs.Root.{kid_module, kid_run, kid, kid_seen, root_apart, seen_kept}
+use Rattle.wf_laws.proofs.Root.{kid_run, kid, kid_seen, root_apart, root_seen}
 use Rattle.wf_laws.proofs.Expansions.{root_told, when_open, kid_shorter, own_expansion, own_by}
 use Rattle.wf_laws.proofs.Safe.{KidsJoin, open_joins, agrees, passes_by, filled_expansion}
 use Rattle.wf_laws.proofs.Making.{settled_from, chosen_run, other_run}
@@ -29,15 +30,12 @@ module _ (g : Grammar) (u : View) (Chosen : ℕ → ℕ → Type 0) (wf : IsWell
   module _ (r : List ℕ) (p : ℕ) (names : List (List ℕ)) (rest : List Event) (x : IsExpansion g u (head_of g p) (opened_run r p names rest)) (ex : expands u (head_of g p) ≡ true) where
     -- the children's runs are by chosen productions
     abbrev KidsBy : Type 0
-    KidsBy = (k : ℕ) → k < length names → IsBy g u (kid_module g p k) Chosen (kid_run names (opened_run r p names rest) k)
-
-    root_seen : IsIn (record { name = r; module_no = head_of g p }) (seen_in g u (head_of g p) (opened_run r p names rest))
-    root_seen = seen_kept g u (head_of g p) _ _ rest (inl refl)
+    KidsBy = (k : ℕ) → k < length names → IsBy g u (place_module g p k) Chosen (kid_run names (opened_run r p names rest) k)
 
     kid_there : (k : ℕ) → k < length names → IsIn (kid g p names k) (seen_in g u (head_of g p) (opened_run r p names rest))
     kid_there k hk = kid_seen g u (perceived u) r p names rest wf x.run ex k hk
 
-    kid_expansion : (k : ℕ) → k < length names → IsExpansion g u (kid_module g p k) (kid_run names (opened_run r p names rest) k)
+    kid_expansion : (k : ℕ) → k < length names → IsExpansion g u (place_module g p k) (kid_run names (opened_run r p names rest) k)
     kid_expansion k hk = own_expansion g u (head_of g p) (opened_run r p names rest) (kid g p names k) x (kid_there k hk)
 
     -- where the whole is by chosen productions
@@ -51,7 +49,7 @@ module _ (g : Grammar) (u : View) (Chosen : ℕ → ℕ → Type 0) (wf : IsWell
         (λ j s n. by.others j s (λ e. root_apart g u (perceived u) r p names rest wf x.run ex k hk (subst (λ z. IsIn z (family (child names k ∷ []) (opened_run r p names rest))) e n)))
 
     -- each module of the body is that of a child
-    body_of_kids : (P : ℕ → Type 0) → ((k : ℕ) → k < length names → P (kid_module g p k)) → (m : ℕ) → IsIn m (body_of g p) → P m
+    body_of_kids : (P : ℕ → Type 0) → ((k : ℕ) → k < length names → P (place_module g p k)) → (m : ℕ) → IsIn m (body_of g p) → P m
     body_of_kids P h m i =
         let a = in_at m (body_of g p) i in
         let b = at_below m a.0 (body_of g p) a.1 in
@@ -68,9 +66,9 @@ module _ (g : Grammar) (u : View) (Chosen : ℕ → ℕ → Type 0) (wf : IsWell
       go ih false ex = (0, ex)
       go ih true ex =
           when_open g u (λ k f. length f ≤ suc fuel → IsBy g u k Chosen f → IsSettled g u Chosen k)
-          (λ r p names rest y ey h c. settled_from g u Chosen (head_of g p) p (c (record { name = r; module_no = head_of g p }) (root_seen r p names rest y ey) ey _ (root_told r p names rest)) (y.run.1.0.in_range, refl)
+          (λ r p names rest y ey h c. settled_from g u Chosen (head_of g p) p (c (record { name = r; module_no = head_of g p }) (root_seen g u r p names rest) ey _ (root_told r p names rest)) (y.run.1.0.in_range, refl)
           (body_of_kids r p names rest y ey (IsSettled g u Chosen)
-          (λ k hk. ih (kid_module g p k) (kid_run names (opened_run r p names rest) k) (let s = kid_shorter g (head_of g p) r p names rest y.run k hk in omega arith) (kid_expansion r p names rest y ey k hk) (by_whole r p names rest y ey c k hk))))
+          (λ k hk. ih (place_module g p k) (kid_run names (opened_run r p names rest) k) (let s = kid_shorter g (head_of g p) r p names rest y.run k hk in omega arith) (kid_expansion r p names rest y ey k hk) (by_whole r p names rest y ey c k hk))))
           m e x ex l by
 
   pub settled_by : (m : ℕ) (e : List Event) → IsExpansion g u m e → IsBy g u m Chosen e → IsSettled g u Chosen m
@@ -81,7 +79,7 @@ module _ (g : Grammar) (u : View) (Chosen : ℕ → ℕ → Type 0) (wf : IsWell
   root_body m e x ex =
       when_open g u (λ k f. IsBy g u k Chosen f → (z : Expanded) → expanded_by f (root_of f) ≡ Some z → IsSettledBody g u Chosen z.production)
       (λ r p names rest y ey by z h. subst (IsSettledBody g u Chosen) (same_production r p names rest z h)
-      (body_of_kids r p names rest y ey (IsSettled g u Chosen) (λ k hk. settled_by (kid_module g p k) (kid_run names (opened_run r p names rest) k) (kid_expansion r p names rest y ey k hk) (by_whole r p names rest y ey by k hk))))
+      (body_of_kids r p names rest y ey (IsSettled g u Chosen) (λ k hk. settled_by (place_module g p k) (kid_run names (opened_run r p names rest) k) (kid_expansion r p names rest y ey k hk) (by_whole r p names rest y ey by k hk))))
       m e x ex
 
   -- chosen productions whose bodies are settled
@@ -101,7 +99,7 @@ module _ (g : Grammar) (u : View) (Chosen : ℕ → ℕ → Type 0) (wf : IsWell
   other_body m p e x ex =
       when_open g u (λ k f. IsByOther g u k Chosen p f → IsSettledBody g u Chosen p)
       (λ r q names rest y ey by. subst (IsSettledBody g u Chosen) (by.root _ (root_told r q names rest))
-      (body_of_kids r q names rest y ey (IsSettled g u Chosen) (λ k hk. settled_by (kid_module g q k) (kid_run names (opened_run r q names rest) k) (kid_expansion r q names rest y ey k hk) (by_others r q names rest y ey p by k hk))))
+      (body_of_kids r q names rest y ey (IsSettled g u Chosen) (λ k hk. settled_by (place_module g q k) (kid_run names (opened_run r q names rest) k) (kid_expansion r q names rest y ey k hk) (by_others r q names rest y ey p by k hk))))
       m e x ex
 
   module _ (d : Assignment) (ind : IsInducedWhereSettled g u Chosen d) where
@@ -115,7 +113,7 @@ module _ (g : Grammar) (u : View) (Chosen : ℕ → ℕ → Type 0) (wf : IsWell
     kids_join r p names rest x ex seen by k hk =
         let can = x.run.1.0 in
         let one_each = can.one_each in
-        chosen_joins (kid_module g p k) (in_body p can.in_range seen ex (at_in _ k (body_of g p) (is_at k (body_of g p) 0 (omega arith)))) (kid_run names (opened_run r p names rest) k) (kid_expansion r p names rest x ex k hk) (by k hk)
+        chosen_joins (place_module g p k) (in_body p can.in_range seen ex (at_in _ k (body_of g p) (is_at k (body_of g p) 0 (omega arith)))) (kid_run names (opened_run r p names rest) k) (kid_expansion r p names rest x ex k hk) (by k hk)
 
     pub other_joins : (m p : ℕ) (e : List Event) → IsExpansion g u m e → expands u m ≡ true → IsSeenModule g u m → IsByOther g u m Chosen p e → (i o : ℕ) → BodyJoins g d p i o ↔ Joins g u m e i o
     other_joins m p e x ex =

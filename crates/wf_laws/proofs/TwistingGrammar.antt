@@ -61,6 +61,7 @@ pub twisting_grammar_is_worked : TwistingGrammarIsWorked
 twisting_grammar_is_worked = record {
   accepted = accepted;
   expansion = record { run = accepted.0; started = λ e. absurd (cc); finished = finished twisting whole_view 0 events refl };
+  l0_grafted = refl;
   body = refl;
   body_straight = found same_place place_same (body_links twisting straight 1) (input None 0) 4 (output None 0) refl;
   body_not_crossed = not_found same_place place_same (body_links twisting straight 1) (input None 0) 4 (output None 1) refl refl refl;

@@ -17,3 +17,4 @@ pub mod Examples
 pub mod LineGrammar
 pub mod TwistingGrammar
 pub mod SkewedGrammar
+pub mod Graft

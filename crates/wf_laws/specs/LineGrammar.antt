@@ -12,6 +12,7 @@ use Rattle.wf_model.specs.Run.{IsAccepted}
 use Rattle.wf_model.specs.Links.{links}
 use Rattle.wf_model.specs.Safe.{IsExpansion, IsFull}
 use Rattle.wf_model.specs.Items.{Item, items, Depends}
+use Rattle.wf_laws.specs.Graft.{graft}
 use Rattle.wf_laws.specs.Examples.{a_module, at, port, edge, into, out, link}
 
 -- S has input a and output b, P and Q have input x and output y; S is expanded to u of P and v of Q
@@ -61,6 +62,8 @@ pub record LineGrammarIsWorked : Type 0 where
   pub full : IsFull line whole_view all_pairs
   pub accepted : IsAccepted line 3 events
   pub expansion : IsExpansion line whole_view 0 events
+  -- it is grafted of a run of P and a run of Q, each with its start event alone
+  pub grafted : graft (codes "r") 0 ((Start (codes "i1") ∷ []) ∷ (Start (codes "i2") ∷ []) ∷ []) ≡ events
   pub items_are : items line 0 events ≡ r_a ∷ r_b ∷ i1_y ∷ []
   -- the edge, the entry and the exit of r, then the pairs of i1 and i2
   pub links_are : links line whole_view 0 events ≡ link (out "i1" 0) (into "i2" 0) ∷ link (into "r" 0) (into "i1" 0) ∷ link (out "i2" 0) (out "r" 0) ∷ link (into "i1" 0) (out "i1" 0) ∷ link (into "i2" 0) (out "i2" 0) ∷ []

@@ -6,10 +6,11 @@ use Rattle.wf_model.specs.View.{View}
 use Rattle.wf_model.specs.DefaultView.{default_view}
 use Rattle.wf_model.specs.declared.event.Event.{Event}
 use Rattle.wf_model.specs.declared.event.Event.TheVariants.{Start, Expand}
-use Rattle.wf_model.specs.Run.{Instance, IsAccepted, seen_in}
+use Rattle.wf_model.specs.Run.{Instance, IsAccepted, seen_in, sub_run}
 use Rattle.wf_model.specs.Links.{Port, input, output, body_links}
 use Rattle.wf_model.specs.Safe.{IsExpansion, BodyJoins}
 use Rattle.wf_model.specs.Items.{Item, items, IsVisible, Depends}
+use Rattle.wf_laws.specs.Graft.{graft}
 use Rattle.wf_laws.specs.Examples.{a_module, at, port, edge, into, out}
 
 -- two names
@@ -106,6 +107,8 @@ straight m i o = is_given (record { module_no = 0; pairs = (0, 0) ∷ (1, 1) ∷
 pub record TwistingGrammarIsWorked : Type 0 where
   pub accepted : IsAccepted twisting 12 events
   pub expansion : IsExpansion twisting whole_view 0 events
+  -- the run of l0 is grafted of the runs of its children, of which that of l1 goes on
+  pub l0_grafted : graft (codes "l0") 1 ((Start (codes "w0") ∷ []) ∷ sub_run (codes "l1") events ∷ (Start (codes "v0") ∷ []) ∷ []) ≡ sub_run (codes "l0") events
   -- the body of production 1: four edges, two entries, two exits, then the pairs of w, l and v
   pub body : body_links twisting straight 1 ≡
       record { from = output (Some 0) 0; to = input (Some 1) 0 } ∷

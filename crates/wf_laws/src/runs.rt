@@ -1,6 +1,7 @@
 // Laws of runs: which events extend one, how it is finished, and what stays the same as it grows.
 ghost use Rattle.wf_laws.specs.Conditions.{ConditionsLaw};
 ghost use Rattle.wf_laws.specs.Finished.{AllSeenLaw, FinishedLaw, IdleLaw, NoOtherFinishingLaw};
+ghost use Rattle.wf_laws.specs.Graft.{FreshGraftLaw, GraftAtLaw, GraftLaw};
 ghost use Rattle.wf_laws.specs.Grown.{GrownLaw};
 ghost use Rattle.wf_laws.specs.Order.{OrderLaw};
 ghost use Rattle.wf_laws.specs.Rename.{RenameLaw};
@@ -16,6 +17,26 @@ ghost use Rattle.wf_model.specs.SubRun.{SubRunLaw};
 /// It is finished if the whole run is.
 pub fn sub_run_law()
     ensures { SubRunLaw }
+{}
+
+/// A run goes on with a run of any of its instances that is not expanded.
+///
+/// The root of the other run has the name of the instance, and its other names are new. Its events behind the start event follow those of the run, and it is then the run of the instance.
+pub fn graft_at_law()
+    ensures { GraftAtLaw }
+{}
+
+/// A production and a run for each position of its body make a run of the head.
+///
+/// The root is expanded by the production, and its children go on as the given runs do, one after another. No two of the runs may have a name in common.
+/// Then the run of each child is the run that was given for it. Under a view that expands the head the whole is finished if they all are, and it joins the pairs that the body joins where each position has the pairs that its run joins.
+pub fn graft_law()
+    ensures { GraftLaw }
+{}
+
+/// Any runs may be grafted under other names: there are a name for the root and a renaming for each position, so that no two of the renamed runs have a name in common.
+pub fn fresh_graft_law()
+    ensures { FreshGraftLaw }
 {}
 
 /// An event has no fault exactly if an accepted run with this event after it is accepted.

@@ -2,6 +2,7 @@
 use Rattle.std.proofs.Common.{◌≡◌, ◌≢◌, ℕ, ◌+◌, ◌<◌, ◌≤◌, ◌⊎◌, ◌↔◌, Bool, true, false, not, cond, List, [], ◌∷◌, length, Some, None, refl, sym, ap, ◌∙◌, subst, inl, inr, ⊎_elim, arith, true≢false}
 use Rattle.std.specs.Prelude.{nat_le, nat_lt, ◌==◌, is_some}
 use Rattle.std.proofs.lemmas.Bool.Decides.{nat_tests}
+use Rattle.std.proofs.lemmas.Bool.{not_from_true}
 use Rattle.wf_model.specs.declared.event.Event.{Event}
 use Rattle.wf_model.specs.declared.event.Event.TheVariants.{Start, Expand}
 use Rattle.wf_model.specs.declared.event.RunFault.{RunFault}
@@ -14,6 +15,7 @@ use Rattle.wf_model.specs.Conditions.{Condition, IsWithin, conditions_of, AllHol
 use Rattle.wf_model.proofs.Lists.{among_gives, among_from}
 use Rattle.wf_model.proofs.Differ.{one_of_name}
 use Rattle.wf_model.proofs.Taking.{short_gives, short_from, shorts_give, shorts_from, twice_gives, twice_from, module_gives, not_some, same_num, nil_gives, run_differs}
+use Rattle.wf_model.proofs.Tests.{not_false}
 
 -- the tests tell the conditions: each test passes where its condition does not hold; a later one need tell it only where the earlier conditions hold
 abbrev AreTold : List (Bool × RunFault) → List Condition → Type 0
@@ -47,13 +49,6 @@ fault_told (t ∷ ts) (c ∷ cs) h f = go (λ x. fault_told ts cs (h.2 x) f) (t.
         let x = h.1.0 e in
         ((λ q. inr (x, (after x).0 q)), (λ q. ⊎_elim (λ a. absurd (a.0 x)) (λ a. (after x).1 a.1) q))
 
-not_true : (b : Bool) → b ≡ true → not b ≡ false
-not_true b e = ap not e
-
-true_from : (b : Bool) → not b ≡ false → b ≡ true
-true_from true e = refl
-true_from false e = absurd (true≢false e)
-
 is_nothing : {A : Type 0} (xs : List A) → xs ≡ [] → is_nil xs ≡ true
 is_nothing xs e = ap is_nil e
 
@@ -71,13 +66,13 @@ num_same : (a b : ℕ) → a ≡ b → not (a == b) ≡ false
 num_same a b e = grind (arith, nat_tests)
 
 short_told : (n : List ℕ) → (not (is_short_name n) ≡ false) ↔ IsShortName n
-short_told n = ((λ e. short_gives n (true_from _ e)), (λ h. not_true _ (short_from n h.0 h.1)))
+short_told n = ((λ e. short_gives n (not_false _ e)), (λ h. not_from_true _ (short_from n h.0 h.1)))
 
 module _ (g : Grammar) (most : ℕ) (before : List Event) (acc : IsAccepted g most before) where
   start_told : (r : List ℕ) → AreTold (faults_of g most before (Start r)) (conditions_of g most before (Start r))
   start_told r = (
     refl,
-    ((λ e. nil_gives before (true_from _ e)), (λ e. not_true _ (is_nothing before e))),
+    ((λ e. nil_gives before (not_false _ e)), (λ e. not_from_true _ (is_nothing before e))),
     λ nil. (
       refl,
       short_told r,
@@ -96,7 +91,7 @@ module _ (g : Grammar) (most : ℕ) (before : List Event) (acc : IsAccepted g mo
         some_there before,
         λ c1. (
           refl,
-          ((λ e. among_gives i (names_of is) (true_from _ e)), (λ h. not_true _ (among_from i (names_of is) h))),
+          ((λ e. among_gives i (names_of is) (not_false _ e)), (λ h. not_from_true _ (among_from i (names_of is) h))),
           λ c2. (
             refl,
             not_below (length g.productions) p,
@@ -111,7 +106,7 @@ module _ (g : Grammar) (most : ℕ) (before : List Event) (acc : IsAccepted g mo
                   ((λ e. same_num (length names) (length (body_of g p)) e), (λ e. num_same _ _ e)),
                   λ c6. (
                     refl,
-                    ((λ e n h. short_gives n (shorts_give names (true_from _ e) n h)), (λ s. not_true _ (shorts_from names (λ n h. short_from n (s n h).0 (s n h).1)))),
+                    ((λ e n h. short_gives n (shorts_give names (not_false _ e) n h)), (λ s. not_from_true _ (shorts_from names (λ n h. short_from n (s n h).0 (s n h).1)))),
                     λ c7. (
                       refl,
                       ((λ e. twice_gives (names_of is) names e), (λ h. twice_from (names_of is) names h.0 h.1)),

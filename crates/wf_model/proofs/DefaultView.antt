@@ -1,7 +1,7 @@
 -- The default view, as it is computed: it expands every composite module, and an atomic module keeps the pairs of the grammar.
-use Rattle.std.proofs.Common.{◌≡◌, ℕ, zero, suc, ◌+◌, ◌<◌, ◌==◌, ◌&&◌, Bool, true, false, cond, List, [], ◌∷◌, map, length, get_or, flat_map, refl, sym, ap, ◌∙◌, subst, inl, inr, arith, true≢false}
-use Rattle.std.proofs.lemmas.Bool.{and_parts, and_from}
-use Rattle.std.proofs.lemmas.Bool.Decides.{nat_tests}
+use Rattle.std.proofs.Common.{◌≡◌, ℕ, ◌+◌, ◌<◌, ◌==◌, ◌&&◌, Bool, true, false, cond, List, [], ◌∷◌, length, flat_map, refl, sym, ap, ◌∙◌, subst, inl, inr, arith, true≢false}
+use Rattle.std.proofs.lemmas.Bool.{and_parts, and_from, eqb-true, eq-eqb}
+use Rattle.std.specs.Cmp.Derive.{one_truth}
 use Rattle.wf_model.specs.Lists.{IsIn, some, numbers_from}
 use Rattle.wf_model.specs.Grammar.{Grammar, Production, inputs_of, outputs_of, production_at, head_of, is_given}
 use Rattle.wf_model.specs.View.{shows, IsDefaultView}
@@ -9,19 +9,14 @@ use Rattle.wf_model.specs.DefaultView.{composites, given_pairs, default_view}
 use Rattle.wf_model.specs.Finishing.{ExpandsAll, ExpandsComposites}
 use Rattle.wf_model.proofs.Lists.{in_map, in_map_from, in_flat_map, in_flat_map_from, some_from, some_gives, at_is, is_at, at_in, in_at, at_below}
 use Rattle.wf_model.proofs.Level.{numbers_in}
-
-num_is : (a b : ℕ) → (a == b) ≡ true → a ≡ b
-num_is a b e = grind (arith, nat_tests)
-
-is_num : (a b : ℕ) → a ≡ b → (a == b) ≡ true
-is_num a b e = grind (arith, nat_tests)
+use Rattle.wf_model.proofs.NumberLists.{get_numbered}
 
 -- the default view expands every composite module
 pub default_expands_all : (g : Grammar) → ExpandsAll g (default_view g)
 default_expands_all g m c =
     some_from (λ k. k == m) (head_of g c.0) (composites g)
     (in_map (λ (r : Production). r.head) (production_at g c.0) g.productions (at_in _ c.0 g.productions (is_at c.0 g.productions _ c.1.0)))
-    (is_num (head_of g c.0) m c.1.1)
+    (eq-eqb (head_of g c.0) m c.1.1)
 
 -- and no other
 pub default_expands_composites : (g : Grammar) → ExpandsComposites g (default_view g)
@@ -29,13 +24,7 @@ default_expands_composites g m h =
     let r = some_gives (λ k. k == m) (composites g) h in
     let q = in_map_from (λ (r : Production). r.head) r.0 g.productions r.1 in
     let k = in_at q.0 g.productions q.1 in
-    (k.0, (at_below q.0 k.0 g.productions k.1, ap (λ (z : Production). z.head) (at_is q.0 k.0 g.productions _ k.1) ∙ (sym q.2 ∙ num_is r.0 m r.2)))
-
-get_numbered : {A : Type 0} (f : ℕ → A) (k n m : ℕ) (d : A) → m < n → get_or (map f (numbers_from k n)) m d ≡ f (k + m)
-get_numbered f k zero m d h = absurd (omega arith)
-get_numbered f k (suc n) zero d h = let e : k ≡ k + 0 = omega arith in ap f e
-get_numbered f k (suc n) (suc m) d h =
-    let l : m < n = omega arith in let e : suc k + m ≡ k + suc m = omega arith in get_numbered f (suc k) n m d l ∙ ap f e
+    (k.0, (at_below q.0 k.0 g.productions k.1, ap (λ (z : Production). z.head) (at_is q.0 k.0 g.productions _ k.1) ∙ (sym q.2 ∙ eqb-true r.0 m r.2)))
 
 module _ (g : Grammar) (m i o : ℕ) (hi : i < inputs_of g m) (ho : o < outputs_of g m) where
   abbrev is_it : ℕ × ℕ → Bool
@@ -50,7 +39,7 @@ module _ (g : Grammar) (m i o : ℕ) (hi : i < inputs_of g m) (ho : o < outputs_
       (in_flat_map row i (i, o) (numbers_from 0 (inputs_of g m)) (numbers_in i 0 (inputs_of g m) (omega arith) (omega arith))
       (in_flat_map (λ b. cond (is_given g.given m i b) ((i, b) ∷ []) []) o (i, o) (numbers_from 0 (outputs_of g m)) (numbers_in o 0 (outputs_of g m) (omega arith) (omega arith))
       (subst (λ t. IsIn {A = ℕ × ℕ} (i, o) (cond t ((i, o) ∷ []) [])) (sym e) (inl refl))))
-      (and_from (i == i) (o == o) (is_num i i refl) (is_num o o refl))
+      (and_from (i == i) (o == o) (eq-eqb i i refl) (eq-eqb o o refl))
 
   in_given : some is_it (given_pairs g m) ≡ true → is_given g.given m i o ≡ true
   in_given h =
@@ -59,8 +48,8 @@ module _ (g : Grammar) (m i o : ℕ) (hi : i < inputs_of g m) (ho : o < outputs_
       let a = in_flat_map_from row r.0 (numbers_from 0 (inputs_of g m)) r.1 in
       let b = in_flat_map_from (λ b. cond (is_given g.given m a.0 b) ((a.0, b) ∷ []) []) r.0 (numbers_from 0 (outputs_of g m)) a.2 in
       let c = one a.0 b.0 r.0 (is_given g.given m a.0 b.0) refl b.2 in
-      let ei : a.0 ≡ i = sym (ap (λ (e : ℕ × ℕ). e.0) c.1) ∙ num_is r.0.0 i both.0 in
-      let eo : b.0 ≡ o = sym (ap (λ (e : ℕ × ℕ). e.1) c.1) ∙ num_is r.0.1 o both.1 in
+      let ei : a.0 ≡ i = sym (ap (λ (e : ℕ × ℕ). e.0) c.1) ∙ eqb-true r.0.0 i both.0 in
+      let eo : b.0 ≡ o = sym (ap (λ (e : ℕ × ℕ). e.1) c.1) ∙ eqb-true r.0.1 o both.1 in
       subst (λ x. is_given g.given m x o ≡ true) ei (subst (λ x. is_given g.given m a.0 x ≡ true) eo c.0)
     where
       one : (a b : ℕ) (e : ℕ × ℕ) (t : Bool) → is_given g.given m a b ≡ t → IsIn e (cond t ((a, b) ∷ []) []) → (is_given g.given m a b ≡ true) × (e ≡ (a, b))
@@ -68,13 +57,8 @@ module _ (g : Grammar) (m i o : ℕ) (hi : i < inputs_of g m) (ho : o < outputs_
       one a b e true q (inr z) = absurd z
       one a b e false q z = absurd z
 
-  same : (s t : Bool) → (s ≡ true → t ≡ true) → (t ≡ true → s ≡ true) → s ≡ t
-  same true t a b = sym (a refl)
-  same false true a b = b refl
-  same false false a b = refl
-
   given_shown : some is_it (given_pairs g m) ≡ is_given g.given m i o
-  given_shown = same (some is_it (given_pairs g m)) (is_given g.given m i o) in_given given_in
+  given_shown = one_truth (some is_it (given_pairs g m)) (is_given g.given m i o) in_given given_in
 
 -- within the ports of a module the default view shows the pairs of the grammar
 pub default_shows : (g : Grammar) (m i o : ℕ) → m < length g.modules → i < inputs_of g m → o < outputs_of g m → shows (default_view g) m i o ≡ is_given g.given m i o

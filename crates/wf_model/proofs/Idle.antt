@@ -1,5 +1,5 @@
 -- Events that open nothing: they change no link and no visible item. Further events of a finished run are such.
-use Rattle.std.proofs.Common.{◌≡◌, ◌≢◌, ℕ, ◌↔◌, ◌&&◌, Bool, true, false, cond, IsTrue, List, [], ◌∷◌, ◌++◌, flat_map, bytes_eq, Option, Some, None, refl, sym, ap, ◌∙◌, subst, inl, inr, ⊎_elim, append_assoc, append-nil, true≢false}
+use Rattle.std.proofs.Common.{◌≡◌, ◌≢◌, ℕ, ◌↔◌, ◌&&◌, Bool, true, false, cond, IsTrue, List, [], ◌∷◌, ◌++◌, flat_map, bytes_eq, Option, Some, None, refl, sym, ap, ◌∙◌, subst, ⊎_elim, append_assoc, append-nil, true≢false}
 use Rattle.std.proofs.lemmas.List.Concat.{flat_map-append}
 use Rattle.std.proofs.lemmas.Bool.{and_parts}
 use Rattle.wf_model.specs.Lists.{IsIn}
@@ -14,10 +14,7 @@ use Rattle.wf_model.specs.Finishing.{IsFinishing}
 use Rattle.wf_model.specs.Idle.{IsIdle, ShowsTheSame}
 use Rattle.wf_model.proofs.Lists.{in_append_left, in_append_cases, in_map_from, some_gives, same_bytes}
 use Rattle.wf_model.proofs.Runs.{see_all-append, expansion_other, AllExtend-append}
-
-flat_map_same : {A B : Type 0} (f h : A → List B) (xs : List A) → ((x : A) → IsIn x xs → f x ≡ h x) → flat_map f xs ≡ flat_map h xs
-flat_map_same f h [] e = refl
-flat_map_same f h (x ∷ xs) e = ap (λ l. l ++ flat_map f xs) (e x (inl refl)) ∙ ap (λ l. h x ++ l) (flat_map_same f h xs (λ y i. e y (inr i)))
+use Rattle.wf_model.proofs.Mapping.{flat_map_same}
 
 module _ (g : Grammar) (u : View) (m : ℕ) where
   shut : (events : List Event) (i : List ℕ) → IsIdle g u m events i → (b : Bool) → opens u (seen_in g u m events) i ≡ b → opens u (seen_in g u m events) i ≡ false

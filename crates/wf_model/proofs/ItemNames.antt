@@ -1,5 +1,5 @@
 -- The items of a run have different names.
-use Rattle.std.proofs.Common.{◌≡◌, ℕ, zero, suc, ◌+◌, ◌<◌, ◌⊎◌, Bool, true, false, cond, List, [], ◌∷◌, ◌++◌, map, length, get_or, filter, codes, Some, None, refl, sym, ap, ◌∙◌, subst, inl, inr, ⊎_elim, arith, true≢false}
+use Rattle.std.proofs.Common.{◌≡◌, ℕ, zero, suc, ◌+◌, ◌<◌, ◌⊎◌, Bool, true, false, cond, List, [], ◌∷◌, ◌++◌, map, length, get_or, filter, codes, Some, None, refl, sym, ap, ◌∙◌, subst, inl, inr, ⊎_elim, arith, append_assoc, true≢false}
 use Rattle.std.proofs.lemmas.List.{append_cancel_left, map-append}
 use Rattle.std.proofs.lemmas.List.Sums.{length-filter}
 use Rattle.std.proofs.lemmas.Bool.Decides.{nat_tests}
@@ -14,6 +14,7 @@ use Rattle.wf_model.specs.Items.{Item, dotted, input_items, output_items, edge_i
 use Rattle.wf_model.proofs.Lists.{in_append_left, in_append_right, in_append_cases, in_map, in_map_from, in_flat_map_from, in_filter, at_below, at_is, is_at, at_in, differ_at}
 use Rattle.wf_model.proofs.Runs.{names-named}
 use Rattle.wf_model.proofs.Differ.{made_differ}
+use Rattle.wf_model.proofs.Positions.{has_length}
 
 -- a name has no dot
 pub no_dot : (n : List ℕ) → IsName n → IsIn 46 n → ⊥
@@ -25,6 +26,9 @@ no_dot n h i = go (h.1 46 i)
     go (inr (inr (inl a))) = let x = a.0 in omega arith
     go (inr (inr (inr (inl e)))) = omega arith
     go (inr (inr (inr (inr e)))) = omega arith
+
+pub dotted_at : (a b : List ℕ) → dotted a b ≡ a ++ 46 ∷ b
+dotted_at a b = append_assoc a (codes ".") b
 
 abbrev tail_of_list : List ℕ → List ℕ
 tail_of_list [] = []
@@ -40,11 +44,11 @@ dotted_same (x ∷ a) b (y ∷ c) d ha hc e =
     let h : x ≡ y = ap (λ (l : List ℕ). get_or l 0 0) e in
     ((λ t. h t ∷ r.0 t), r.1)
 
-differ_left : {A : Type 0} (xs ys : List A) → AllDiffer (xs ++ ys) → AllDiffer xs
+pub differ_left : {A : Type 0} (xs ys : List A) → AllDiffer (xs ++ ys) → AllDiffer xs
 differ_left [] ys d = tt
 differ_left (x ∷ xs) ys d = ((λ i. d.0 (in_append_left x xs ys i)), differ_left xs ys d.1)
 
-differ_right : {A : Type 0} (xs ys : List A) → AllDiffer (xs ++ ys) → AllDiffer ys
+pub differ_right : {A : Type 0} (xs ys : List A) → AllDiffer (xs ++ ys) → AllDiffer ys
 differ_right [] ys d = d
 differ_right (x ∷ xs) ys d = differ_right xs ys d.1
 
@@ -52,10 +56,6 @@ differ_apart : {A : Type 0} (x : A) (xs ys : List A) → AllDiffer (xs ++ ys) �
 differ_apart x [] ys d i j = i
 differ_apart x (y ∷ xs) ys d (inl e) j = d.0 (subst (λ z. IsIn z (xs ++ ys)) e (in_append_right x xs ys j))
 differ_apart x (y ∷ xs) ys d (inr i) j = differ_apart x xs ys d.1 i j
-
-has_length : {A : Type 0} (x : A) (xs : List A) → IsIn x xs → 0 < length xs
-has_length x [] h = absurd h
-has_length x (y ∷ xs) h = omega arith
 
 -- where one element of a list passes a test, two that pass it are one
 one_counted : {A B : Type 0} (f : A → B) (p : B → Bool) (xs : List A) (ys : List B) → length (filter p (map f xs ++ ys)) ≡ 1 → (a b : A) → IsIn a xs → IsIn b xs → p (f a) ≡ true → p (f b) ≡ true → a ≡ b
@@ -82,7 +82,7 @@ extends_before g m b [] e h i = absurd i
 extends_before g m b (d ∷ a) e h (inl q) = (b, subst (Extends g m b) (sym q) h.0)
 extends_before g m b (d ∷ a) e h (inr i) = extends_before g m (b ++ d ∷ []) a e h.1 i
 
-name_made : (g : Grammar) (m : ℕ) (n : List ℕ) (e : Event) (a : List Event) → IsIn e a → IsIn n (names_of (made_by g m e)) → IsIn n (names_of (made g m a))
+pub name_made : (g : Grammar) (m : ℕ) (n : List ℕ) (e : Event) (a : List Event) → IsIn e a → IsIn n (names_of (made_by g m e)) → IsIn n (names_of (made g m a))
 name_made g m n e [] i h = absurd i
 name_made g m n e (d ∷ a) (inl q) h =
     subst (IsIn n) (sym (map-append (λ (j : Instance). j.name) (made_by g m d) (made g m a)))
@@ -167,7 +167,7 @@ root_items r ins outs d hr s t hs ht e = go (in_append_cases s (input_items r 0 
         let k = differ_at y.1 x.0 y.0 outs (differ_right ins outs d) (subst (λ z. IsAt z x.0 outs) n x.2) y.2 in
         x.3 ∙ ((λ i. output_item r (0 + k i) (n i)) ∙ sym y.3)
 
-same_itself : (i : Inner) → same_inner i i ≡ true
+pub same_itself : (i : Inner) → same_inner i i ≡ true
 same_itself i = grind (arith, nat_tests)
 
 -- what stands at two places of a list whose elements differ is one thing only where the places are one

@@ -11,3 +11,14 @@ pub mod SameLinks
 pub mod Conditions
 pub mod Open
 pub mod DefaultView
+pub mod Composites
+pub mod OpenRoutes
+pub mod Mapping
+pub mod Positions
+pub mod NumberLists
+pub mod Tests
+pub mod Options
+pub mod Going
+pub mod Expanding
+pub mod Absent
+pub mod Rising

@@ -1,7 +1,7 @@
 -- Lemmas on the words of specs/Lists.
 use Rattle.std.proofs.Common.{◌≡◌, ℕ, zero, suc, ◌<◌, ◌⊎◌, Bool, true, false, cond, ◌||◌, List, [], ◌∷◌, ◌++◌, map, length, get_or, flat_map, filter, bytes_eq, refl, sym, ap, ◌∙◌, subst, inl, inr, ⊎_elim, arith, true≢false}
 use Rattle.std.proofs.lemmas.Slice.Eq.{bytes_eq-Decides}
-use Rattle.std.proofs.lemmas.Bool.{or_cases, or_left, or_right}
+use Rattle.std.proofs.lemmas.Bool.{cases_Bool, or_cases, or_left, or_right}
 use Rattle.wf_model.specs.Lists.{IsIn, IsAt, AllDiffer, some}
 
 pub in_append_left : {A : Type 0} (x : A) (xs ys : List A) → IsIn x xs → IsIn x (xs ++ ys)
@@ -63,6 +63,9 @@ among_from n ns h = some_from (bytes_eq n) n ns h (bytes_same n n refl)
 
 pub among_not : (n : List ℕ) (ns : List (List ℕ)) → some (bytes_eq n) ns ≡ false → IsIn n ns → ⊥
 among_not n ns h k = true≢false (sym (among_from n ns k) ∙ h)
+
+pub among_none : (n : List ℕ) (ns : List (List ℕ)) → (IsIn n ns → ⊥) → some (bytes_eq n) ns ≡ false
+among_none n ns h = ⊎_elim (λ e. absurd (h (among_gives n ns e))) (λ e. e) (cases_Bool (some (bytes_eq n) ns))
 
 pub filter_same : {A : Type 0} (p q : A → Bool) (xs : List A) → ((x : A) → IsIn x xs → p x ≡ q x) → filter p xs ≡ filter q xs
 filter_same p q [] h = refl

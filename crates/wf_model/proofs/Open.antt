@@ -2,7 +2,7 @@
 use Rattle.std.proofs.Common.{◌≡◌, ◌≢◌, ℕ, ◌⊎◌, ◌↔◌, ◌&&◌, Bool, true, false, cond, IsTrue, List, [], ◌∷◌, ◌++◌, bytes_eq, Option, Some, None, refl, sym, ap, ◌∙◌, subst, inl, inr, ⊎_elim, true≢false, append_assoc, append-nil}
 use Rattle.std.proofs.lemmas.Bool.{and_parts, and_from}
 use Rattle.wf_model.specs.Lists.{IsIn}
-use Rattle.wf_model.specs.Grammar.{Grammar, Edge, body_of, production_at, module_at}
+use Rattle.wf_model.specs.Grammar.{Grammar, body_of, production_at, module_at}
 use Rattle.wf_model.specs.View.{View, expands}
 use Rattle.wf_model.specs.declared.event.Event.{Event}
 use Rattle.wf_model.specs.declared.event.Event.TheVariants.{Start, Expand}
@@ -13,7 +13,7 @@ use Rattle.wf_model.proofs.Lists.{in_append_left, in_append_right, in_append_cas
 use Rattle.wf_model.proofs.Runs.{named_names, name_in, expansion_kept, expansion_later, expansion_other, expansion_start, IsState, state_more, run_state}
 use Rattle.wf_model.proofs.ItemNames.{in_input_items, in_output_items}
 
-root_kept : (b a : List Event) → b ≢ [] → root_of (b ++ a) ≡ root_of b
+pub root_kept : (b a : List Event) → b ≢ [] → root_of (b ++ a) ≡ root_of b
 root_kept [] a n = absurd (n refl)
 root_kept (Start r ∷ b) a n = refl
 root_kept (Expand i p names ∷ b) a n = refl

@@ -1,5 +1,5 @@
 -- Two assignments with the same pairs within the ports of the modules that are not expanded give a finished run the same links.
-use Rattle.std.proofs.Common.{◌≡◌, ℕ, ◌+◌, ◌<◌, Bool, true, false, cond, List, [], ◌∷◌, ◌++◌, flat_map, Option, Some, None, refl, ap, ◌∙◌, inl, inr, arith}
+use Rattle.std.proofs.Common.{◌≡◌, ℕ, ◌+◌, ◌<◌, Bool, true, false, cond, List, [], ◌∷◌, Option, Some, None, refl, ap, arith}
 use Rattle.wf_model.specs.Lists.{IsIn, numbers_from}
 use Rattle.wf_model.specs.Grammar.{Grammar, Assignment, inputs_of, outputs_of}
 use Rattle.wf_model.specs.View.{View, expands}
@@ -7,14 +7,7 @@ use Rattle.wf_model.specs.declared.event.Event.{Event}
 use Rattle.wf_model.specs.Run.{Instance, Expanded, expanded_by, seen_in, IsFinished}
 use Rattle.wf_model.specs.Links.{input, output, pair_links, opened_links, links_of, links_with}
 use Rattle.wf_model.proofs.Level.{in_numbers}
-
--- two functions that agree on a list make the same list
-pub flat_map_same : {A B : Type 0} (f h : A → List B) (xs : List A) → ((x : A) → IsIn x xs → f x ≡ h x) → flat_map f xs ≡ flat_map h xs
-flat_map_same f h [] same = refl
-flat_map_same f h (x ∷ xs) same = go (same x (inl refl)) (flat_map_same f h xs (λ y i. same y (inr i)))
-  where
-    go : f x ≡ h x → flat_map f xs ≡ flat_map h xs → f x ++ flat_map f xs ≡ h x ++ flat_map h xs
-    go a b = ap (λ l. l ++ flat_map f xs) a ∙ ap (λ l. h x ++ l) b
+use Rattle.wf_model.proofs.Mapping.{flat_map_same}
 
 pub pair_links_same : {A : Type 0} (g : Grammar) (d e : Assignment) (m : ℕ) (a : A) → ((i o : ℕ) → i < inputs_of g m → o < outputs_of g m → d m i o ≡ e m i o) → pair_links g d m a ≡ pair_links g e m a
 pair_links_same g d e m a same =

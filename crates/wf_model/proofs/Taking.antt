@@ -3,7 +3,7 @@ use Rattle.std.proofs.Common.{◌≡◌, ℕ, suc, ◌+◌, ◌<◌, ◌≤◌, 
 use Rattle.std.specs.Prelude.{nat_le, nat_lt, ◌==◌, is_some}
 use Rattle.std.specs.List.{list_all}
 use Rattle.std.proofs.lemmas.Bool.Decides.{nat_tests}
-use Rattle.std.proofs.lemmas.Bool.{or_cases, or_left, or_right}
+use Rattle.std.proofs.lemmas.Bool.{or_cases, or_left, or_right, and_from}
 use Rattle.wf_model.specs.declared.event.Event.{Event}
 use Rattle.wf_model.specs.declared.event.Event.TheVariants.{Start, Expand}
 use Rattle.wf_model.specs.Lists.{IsIn, AllDiffer}
@@ -13,6 +13,7 @@ use Rattle.wf_model.specs.Faults.{is_name_byte, is_short_name, is_nil, module_in
 use Rattle.wf_model.proofs.Lists.{in_append_left, in_append_right, in_append_cases, among_gives, among_from, among_not, same_bytes}
 use Rattle.wf_model.proofs.Runs.{made_more, name_in, name_cases, name_new, AllExtend-append}
 use Rattle.wf_model.proofs.Differ.{made_differ, one_of_name}
+use Rattle.wf_model.proofs.Tests.{not_false, and_left, and_right}
 
 -- a test that must fail for there to be no fault
 pub skipped : {A : Type 0} (b : Bool) (x : A) (y : Option A) → cond b (Some x) y ≡ None → (b ≡ false) × (y ≡ None)
@@ -22,21 +23,6 @@ skipped false x y e = (refl, e)
 pub skips : {A : Type 0} (b : Bool) (x : A) (y : Option A) → b ≡ false → y ≡ None → cond b (Some x) y ≡ None
 skips b x y e h = ap (λ t. cond t (Some x) y) e ∙ h
 
-not_false : (b : Bool) → not b ≡ false → b ≡ true
-not_false true e = refl
-not_false false e = absurd (true≢false e)
-
-and_left : (a b : Bool) → a && b ≡ true → a ≡ true
-and_left true b e = refl
-and_left false b e = e
-
-and_right : (a b : Bool) → a && b ≡ true → b ≡ true
-and_right true b e = e
-and_right false b e = absurd (true≢false (sym e))
-
-and_both : (a b : Bool) → a ≡ true → b ≡ true → a && b ≡ true
-and_both a b e f = ap (λ t. t && b) e ∙ f
-
 -- bytes of names
 between : (a c b : ℕ) → nat_le a b && nat_le b c ≡ true → (a ≤ b) × (b ≤ c)
 between a c b e =
@@ -45,7 +31,7 @@ between a c b e =
     (grind (arith, nat_tests), grind (arith, nat_tests))
 
 within : (a c b : ℕ) → (a ≤ b) × (b ≤ c) → nat_le a b && nat_le b c ≡ true
-within a c b h = let p : a ≤ b = h.0 in let q : b ≤ c = h.1 in and_both (nat_le a b) (nat_le b c) (grind (arith, nat_tests)) (grind (arith, nat_tests))
+within a c b h = let p : a ≤ b = h.0 in let q : b ≤ c = h.1 in and_from (nat_le a b) (nat_le b c) (grind (arith, nat_tests)) (grind (arith, nat_tests))
 
 is_num : (a b : ℕ) → a == b ≡ true → a ≡ b
 is_num a b e = grind (arith, nat_tests)
@@ -75,7 +61,7 @@ good_bytes (x ∷ n) e b (inr h) = good_bytes n (and_right _ _ e) b h
 
 bytes_good : (n : List ℕ) → ((b : ℕ) → IsIn b n → IsNameByte b) → list_all is_name_byte n ≡ true
 bytes_good [] h = refl
-bytes_good (x ∷ n) h = and_both _ _ (byte_good x (h x (inl refl))) (bytes_good n (λ b i. h b (inr i)))
+bytes_good (x ∷ n) h = and_from _ _ (byte_good x (h x (inl refl))) (bytes_good n (λ b i. h b (inr i)))
 
 pub short_gives : (n : List ℕ) → is_short_name n ≡ true → IsName n × (length n ≤ 64)
 short_gives n e =
@@ -87,7 +73,7 @@ short_gives n e =
 pub short_from : (n : List ℕ) → IsName n → length n ≤ 64 → is_short_name n ≡ true
 short_from n h l =
     let p : 0 < length n = h.0 in
-    and_both (nat_lt 0 (length n) && nat_le (length n) 64) (list_all is_name_byte n) (and_both (nat_lt 0 (length n)) (nat_le (length n) 64) (grind (arith, nat_tests)) (grind (arith, nat_tests))) (bytes_good n h.1)
+    and_from (nat_lt 0 (length n) && nat_le (length n) 64) (list_all is_name_byte n) (and_from (nat_lt 0 (length n)) (nat_le (length n) 64) (grind (arith, nat_tests)) (grind (arith, nat_tests))) (bytes_good n h.1)
 
 pub shorts_give : (ns : List (List ℕ)) → list_all is_short_name ns ≡ true → (n : List ℕ) → IsIn n ns → is_short_name n ≡ true
 shorts_give [] e n h = absurd h
@@ -96,7 +82,7 @@ shorts_give (x ∷ ns) e n (inr h) = shorts_give ns (and_right _ _ e) n h
 
 pub shorts_from : (ns : List (List ℕ)) → ((n : List ℕ) → IsIn n ns → is_short_name n ≡ true) → list_all is_short_name ns ≡ true
 shorts_from [] h = refl
-shorts_from (x ∷ ns) h = and_both _ _ (h x (inl refl)) (shorts_from ns (λ n i. h n (inr i)))
+shorts_from (x ∷ ns) h = and_from _ _ (h x (inl refl)) (shorts_from ns (λ n i. h n (inr i)))
 
 or_none : (a b : Bool) → a || b ≡ false → (a ≡ false) × (b ≡ false)
 or_none true b e = absurd (true≢false e)

@@ -1,5 +1,5 @@
 -- Expansions of a module, safe views, and the full assignment.
-use Rattle.std.specs.Prelude.{◌≡◌, ℕ, zero, suc, ◌<◌, ◌↔◌, ◌⊎◌, IsTrue, true, false, List, [], length, ◌≢◌, Some}
+use Rattle.std.specs.Prelude.{◌≡◌, ℕ, zero, suc, ◌<◌, ◌↔◌, ◌⊎◌, IsTrue, true, false, List, [], length, ◌≢◌, Some, None}
 use Rattle.wf_model.specs.Grammar.{Grammar, Assignment, inputs_of, outputs_of, head_of, body_of, IsProductionOf}
 use Rattle.wf_model.specs.WellFormed.{IsWellFormed}
 use Rattle.wf_model.specs.View.{View, expands, shows, IsSeenModule}
@@ -7,7 +7,6 @@ use Rattle.wf_model.specs.Lists.{IsIn}
 use Rattle.wf_model.specs.declared.event.Event.{Event}
 use Rattle.wf_model.specs.Run.{Instance, Expanded, expanded_by, seen_in, IsRun, IsFinished, root_of}
 use Rattle.wf_model.specs.Links.{links, body_links, Path, input, output}
-use Rattle.std.specs.Prelude.{None}
 
 -- an expansion of m: a finished run from m that has its start event
 pub record IsExpansion (g : Grammar) (u : View) (m : ℕ) (events : List Event) : Type 0 where
