@@ -1,11 +1,11 @@
 -- The bytes that no name has, and how item names are split.
-use Rattle.std.proofs.Common.{◌≡◌, ℕ, List, ◌∷◌, ◌++◌, sym, ◌∙◌, subst, inl, inr, arith, append_assoc}
-use Rattle.std.specs.Prelude.{codes}
+use Rattle.std.proofs.Common.{◌≡◌, ℕ, List, ◌∷◌, ◌++◌, sym, ◌∙◌, subst, inl, inr, arith}
 use Rattle.wf_model.specs.Lists.{IsIn}
 use Rattle.wf_model.specs.Run.{IsNameByte}
 use Rattle.wf_model.specs.WellFormed.{IsShortName}
-use Rattle.wf_model.specs.Items.{dotted, IsItemName, IsNameOf}
+use Rattle.wf_model.specs.Items.{IsItemName, IsNameOf}
 use Rattle.wf_model.proofs.Lists.{in_append_cases}
+use Rattle.wf_model.proofs.ItemNames.{dotted_at}
 use Rattle.name_text.specs.Names.{NameLaw}
 use Rattle.name_text.proofs.Cuts.{one_cut}
 
@@ -20,9 +20,6 @@ no_dot n s h = dot_no_byte (s.0.1 46 h)
 
 pub no_space : (n : List ℕ) → IsShortName n → IsIn 32 n → ⊥
 no_space n s h = space_no_byte (s.0.1 32 h)
-
-pub dotted_at : (a b : List ℕ) → dotted a b ≡ a ++ 46 ∷ b
-dotted_at a b = append_assoc a (codes ".") b
 
 -- an item name has no space
 pub item_no_space : (n : List ℕ) → IsItemName n → IsIn 32 n → ⊥

@@ -3,6 +3,8 @@ ghost use Rattle.std.specs.Prelude.{◌≡◌};
 ghost use Rattle.std.specs.List.{list_all};
 ghost use Rattle.wf_model.specs.Faults.{is_name_byte, is_short_name};
 
+use wf_model::Name;
+
 fn is_of_name(b: u8) -> bool
     ensures { result ≡ is_name_byte b }
 {
@@ -28,4 +30,13 @@ pub fn is_short(name: &[u8]) -> bool
         return false;
     }
     are_of_names(name)
+}
+
+/// Whether all are names.
+///
+/// Cost: linear in the bytes. Takes no memory.
+pub fn are_short(names: &[Name]) -> bool
+    ensures { result ≡ list_all is_short_name names.now }
+{
+    names.iter().all(|name| is_short(name.bytes()))
 }

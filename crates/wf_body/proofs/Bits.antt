@@ -1,17 +1,16 @@
 -- Words whose bits are added.
-use Rattle.std.proofs.Common.{◌≡◌, ℕ, ◌<◌, ◌⊎◌, ◌↔◌, Bool, ◌==◌, IsTrue, List, length, get_or, set, bit_or, refl, sym, ◌∙◌, subst, inl, inr, ⊎_elim, arith}
-use Rattle.std.specs.Int.{bit_at}
-use Rattle.std.proofs.lemmas.Bool.{eqb-true, eq-eqb}
+use Rattle.std.proofs.Common.{◌≡◌, ℕ, ◌<◌, ◌⊎◌, ◌↔◌, Bool, ◌==◌, IsTrue, List, length, get_or, set, bit_or, refl, sym, ◌∙◌, subst, inl, inr, ⊎_elim}
+use Rattle.std.proofs.lemmas.Bool.{eqb-true, eq-eqb, cases_eq}
 use Rattle.std.proofs.lemmas.List.{get_or-set_same, get_or-set_other}
-use Rattle.std.proofs.lemmas.Nat.Bits.{bit_at-lt, same_from_bits}
 use Rattle.bool_mat.specs.Matrix.{has}
-use Rattle.bool_mat.proofs.Rows.{has_gives, has_from, has_or, same_or_not}
+use Rattle.bool_mat.proofs.Rows.{has_or}
+use Rattle.bool_mat.proofs.MatrixLaws.{row_same}
 use Rattle.wf_body.specs.Words.{Gains}
 
 -- a word added at a place
 pub gains : (old : List ℕ) (at word : ℕ) → at < length old → Gains old at word (set old at (bit_or (get_or old at 0) word))
 gains old at word h j x =
-    elim (same_or_not j at) [
+    elim (cases_eq j at) [
       | inl e ↦ subst (λ z. IsTrue (has (get_or (set old at (bit_or (get_or old at 0) word)) z 0) x) ↔ (IsTrue (has (get_or old z 0) x) ⊎ ((z ≡ at) × IsTrue (has word x)))) (sym e)
           (subst (λ z. IsTrue (has z x) ↔ (IsTrue (has (get_or old at 0) x) ⊎ ((at ≡ at) × IsTrue (has word x)))) (sym (get_or-set_same old at (bit_or (get_or old at 0) word) 0 h))
           (let o = has_or (get_or old at 0) word x in (
@@ -22,26 +21,9 @@ gains old at word h j x =
           ((λ t. inl t), λ s. ⊎_elim (λ a. a) (λ b. absurd (n b.0)) s)
     ]
 
--- words with the same bits are equal
-pub same_word : (a b : ℕ) → ((x : ℕ) → IsTrue (has a x) ↔ IsTrue (has b x)) → a ≡ b
-same_word a b h = same_from_bits a b (λ x. same x (bit_at-lt a x) (bit_at-lt b x))
-  where
-    one : (x : ℕ) → bit_at a x ≡ 1 → bit_at b x ≡ 1
-    one x e = has_gives b x ((h x).0 (has_from a x e))
-
-    back : (x : ℕ) → bit_at b x ≡ 1 → bit_at a x ≡ 1
-    back x e = has_gives a x ((h x).1 (has_from b x e))
-
-    same : (x : ℕ) → bit_at a x < 2 → bit_at b x < 2 → bit_at a x ≡ bit_at b x
-    same x l m =
-        elim (same_or_not (bit_at a x) 1) [
-          | inl e ↦ e ∙ sym (one x e)
-          | inr n ↦ elim (same_or_not (bit_at b x) 1) [ inl f ↦ absurd (n (back x f)) | inr k ↦ omega arith ]
-        ]
-
 -- one word adds nothing to another exactly if each of its bits is there
 pub within : (part whole : ℕ) (r : Bool) → r ≡ (bit_or part whole == whole) → IsTrue r ↔ ((x : ℕ) → IsTrue (has part x) → IsTrue (has whole x))
 within part whole r e = (
   (λ t x h. subst (λ z. IsTrue (has z x)) (eqb-true (bit_or part whole) whole (sym e ∙ t)) ((has_or part whole x).1 (inl h))),
-  λ f. e ∙ eq-eqb (bit_or part whole) whole (same_word (bit_or part whole) whole (λ x. ((λ h. ⊎_elim (f x) (λ b. b) ((has_or part whole x).0 h)), λ h. (has_or part whole x).1 (inr h)))),
+  λ f. e ∙ eq-eqb (bit_or part whole) whole (row_same (bit_or part whole) whole (λ x. ((λ h. ⊎_elim (f x) (λ b. b) ((has_or part whole x).0 h)), λ h. (has_or part whole x).1 (inr h)))),
 )

@@ -1,12 +1,12 @@
 -- Matrices of steps, from those of sources.
 use Rattle.std.proofs.Common.{◌≡◌, ℕ, ◌+◌, ◌<◌, List, length, get_or, Option, Some, None, refl, sym, subst, inl, inr, arith}
+use Rattle.std.proofs.lemmas.Bool.{cases_eq}
 use Rattle.wf_model.specs.Grammar.{Grammar, Assignment, body_of, head_of, inputs_of, outputs_of}
 use Rattle.wf_model.specs.declared.numbers.PosNo.{PosNo}
 use Rattle.wf_model.specs.Links.{input, output}
 use Rattle.wf_model.specs.Reach.{Step, Into, OutOf, target_of}
 use Rattle.wf_model.specs.WellFormed.{IsWellFormedBody}
 use Rattle.bool_mat.specs.Matrix.{Matrix, Adds, matrix_at}
-use Rattle.bool_mat.proofs.Rows.{same_or_not}
 use Rattle.wf_body.specs.Body.{ToInput, ToExit}
 use Rattle.wf_body.specs.Matrices.{IsMatrixOf, LeadsToExits, LeadsToInputs}
 use Rattle.wf_body.proofs.Meaning.{input_below, source_below, exit_apart}
@@ -30,7 +30,7 @@ all_more g d p k first from old now new m a b h here q l =
     let t = a.total in
     let n = a.number in
     let j = b.number in
-    elim (same_or_not q k) [
+    elim (cases_eq q k) [
       | inl e ↦ let place : m ≡ first + q = omega arith in
           subst (λ z. LeadsToInputs g d p from q (matrix_at new z)) place (subst (λ z. LeadsToInputs g d p from z (matrix_at new m)) (sym e) here)
       | inr e ↦ let l' : q < k = omega arith in

@@ -1,6 +1,7 @@
 -- Words to which entries lead, and words of sources.
 use Rattle.std.proofs.Common.{◌≡◌, ◌↔◌, ℕ, zero, suc, ◌+◌, ◌<◌, ◌≤◌, IsTrue, List, [], ◌∷◌, map, length, get_or, replicate, Option, Some, None, refl, sym, ap, ◌∙◌, subst, inl, inr, ⊎_elim, arith}
 use Rattle.std.proofs.lemmas.List.{length-map}
+use Rattle.std.proofs.lemmas.Bool.{cases_eq}
 use Rattle.wf_model.specs.declared.body.Inner.{Inner as InnerHeld}
 use Rattle.wf_model.specs.declared.numbers.PosNo.{PosNo}
 use Rattle.wf_model.specs.Lists.{IsAt}
@@ -10,7 +11,7 @@ use Rattle.wf_model.specs.Meaning.{inner_of}
 use Rattle.wf_model.specs.WellFormed.{IsWellFormed}
 use Rattle.wf_model.proofs.Lists.{at_below, at_in, at_is, is_at}
 use Rattle.bool_mat.specs.Matrix.{has}
-use Rattle.bool_mat.proofs.Rows.{has_none, same_or_not}
+use Rattle.bool_mat.proofs.Rows.{has_none}
 use Rattle.wf_body.specs.Body.{at_port}
 use Rattle.wf_body.specs.Words.{Enters, Gains, source}
 use Rattle.wf_body.proofs.Feeding.{few_at, no_bits}
@@ -26,7 +27,7 @@ entered_none k es j x = ((λ t. absurd (no_bits 64 j x t)), λ r. absurd (let l 
 one_at : (x y : Inner) (n : ℕ) (es : List Inner) → IsAt x n es → IsAt y n es → x ≡ y
 one_at x y n es h i = sym (at_is x n es x h) ∙ at_is y n es x i
 
-same_inner : (i : Inner) (k j : ℕ) → i.position ≡ k → i.port ≡ j → i ≡ at_port k j
+pub same_inner : (i : Inner) (k j : ℕ) → i.position ≡ k → i.port ≡ j → i ≡ at_port k j
 same_inner i k j e f = ap (λ z. at_port z i.port) e ∙ ap (λ z. at_port k z) f
 
 pub entered_in : (k n : ℕ) (es : List Inner) (i : Inner) (old new : List ℕ) (word : ℕ) → EnteredBelow k n es old → IsAt i n es → i.position ≡ k → Gains old i.port word new → ((x : ℕ) → IsTrue (has word x) ↔ (x ≡ n)) → EnteredBelow k (n + 1) es new
@@ -38,7 +39,7 @@ entered_in k n es i old new word h a e g w j x = (
   λ r. (g j x).1 (⊎_elim
       (λ q. inr (sym (ap (λ (z : Inner). z.port) (one_at i (at_port k j) n es a (subst (λ z. IsAt (at_port k j) z es) q r.1))), (w x).1 q))
       (λ q. let l = r.0 in let l' : x < n = omega arith in inl ((h j x).1 (l', r.1)))
-      (same_or_not x n)),
+      (cases_eq x n)),
 )
 
 pub entered_out : (k n : ℕ) (es : List Inner) (i : Inner) (words : List ℕ) → EnteredBelow k n es words → IsAt i n es → (i.position ≡ k → ⊥) → EnteredBelow k (n + 1) es words
@@ -47,7 +48,7 @@ entered_out k n es i words h a e j x = (
   λ r. ⊎_elim
       (λ q. absurd (e (ap (λ (z : Inner). z.position) (one_at i (at_port k j) n es a (subst (λ z. IsAt (at_port k j) z es) q r.1)))))
       (λ q. let l = r.0 in let l' : x < n = omega arith in (h j x).1 (l', r.1))
-      (same_or_not x n),
+      (cases_eq x n),
 )
 
 pub entered_whole : (k n : ℕ) (es : List Inner) (words : List ℕ) → EnteredBelow k n es words → length es ≤ n → (j x : ℕ) → IsTrue (has (get_or words j 0) x) ↔ IsAt (at_port k j) x es

@@ -9,6 +9,7 @@ use Rattle.wf_model.proofs.Lists.{in_append_left, in_append_right, in_append_cas
 use Rattle.wf_model.proofs.Level.{pair_links_from, pair_links_in, place_links_from, place_links_in}
 use Rattle.wf_model.proofs.Walks.{walk-append, walk_one}
 use Rattle.wf_body.specs.Body.{ToInput, ToOutput, ToExit, at_port, BodyLaw}
+use Rattle.wf_body.proofs.Entering.{same_inner}
 
 -- the last step of a walk
 last_step : {A : Type 0} {R : A → A → Type 0} {x y : A} → Walk R x y → (x ≡ y) ⊎ ((z : A) × Walk R x z × R z y)
@@ -72,14 +73,11 @@ module _ (g : Grammar) (d : Assignment) (p : ℕ) where
       in_append_right _ (wiring g p) (place_links g d 0 (body_of g p))
       (place_links_in g d _ 0 (body_of g p) k m h (subst (λ z. IsLinked (pair_links g d m (Some z)) (input (Some k) i) (output (Some k) o)) f (pair_links_in g d m (Some k) i o li lo t)))
 
-  inner_same : (i : Inner) (k j : ℕ) → i.position ≡ k → i.port ≡ j → i ≡ at_port k j
-  inner_same i k j e f = ap (λ z. at_port z i.port) e ∙ ap (λ z. at_port k z) f
-
   same_inner_port : (s : Side) (i : Inner) (k j : ℕ) → ◌≡◌ {A = Port (Option ℕ)} (record { owner = Some i.position; side = s; number = i.port }) (record { owner = Some k; side = s; number = j }) → i ≡ at_port k j
   same_inner_port s i k j e =
       let o : Some i.position ≡ Some k = ap (λ (z : Port (Option ℕ)). z.owner) e in
       let o' : i.position ≡ k = cc in
-      inner_same i k j o' (ap (λ (z : Port (Option ℕ)). z.number) e)
+      same_inner i k j o' (ap (λ (z : Port (Option ℕ)). z.number) e)
 
   -- what may come before an input of a position
   into_input : (z : Port (Option ℕ)) (k j : ℕ) → IsLinked (body_links g d p) z (input (Some k) j) →

@@ -2,13 +2,13 @@
 use Rattle.std.proofs.Common.{◌≡◌, ◌↔◌, ℕ, zero, suc, ◌+◌, ◌<◌, ◌⊎◌, List, [], ◌∷◌, ◌++◌, length, get_or, set, map, take, Vec, refl, sym, ap, ◌∙◌, subst, inl, inr, ⊎_elim, arith}
 use Rattle.std.specs.declared.alloc.Global.{Global}
 use Rattle.std.proofs.lemmas.List.{map-append}
+use Rattle.std.proofs.lemmas.Bool.{cases_eq}
 use Rattle.wf_model.specs.declared.body.Edge.{Edge as EdgeHeld}
 use Rattle.wf_model.specs.Lists.{IsIn}
 use Rattle.wf_model.specs.Grammar.{Grammar, Edge}
 use Rattle.wf_model.specs.Meaning.{edge_of}
 use Rattle.wf_model.proofs.Lists.{in_append_left, in_append_right, in_append_cases}
 use Rattle.wf_spec.proofs.Graphs.{edges_more}
-use Rattle.bool_mat.proofs.Rows.{same_or_not}
 use Rattle.wf_body.specs.Words.{AreLeading, edges_in, HasOneMore}
 
 edges_in-set_same : (lists : List (Vec EdgeHeld Global)) (k : ℕ) (new : Vec EdgeHeld Global) → k < length lists → edges_in (set lists k new) k ≡ map edge_of new.items
@@ -30,7 +30,7 @@ edges_in_read (y ∷ lists) (suc k) x h e = let r : k < length lists = omega ari
 
 -- a list gets one edge more
 pub list_more : (lists : List (Vec EdgeHeld Global)) (at : ℕ) (e : EdgeHeld) (old new : Vec EdgeHeld Global) → at < length lists → old ≡ get_or lists at old → new.items ≡ old.items ++ e ∷ [] → HasOneMore lists at (edge_of e) (set lists at new)
-list_more lists at e old new h was now = λ k f. ⊎_elim (at_it k f) (at_other k f) (same_or_not k at)
+list_more lists at e old new h was now = λ k f. ⊎_elim (at_it k f) (at_other k f) (cases_eq k at)
   where
     list : edges_in (set lists at new) at ≡ edges_in lists at ++ edge_of e ∷ []
     list = edges_in-set_same lists at new h ∙ (ap (map edge_of) now ∙ (map-append edge_of old.items (e ∷ []) ∙ ap (λ l. l ++ edge_of e ∷ []) (sym (edges_in_read lists at old h was))))

@@ -1,6 +1,6 @@
 -- Where paths from sources begin and end, and their matrices.
 use Rattle.std.proofs.Common.{◌≡◌, ◌↔◌, ℕ, ◌+◌, ◌<◌, ◌≤◌, ◌⊎◌, IsTrue, List, [], map, length, get_or, set, take, Option, Some, None, refl, sym, ap, ◌∙◌, subst, inl, inr, ⊎_elim, arith, length-take}
-use Rattle.std.proofs.lemmas.Bool.{cases_lt}
+use Rattle.std.proofs.lemmas.Bool.{cases_lt, cases_eq}
 use Rattle.std.proofs.lemmas.List.{get_or-set_same, get_or-set_other, get_or-take, get_or_past, length-map}
 use Rattle.wf_model.specs.declared.body.Inner.{Inner as InnerHeld}
 use Rattle.wf_model.specs.declared.numbers.PosNo.{PosNo}
@@ -13,7 +13,7 @@ use Rattle.wf_model.specs.WellFormed.{IsWellFormed, IsWellFormedBody}
 use Rattle.wf_model.proofs.Level.{wiring_from, pair_links_from, place_links_from}
 use Rattle.wf_model.proofs.Lists.{at_below, at_in, at_is, is_at, in_append_cases}
 use Rattle.bool_mat.specs.Matrix.{Matrix, has}
-use Rattle.bool_mat.proofs.Rows.{has_none, same_or_not}
+use Rattle.bool_mat.proofs.Rows.{has_none}
 use Rattle.wf_body.specs.Body.{ToInput, ToExit, at_port}
 use Rattle.wf_body.specs.Matrices.{IsMatrixOf, LeadsToExits, LeadsToInputs, sources_of}
 use Rattle.wf_body.specs.Words.{AreTold, source, word_at}
@@ -152,7 +152,7 @@ AtExits outs es n words = (o : ℕ) → o < n → (i : Inner) → IsAt i o es �
 
 pub exits_more : (outs : List (List ℕ)) (es : List Inner) (n word : ℕ) (i : Inner) (words : List ℕ) → AtExits outs es n words → n < length words → IsAt i n es → word ≡ word_at outs i.position i.port → AtExits outs es (n + 1) (set words n word)
 exits_more outs es n word i words h room a e o l j b =
-    elim (same_or_not o n) [
+    elim (cases_eq o n) [
       | inl q ↦ let same : i ≡ j = sym (at_is i n es i a) ∙ at_is j n es i (subst (λ z. IsAt j z es) q b) in
           subst (λ z. get_or (set words n word) z 0 ≡ word_at outs j.position j.port) (sym q)
           (get_or-set_same words n word 0 room ∙ (e ∙ ap (λ (z : Inner). word_at outs z.position z.port) same))

@@ -1,20 +1,20 @@
 -- Positions are placed one after another, each after its feeders, until none is left.
 use Rattle.std.proofs.Common.{◌≡◌, ◌↔◌, ℕ, zero, suc, ◌+◌, ◌-◌, ◌<◌, ◌≤◌, ◌⊎◌, Bool, true, false, IsTrue, List, [], ◌∷◌, ◌++◌, map, length, get_or, take, bit_or, refl, sym, ap, ◌∙◌, subst, inl, inr, ⊎_elim, arith, length-append, append-nil}
-use Rattle.std.proofs.lemmas.Bool.{cases_lt}
+use Rattle.std.proofs.lemmas.Bool.{cases_lt, cases_eq}
 use Rattle.std.proofs.lemmas.List.{get_or_append_left, get_or_push, take-append-le, length-map, map-append}
 use Rattle.wf_model.specs.declared.body.Position.{Position as PositionHeld}
 use Rattle.wf_model.specs.declared.numbers.PosNo.{PosNo}
 use Rattle.wf_model.specs.Meaning.{position_of}
 use Rattle.std.proofs.Math.Seq.{take-append_seam}
-use Rattle.wf_model.specs.Lists.{IsIn, AllDiffer, Walk, here, onward, numbers_from}
+use Rattle.wf_model.specs.Lists.{IsIn, AllDiffer, Walk, here, onward}
 use Rattle.wf_model.specs.Grammar.{Grammar, Edge, Position, Production, production_at, body_of}
 use Rattle.wf_model.specs.WellFormed.{IsFollowedBy, IsWellFormedBody}
 use Rattle.wf_model.proofs.Lists.{in_append_left, in_append_right, in_append_cases, at_below, in_at, at_is}
-use Rattle.wf_model.proofs.Level.{numbers_in}
-use Rattle.wf_spec.proofs.Once.{parted, apart_from, differ_with}
-use Rattle.wf_spec.proofs.Tables.{length-numbers}
+use Rattle.wf_model.proofs.NumberLists.{differ_few}
+use Rattle.wf_model.proofs.Positions.{parted}
+use Rattle.wf_spec.proofs.Once.{apart_from, differ_with}
 use Rattle.bool_mat.specs.Matrix.{has}
-use Rattle.bool_mat.proofs.Rows.{has_none, has_or, same_or_not}
+use Rattle.bool_mat.proofs.Rows.{has_none, has_or}
 use Rattle.wf_body.specs.Order.{AreFeeders, IsNext, IsForward, IsOrder, positions_of}
 
 -- a list whose elements differ is no longer than one that has them all
@@ -28,13 +28,6 @@ fits (x ∷ xs) ys d h =
     let a = length-append l (x ∷ r) in
     let b = length-append l r in
     let c = ap length p.2 in
-    omega arith
-
--- different numbers below n are at most n
-pub few_below : (n : ℕ) (xs : List ℕ) → AllDiffer xs → ((x : ℕ) → IsIn x xs → x < n) → length xs ≤ n
-few_below n xs d h =
-    let f : length xs ≤ length (numbers_from 0 n) = fits xs (numbers_from 0 n) d (λ x i. numbers_in x 0 n (omega arith) (let l = h x i in omega arith)) in
-    let e = length-numbers 0 n in
     omega arith
 
 -- the positions that are placed, and the order in which they were
@@ -94,7 +87,7 @@ module _ (g : Grammar) (p : ℕ) (feeders : List ℕ) (placed k word : ℕ) (ord
   pub more_room : length order < length (body_of g p)
   more_room =
       let l = length-append order (k ∷ []) in
-      let b = few_below (length (body_of g p)) (order ++ k ∷ []) so_far_more.differ (order_within g p (order ++ k ∷ []) so_far_more.each) in
+      let b = differ_few (length (body_of g p)) (order ++ k ∷ []) so_far_more.differ (order_within g p (order ++ k ∷ []) so_far_more.each) in
       omega arith
 
 -- some feeder of a position is not placed, or all are
@@ -109,7 +102,7 @@ feeder_left placed k (f ∷ es) =
     (λ m. inl (f, inl refl, t, m))
     (marked (has placed f.from.position) refl))
     (λ t. inr (λ e i d. ⊎_elim (λ q. absurd (t (ap (λ (z : Edge). z.to.position) (sym q) ∙ d))) (λ j. b e j d) i))
-    (same_or_not f.to.position k))
+    (cases_eq f.to.position k))
     (feeder_left placed k es)
   where
     marked : (b : Bool) → b ≡ has placed f.from.position → IsTrue (has placed f.from.position) ⊎ (IsTrue (has placed f.from.position) → ⊥)
@@ -129,7 +122,7 @@ module _ (g : Grammar) (p : ℕ) (feeders : List ℕ) (placed : ℕ) (order : Li
       (feeder_left placed k (production_at g p).edges)
 
   chain : (fuel v : ℕ) (vs : List ℕ) → Left v → AllDiffer (v ∷ vs) → ((u : ℕ) → IsIn u (v ∷ vs) → (u < length (body_of g p)) × Walk (IsFollowedBy g p) v u) → length vs + fuel ≡ length (body_of g p) → ⊥
-  chain zero v vs h d w e = let b = few_below (length (body_of g p)) (v ∷ vs) d (λ u i. (w u i).0) in absurd (omega arith)
+  chain zero v vs h d w e = let b = differ_few (length (body_of g p)) (v ∷ vs) d (λ u i. (w u i).0) in absurd (omega arith)
   chain (suc fuel) v vs h d w e =
       let b = back v h in
       chain fuel b.0 (v ∷ vs) b.1 ((λ i. wf.acyclic b.0 v b.2 (w b.0 i).1), d)

@@ -1,17 +1,17 @@
 -- Words of the outputs of one position, from those of its inputs.
 use Rattle.std.proofs.Common.{◌≡◌, ◌↔◌, ℕ, zero, suc, ◌+◌, ◌<◌, ◌≤◌, ◌⊎◌, IsTrue, List, [], ◌∷◌, map, length, get_or, set, bit_or, Option, Some, None, refl, sym, ap, ◌∙◌, subst, inl, inr, ⊎_elim, arith}
-use Rattle.std.proofs.lemmas.Bool.{cases_lt}
-use Rattle.std.proofs.lemmas.List.{get_or-set_same, get_or-set_other, get_or_past, get_or_default}
+use Rattle.std.proofs.lemmas.Bool.{cases_lt, cases_eq}
+use Rattle.std.proofs.lemmas.List.{get_or-set_same, get_or-set_other, get_or_past}
 use Rattle.wf_model.specs.declared.body.Position.{Position as PositionHeld}
 use Rattle.wf_model.specs.declared.numbers.PosNo.{PosNo}
 use Rattle.wf_model.specs.Lists.{IsAt}
-use Rattle.wf_model.specs.Grammar.{Grammar, Module, Position, Production, module_at, production_at, body_of, inputs_of, outputs_of}
+use Rattle.wf_model.specs.Grammar.{Grammar, Position, Production, production_at, body_of, inputs_of, outputs_of}
 use Rattle.wf_model.specs.Links.{output}
 use Rattle.wf_model.specs.Meaning.{position_of, bit_of, pairs_of}
 use Rattle.wf_model.specs.WellFormed.{IsWellFormed}
-use Rattle.wf_model.proofs.Lists.{at_in, at_is, is_at}
+use Rattle.wf_model.proofs.Lists.{at_is}
 use Rattle.bool_mat.specs.Matrix.{has, IsUnion}
-use Rattle.bool_mat.proofs.Rows.{has_none, has_or, same_or_not}
+use Rattle.bool_mat.proofs.Rows.{has_none, has_or}
 use Rattle.wf_body.specs.Matrices.{HasRows}
 use Rattle.wf_body.specs.Words.{AreFirstOutputs, AreOutputs, Leaves, source}
 use Rattle.wf_body.proofs.Feeding.{few_at}
@@ -25,7 +25,7 @@ one_out from k o columns column union itself ins rows u c w x = (
 
 pub outs_more : (from : Option PosNo) (k n word : ℕ) (ins rows outs : List ℕ) → AreFirstOutputs from k ins rows n outs → n < length outs → ((x : ℕ) → IsTrue (has word x) ↔ Leaves from k ins rows n x) → AreFirstOutputs from k ins rows (n + 1) (set outs n word)
 outs_more from k n word ins rows outs h room w o x l =
-    elim (same_or_not o n) [
+    elim (cases_eq o n) [
       | inl e ↦ subst (λ z. IsTrue (has (get_or (set outs n word) z 0) x) ↔ Leaves from k ins rows z x) (sym e)
           (subst (λ z. IsTrue (has z x) ↔ Leaves from k ins rows n x) (sym (get_or-set_same outs n word 0 room)) (w x))
       | inr e ↦ let l' : o < n = omega arith in subst (λ z. IsTrue (has z x) ↔ Leaves from k ins rows o x) (sym (get_or-set_other outs n o word 0 e)) (h o x l')
@@ -73,14 +73,3 @@ few_rows g p k m deps rows wf h a held e =
     let c = held.one_each in
     let f = ap length e in
     omega arith
-
--- the ports of a module are few
-pub few_ports : (g : Grammar) (m : ℕ) (q : Module) → IsWellFormed g → m < length g.modules → q ≡ get_or g.modules m q → (length q.inputs ≡ inputs_of g m) × (length q.inputs ≤ 64) × (length q.outputs ≡ outputs_of g m) × (length q.outputs ≤ 64)
-few_ports g m q wf h e =
-    let same : q ≡ module_at g m = e ∙ get_or_default g.modules m q _ h in
-    let w = wf.modules (module_at g m) (at_in (module_at g m) m g.modules (is_at m g.modules _ h)) in
-    let wi = w.few_inputs in
-    let wo = w.few_outputs in
-    let i : length q.inputs ≡ inputs_of g m = ap (λ (z : Module). length z.inputs) same in
-    let o : length q.outputs ≡ outputs_of g m = ap (λ (z : Module). length z.outputs) same in
-    (i, omega arith, o, omega arith)

@@ -1,6 +1,7 @@
 -- Words of sources tell the paths from them, position after position.
 use Rattle.std.proofs.Common.{◌≡◌, ◌↔◌, ℕ, ◌+◌, ◌<◌, ◌≤◌, ◌++◌, IsTrue, List, [], ◌∷◌, length, get_or, set, take, Option, Some, None, refl, sym, ap, ◌∙◌, subst, inl, inr, ⊎_elim, arith, length-set}
 use Rattle.std.proofs.lemmas.List.{get_or-map, get_or-set_same, get_or-set_other, length-map, take_all, take_more}
+use Rattle.std.proofs.lemmas.Bool.{cases_eq}
 use Rattle.wf_model.specs.declared.numbers.PosNo.{PosNo}
 use Rattle.wf_model.specs.declared.numbers.Side.TheVariants.{Input, Output}
 use Rattle.wf_model.specs.Lists.{IsIn, IsAt}
@@ -9,7 +10,6 @@ use Rattle.wf_model.specs.Links.{Port, input}
 use Rattle.wf_model.specs.WellFormed.{IsFollowedBy, IsWellFormedBody}
 use Rattle.wf_model.proofs.Lists.{at_is, in_append_cases}
 use Rattle.bool_mat.specs.Matrix.{has}
-use Rattle.bool_mat.proofs.Rows.{same_or_not}
 use Rattle.wf_body.specs.Body.{ToInput, ToOutput}
 use Rattle.wf_body.specs.Order.{IsOrder, positions_of}
 use Rattle.wf_body.specs.Words.{AreInputs, AreOutputs, AreTold, AreToldAt, source}
@@ -60,7 +60,7 @@ told_more g d p k from done ins outs row row' wf told room after i o =
       as_many_inputs = length-set ins k row ∙ told.as_many_inputs;
       as_many_outputs = length-set outs k row' ∙ told.as_many_outputs;
       each = λ q h. ⊎_elim (λ e. subst (AreToldAt g d p from (set ins k row) (set outs k row')) (sym e) here)
-          (λ n. other q n (⊎_elim (λ a. a) (λ b. ⊎_elim (λ e. absurd (n e)) (λ z. absurd z) b) (in_append_cases q done (k ∷ []) h))) (same_or_not q k);
+          (λ n. other q n (⊎_elim (λ a. a) (λ b. ⊎_elim (λ e. absurd (n e)) (λ z. absurd z) b) (in_append_cases q done (k ∷ []) h))) (cases_eq q k);
     }
   where
     before : (a : ℕ) → IsFollowedBy g p a k → AreToldAt g d p from ins outs a

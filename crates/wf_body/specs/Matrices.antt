@@ -1,18 +1,14 @@
 -- Matrices of one body.
 use Rattle.std.specs.Prelude.{◌≡◌, ℕ, ◌<◌, ◌^◌, List, Option, Some, None, length, get_or}
 use Rattle.std.specs.List.{All}
-use Rattle.wf_model.specs.declared.body.Step.{Step as StepHeld}
 use Rattle.wf_model.specs.declared.numbers.PosNo.{PosNo}
 use Rattle.wf_model.specs.Lists.{IsIn}
 use Rattle.wf_model.specs.Grammar.{Grammar, Assignment, inputs_of, outputs_of, head_of, body_of}
 use Rattle.wf_model.specs.Reach.{Step}
+pub use Rattle.wf_model.specs.Steps.{step_of}
 use Rattle.bool_mat.specs.Matrix.{Matrix, IsMatrix, Means}
 use Rattle.wf_body.specs.Body.{ToInput, ToExit}
 use Rattle.wf_body.specs.Words.{source}
-
--- a step, as the definitions see it
-abbrev pub step_of : StepHeld → Step
-step_of s = record { production = s.production.0; position = s.position.0 }
 
 -- a step to another position of the same body
 abbrev pub beside : Step → ℕ → Step

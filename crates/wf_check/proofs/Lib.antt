@@ -4,10 +4,7 @@ pub mod Least
 pub mod Lists
 pub mod Loops
 pub mod Lower
-pub mod Options
-pub mod Reaching
 pub mod Rounds
-pub mod Rows
 pub mod Settled
 pub mod UnitFirst
 pub mod UnitGraphs
@@ -16,3 +13,4 @@ pub mod UnitPaths
 pub mod UnitRules
 pub mod UnitSimple
 pub mod UnitTold
+pub mod OneRanking

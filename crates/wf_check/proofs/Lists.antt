@@ -1,14 +1,9 @@
 -- The order of filtered numbers, and elements by their places.
-use Rattle.std.proofs.Common.{◌≡◌, ℕ, zero, suc, ◌+◌, ◌<◌, ◌≤◌, Bool, true, false, cond, List, [], ◌∷◌, length, get_or, map, ◌++◌, below_more, refl, sym, ◌∙◌, subst, inl, inr, arith}
+use Rattle.std.proofs.Common.{◌≡◌, ℕ, zero, suc, ◌<◌, ◌≤◌, Bool, true, false, cond, List, [], ◌∷◌, length, get_or, map, sym, ◌∙◌, arith}
 use Rattle.std.specs.List.{filter}
-use Rattle.std.proofs.lemmas.List.{get_or_append_left, get_or_push}
-use Rattle.wf_model.specs.Lists.{IsIn, IsAt, numbers_from}
+use Rattle.wf_model.specs.Lists.{IsAt, numbers_from}
 use Rattle.wf_model.proofs.Lists.{at_in, in_filter_from}
-
-from_first : (i k n : ℕ) → IsIn i (numbers_from k n) → k ≤ i
-from_first i k zero h = absurd h
-from_first i k (suc n) (inl e) = omega arith
-from_first i k (suc n) (inr h) = let r : suc k ≤ i = from_first i (suc k) n h in omega arith
+use Rattle.wf_model.proofs.NumberLists.{from_first}
 
 -- what stands later among the numbers that pass a test is not less
 pub filtered_order : (t : ℕ → Bool) (k n i j x y : ℕ) → i ≤ j → IsAt x i (filter t (numbers_from k n)) → IsAt y j (filter t (numbers_from k n)) → x ≤ y
@@ -26,18 +21,7 @@ filtered_order t k (suc n) i j x y h a b = go (λ i j h a b. filtered_order t (s
     go later true (suc i) zero h a b = absurd (omega arith)
     go later true (suc i) (suc j) h a b = let l : i ≤ j = omega arith in later i j l a b
 
-pub at_map : {A B : Type 0} (f : A → B) (xs : List A) (k : ℕ) (d : A) → k < length xs → IsAt (f (get_or xs k d)) k (map f xs)
-at_map f [] k d h = absurd (omega arith)
-at_map f (x ∷ xs) zero d h = refl
-at_map f (x ∷ xs) (suc k) d h = let r : k < length xs = omega arith in at_map f xs k d r
-
 pub map_at : {A B : Type 0} (f : A → B) (xs : List A) (y : B) (k : ℕ) (d : A) → IsAt y k (map f xs) → (k < length xs) × (f (get_or xs k d) ≡ y)
 map_at f [] y k d h = absurd h
 map_at f (x ∷ xs) y zero d h = (omega arith, sym h)
 map_at f (x ∷ xs) y (suc k) d h = let r = map_at f xs y k d h in let l = r.0 in (omega arith, r.1)
-
--- what holds of each element so far, and of the next
-pub each_more : {A : Type 0} (P : ℕ → A → Type 0) (xs : List A) (n : ℕ) (x d : A) → length xs ≡ n → ((k : ℕ) → k < n → P k (get_or xs k d)) → P n x → (k : ℕ) → k < n + 1 → P k (get_or (xs ++ x ∷ []) k d)
-each_more P xs n x d len before now = below_more (λ k. P k (get_or (xs ++ x ∷ []) k d)) n
-    (λ k h. (let l : k < length xs = omega arith in subst (P k) (sym (get_or_append_left xs (x ∷ []) d k l)) (before k h)))
-    (subst (P n) (sym (get_or_push xs x d n len)) now)

@@ -5,13 +5,14 @@ use Rattle.std.specs.Prelude.{◌==◌}
 use Rattle.wf_model.specs.declared.numbers.ProdNo.{ProdNo}
 use Rattle.wf_model.specs.Lists.{IsIn, IsAt}
 use Rattle.wf_model.specs.Grammar.{Grammar, Production, head_of, body_of, production_at, IsProductionOf}
-use Rattle.wf_model.proofs.Lists.{in_at}
-use Rattle.wf_spec.proofs.Ends.{all_gives, all_from}
+use Rattle.wf_model.proofs.Lists.{in_at, is_at}
+use Rattle.wf_spec.proofs.Tests.{all_gives, all_from}
 use Rattle.wf_spec.specs.Bodies.{modules_at}
 use Rattle.wf_spec.specs.Tables.{productions_of}
 use Rattle.wf_check.specs.Ranks.{IsLower, is_below}
-use Rattle.wf_check.proofs.Heads.{headed_from}
-use Rattle.wf_check.proofs.Lists.{filtered_order, at_map, map_at}
+use Rattle.wf_spec.proofs.Heads.{headed_from}
+use Rattle.wf_check.proofs.Lists.{filtered_order, map_at}
+use Rattle.wf_model.proofs.Mapping.{at_map}
 
 -- a test of the body tells it
 pub lower_told : (g : Grammar) (ranks : List (Option ℕ)) (n m p : ℕ) (r : Production) (b : Bool) → IsProductionOf g p m → r ≡ production_at g p → b ≡ list_all (λ k. is_below n (get_or ranks k None)) (modules_at r.positions) → (b ≡ true) ↔ IsLower g ranks n m p
@@ -50,7 +51,7 @@ least_found g ranks n m ps i e h none q l = ⊎_elim
     k = lower_place g ranks n m ps e q l
 
     place : (j : ℕ) → j < length ps → IsAt (get_or ps j (record { 0 = 0 })).0 j (productions_of g m)
-    place j r = subst (IsAt (get_or ps j (record { 0 = 0 })).0 j) e (at_map (λ (p : ProdNo). p.0) ps j (record { 0 = 0 }) r)
+    place j r = subst (IsAt (get_or ps j (record { 0 = 0 })).0 j) e (at_map (λ (p : ProdNo). p.0) (get_or ps j (record { 0 = 0 })) j ps (is_at j ps (record { 0 = 0 }) r))
 
     cases : (k.0 < i) ⊎ (i ≤ k.0)
     cases = grind arith

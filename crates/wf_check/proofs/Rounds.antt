@@ -8,10 +8,10 @@ use Rattle.wf_model.specs.Lists.{IsIn}
 use Rattle.wf_model.specs.Grammar.{Grammar, body_of, IsComposite, IsProductionOf}
 use Rattle.wf_model.specs.Proper.{RankWithin, IsRank}
 use Rattle.wf_model.specs.WellFormed.{IsWellFormed}
-use Rattle.wf_spec.proofs.Ends.{same_or_not}
 use Rattle.wf_check.specs.Improper.{IsProductive}
 use Rattle.wf_check.specs.Ranks.{TellsRank, AreRanks, TellsRankBelow, AreRanksBelow, IsRound, is_below, IsLower}
-use Rattle.wf_check.proofs.Heads.{composite_below}
+use Rattle.std.proofs.lemmas.Bool.{cases_eq}
+use Rattle.wf_model.proofs.Composites.{composite_below}
 
 rank_one_more : (g : Grammar) (n m : ℕ) → RankWithin g n m → RankWithin g (suc n) m
 rank_one_more g zero m h = inl h
@@ -114,7 +114,7 @@ round_kept g n m ranks round now = record {
   told = λ k l below. ⊎_elim
       (λ e. subst (λ z. TellsRankBelow g (n + 1) z (get_or ranks z None)) (sym e) now)
       (λ d. let s : k < m = omega (arith, d) in round.told k s below)
-      (same_or_not k m);
+      (cases_eq k m);
   left = λ k l below. round.left k (omega arith) below;
 }
 
@@ -126,7 +126,7 @@ round_none g n m ranks w pos low round t no_lower =
     let e = is_none_told (get_or ranks m None) t in
     let none = tells_none g n m (get_or ranks m None) e (round.left m (omega arith) low) in
     let none' = gets_none g n m ranks w pos (round_known g n m ranks round) none no_lower in
-    round_kept g n m ranks round (subst (TellsRankBelow g (n + 1) m) (sym e) (λ k l r. ⊎_elim (λ (d : k ≡ n). none' (subst (λ z. RankWithin g z m) d r)) (λ d. let s : k < n = omega (arith, d) in none k s r) (same_or_not k n)))
+    round_kept g n m ranks round (subst (TellsRankBelow g (n + 1) m) (sym e) (λ k l r. ⊎_elim (λ (d : k ≡ n). none' (subst (λ z. RankWithin g z m) d r)) (λ d. let s : k < n = omega (arith, d) in none k s r) (cases_eq k n)))
 
 -- one module more is tried, and gets the rank n
 pub round_some : (g : Grammar) (n m : ℕ) (ranks : List (Option ℕ)) → IsWellFormed g → 0 < n → m < length g.modules → IsRound g n m ranks → is_some (get_or ranks m None) ≡ false → (p : ℕ) → IsLower g ranks n m p → IsRound g n (m + 1) (set ranks m (Some n))
@@ -141,7 +141,7 @@ round_some g n m ranks w pos low round t p lower =
       told = λ k l below. ⊎_elim
           (λ (d : k ≡ m). subst (λ z. TellsRankBelow g (n + 1) z (get_or (set ranks m (Some n)) z None)) (sym d) (subst (TellsRankBelow g (n + 1) m) (sym new) (omega arith, rank)))
           (λ d. let s : k < m = omega (arith, d) in subst (TellsRankBelow g (n + 1) k) (sym (get_or-set_other ranks m k (Some n) None d)) (round.told k s below))
-          (same_or_not k m);
+          (cases_eq k m);
       left = λ k l below. (let d : k ≡ m → ⊥ = λ q. absurd (omega arith) in subst (TellsRankBelow g n k) (sym (get_or-set_other ranks m k (Some n) None d)) (round.left k (omega arith) below));
     }
 

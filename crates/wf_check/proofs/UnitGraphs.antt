@@ -3,7 +3,7 @@ use Rattle.std.proofs.Common.{◌≡◌, ℕ, ◌<◌, length, List, [], ◌∷�
 use Rattle.std.specs.declared.alloc.Global.{Global}
 use Rattle.wf_model.proofs.Lists.{in_append_left, in_append_right, in_append_cases}
 use Rattle.wf_graph.specs.Graph.{HasEdge, InRange}
-use Rattle.wf_spec.specs.Graphs.{HasOneMore}
+use Rattle.wf_graph.specs.OneMore.{HasOneMore}
 use Rattle.wf_check.specs.declared.unit.rule.UnitRule.{UnitRule}
 use Rattle.wf_check.specs.UnitRules.{AreBelow}
 use Rattle.wf_check.specs.UnitPaths.{Turns, IsGraphOf}

@@ -1,9 +1,8 @@
 -- Layers of modules, by how many unit productions lead to one module.
 use Rattle.std.proofs.Common.{◌≡◌, ℕ, zero, suc, ◌+◌, ◌↔◌, ◌<◌, ◌⊎◌, Bool, true, false, true≢false, List, [], ◌∷◌, ◌++◌, length, get_or, set, Vec, refl, sym, ap, ◌∙◌, subst, inl, inr, ⊎_elim, arith, get_or-set_same, get_or-set_other, length-append}
 use Rattle.std.specs.declared.alloc.Global.{Global}
-use Rattle.std.proofs.lemmas.Bool.{cases_lt}
+use Rattle.std.proofs.lemmas.Bool.{cases_lt, cases_eq}
 use Rattle.wf_model.proofs.Lists.{in_append_left, in_append_right, in_append_cases}
-use Rattle.wf_spec.proofs.Ends.{same_or_not}
 use Rattle.wf_check.specs.declared.unit.rule.UnitRule.{UnitRule}
 use Rattle.wf_check.specs.UnitRules.{AreBelow}
 use Rattle.wf_check.specs.UnitPaths.{LeadTo, IsOnCycle, ReachesIn, IsLayer, IsShortest, TurnsInto, IsBefore, AreLayers, layer_at}
@@ -12,8 +11,8 @@ use Rattle.wf_check.proofs.UnitSimple.{cycle_within}
 -- a mark that is set is there, and those of other modules stay
 marked-set : (marks : List Bool) (h v : ℕ) → h < length marks → (get_or (set marks h true) v false ≡ true) ↔ ((get_or marks v false ≡ true) ⊎ (v ≡ h))
 marked-set marks h v below = (
-  λ m. ⊎_elim (λ (e : v ≡ h). inr e) (λ e. inl (sym (get_or-set_other marks h v true false e) ∙ m)) (same_or_not v h),
-  λ s. ⊎_elim (λ (e : v ≡ h). here e) (λ e. ⊎_elim (λ m. get_or-set_other marks h v true false e ∙ m) (λ d. here d) s) (same_or_not v h),
+  λ m. ⊎_elim (λ (e : v ≡ h). inr e) (λ e. inl (sym (get_or-set_other marks h v true false e) ∙ m)) (cases_eq v h),
+  λ s. ⊎_elim (λ (e : v ≡ h). here e) (λ e. ⊎_elim (λ m. get_or-set_other marks h v true false e ∙ m) (λ d. here d) s) (cases_eq v h),
 )
   where
     here : v ≡ h → get_or (set marks h true) v false ≡ true
@@ -90,11 +89,11 @@ layers_more us m xs x so_far below is = record {
   wide = λ k h. ⊎_elim
       (λ (e : k ≡ length xs). subst (λ l. AreBelow (length l) us) (sym (ap (layer_at (xs ++ x ∷ [])) e ∙ layer_at_last xs x)) below)
       (λ e. let l : k < length xs = omega (arith, length-append xs (x ∷ []), e) in subst (λ l. AreBelow (length l) us) (sym (layer_at_old xs x k l)) (so_far.wide k l))
-      (same_or_not k (length xs));
+      (cases_eq k (length xs));
   each = λ k h. ⊎_elim
       (λ (e : k ≡ length xs). subst (λ j. IsLayer us m j (layer_at (xs ++ x ∷ []) j)) (sym e) (subst (IsLayer us m (length xs)) (sym (layer_at_last xs x)) is))
       (λ e. let l : k < length xs = omega (arith, length-append xs (x ∷ []), e) in subst (IsLayer us m k) (sym (layer_at_old xs x k l)) (so_far.each k l))
-      (same_or_not k (length xs));
+      (cases_eq k (length xs));
 }
 
 -- what is known before a round of the loop: layers, and the next of them, none of which leads back to the module
@@ -148,7 +147,7 @@ round_more us n m xs next made count unmarked = record {
   none = λ j h l r. ⊎_elim
       (λ (e : j ≡ length xs). true≢false (sym ((made.is_layer m).1 (subst (λ i. ReachesIn us m i m) e r)) ∙ unmarked))
       (λ e. let below : j < length xs = omega (arith, e) in made.none j h below r)
-      (same_or_not j (length xs));
+      (cases_eq j (length xs));
 }
 
 -- a round of a module on a cycle has fewer layers than there are modules

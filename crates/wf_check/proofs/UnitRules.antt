@@ -4,8 +4,8 @@ use Rattle.std.specs.List.{filter_map, cons_option}
 use Rattle.std.proofs.lemmas.List.Elements.{filter_map-append}
 use Rattle.std.proofs.lemmas.List.{get_or_default}
 use Rattle.wf_model.specs.Lists.{IsIn, numbers_from}
+use Rattle.wf_model.proofs.NumberLists.{numbers_from-last}
 use Rattle.wf_spec.proofs.Listing.{all_take_more}
-use Rattle.wf_spec.proofs.Tables.{numbers_from-last}
 use Rattle.wf_check.specs.declared.unit.rule.UnitRule.{UnitRule}
 
 -- what a number gives goes last

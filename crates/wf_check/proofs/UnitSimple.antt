@@ -1,39 +1,10 @@
 -- Paths along unit productions that pass no module twice, and how long these are.
-use Rattle.std.proofs.Common.{◌≡◌, ℕ, suc, ◌<◌, ◌≤◌, ◌⊎◌, Bool, eqb, true, false, true≢false, List, [], ◌∷◌, length, refl, sym, ap, subst, inl, inr, ⊎_elim, arith}
-use Rattle.std.specs.List.{IsDistinct, list_any, AllByRecursion}
-use Rattle.std.proofs.lemmas.Bool.{eqb-true, or_cases}
-use Rattle.std.proofs.lemmas.Map.Steps.{length-le_from_distinct_below}
+use Rattle.std.proofs.Common.{◌≡◌, ℕ, suc, ◌<◌, ◌≤◌, ◌⊎◌, true≢false, List, [], ◌∷◌, length, refl, sym, ap, subst, ⊎_elim, arith}
 use Rattle.wf_model.specs.Lists.{IsIn, AllDiffer}
-use Rattle.wf_spec.proofs.Ends.{same_or_not}
 use Rattle.wf_check.specs.declared.unit.rule.UnitRule.{UnitRule}
 use Rattle.wf_check.specs.UnitRules.{AreBelow}
 use Rattle.wf_check.specs.UnitPaths.{LeadTo, IsOnCycle, ReachesIn}
-
-in_or_not : (x : ℕ) (ys : List ℕ) → IsIn x ys ⊎ (IsIn x ys → ⊥)
-in_or_not x [] = inr (λ h. h)
-in_or_not x (y ∷ ys) =
-    ⊎_elim (λ e. inl (inl e)) (λ other. ⊎_elim (λ i. inl (inr i)) (λ out. inr (λ h. ⊎_elim other out h)) (in_or_not x ys)) (same_or_not x y)
-
-any_gives : (x : ℕ) (ys : List ℕ) → list_any (eqb x) ys ≡ true → IsIn x ys
-any_gives x [] h = absurd (true≢false (sym h))
-any_gives x (y ∷ ys) h = ⊎_elim (λ e. inl (eqb-true x y e)) (λ r. inr (any_gives x ys r)) (or_cases (eqb x y) (list_any (eqb x) ys) h)
-
-unequal_all : (x : ℕ) (ys : List ℕ) → (IsIn x ys → ⊥) → AllByRecursion (λ y. eqb x y ≡ false) ys
-unequal_all x [] h = tt
-unequal_all x (y ∷ ys) h = (go (eqb x y) refl, unequal_all x ys (λ i. h (inr i)))
-  where
-    go : (b : Bool) → eqb x y ≡ b → eqb x y ≡ false
-    go true e = absurd (h (inl (eqb-true x y e)))
-    go false e = e
-
-distinct_from : (xs : List ℕ) → AllDiffer xs → IsDistinct eqb xs
-unfolding IsDistinct
-distinct_from [] d = tt
-distinct_from (x ∷ xs) d = (unequal_all x xs d.0, distinct_from xs d.1)
-
--- so many different numbers are there below n
-pub differ_few : (n : ℕ) (xs : List ℕ) → AllDiffer xs → ((x : ℕ) → IsIn x xs → x < n) → length xs ≤ n
-differ_few n xs d below = length-le_from_distinct_below xs n (distinct_from xs d) (λ q h. below q (any_gives q xs h))
+use Rattle.wf_model.proofs.NumberLists.{in_or_not, differ_few}
 
 -- the modules that a path passes, its ends among them
 abbrev passed : (us : List UnitRule) (a b : ℕ) (ps : List ℕ) → LeadTo us a ps b → List ℕ

@@ -1,18 +1,15 @@
 -- The unit productions of a grammar as a list, and the cycle that is told.
-use Rattle.std.proofs.Common.{◌≡◌, ℕ, zero, suc, ◌<◌, ◌≤◌, Option, Some, None, List, [], ◌∷◌, length, get_or, refl, sym, ap, ◌∙◌, subst, inl, inr, ⊎_elim, arith}
+use Rattle.std.proofs.Common.{◌≡◌, ℕ, zero, suc, ◌<◌, Option, Some, None, List, [], ◌∷◌, length, get_or, refl, sym, ap, ◌∙◌, subst, inl, inr, arith}
 use Rattle.std.specs.List.{filter_map, cons_option}
 use Rattle.wf_model.specs.Lists.{IsIn, numbers_from}
 use Rattle.wf_model.specs.Grammar.{Grammar, body_of, head_of, IsProductionOf}
 use Rattle.wf_model.specs.WellFormed.{IsWellFormed}
 use Rattle.wf_model.proofs.Level.{in_numbers, numbers_in}
+use Rattle.wf_model.proofs.NumberLists.{from_first}
 use Rattle.wf_check.specs.declared.unit.rule.UnitRule.{UnitRule}
 use Rattle.wf_check.specs.Improper.{UnitPath, IsUnitCycle, IsFirstOf, IsToldCycle}
 use Rattle.wf_check.specs.UnitRules.{unit_rule_of, unit_rule_at, unit_rules_of, AreInOrder, AreBelow}
 use Rattle.wf_check.specs.UnitPaths.{Turns, LeadTo, IsOnCycle, IsLeastOnCycle, IsShortest}
-
-number_from : (i k n : ℕ) → IsIn i (numbers_from k n) → k ≤ i
-number_from i k zero h = absurd h
-number_from i k (suc n) h = ⊎_elim (λ (e : i ≡ k). omega arith) (λ r. let l = number_from i (suc k) n r in omega arith) h
 
 -- what is among the values of a list is that of one of its elements
 in_filter_map_from : {A B : Type 0} (f : A → Option B) (y : B) (xs : List A) → IsIn y (filter_map f xs) → (x : A) × IsIn x xs × (f x ≡ Some y)
@@ -99,7 +96,7 @@ rules_in_order g = from 0 (length g.productions)
         go later (Some u) e = (
           λ v i.
               let r = in_filter_map_from (unit_rule_at g) v (numbers_from (suc k) n) i in
-              let above = number_from r.0 (suc k) n r.1 in
+              let above = from_first r.0 (suc k) n r.1 in
               let mine = (fits k (head_of g k) (body_of g k) u e).number in
               let its = (fits r.0 (head_of g r.0) (body_of g r.0) v r.2).number in
               omega arith,

@@ -1,18 +1,9 @@
-// Composite modules, and the least of them that is not marked.
-ghost use Rattle.std.specs.Prelude.{◌≡◌, ◌<◌, ◌↔◌, true, false, length, get_or, IsTrue, MatchOption};
-ghost use Rattle.wf_model.specs.Grammar.{IsComposite};
+// The least composite module that is not marked.
+ghost use Rattle.std.specs.Prelude.{◌≡◌, true, false, length, get_or, MatchOption};
 ghost use Rattle.wf_model.specs.WellFormed.{IsWellFormed};
 ghost use Rattle.wf_check.specs.Improper.{IsLeastWithout, OfAllComposite};
 
 use wf_spec::{Grammar, ModNo};
-
-/// Whether a module is the head of a production.
-pub fn is_composite(g: &Grammar, m: ModNo) -> bool
-    requires { m.0 < length g.now.core.modules }
-    ensures { IsTrue result ↔ IsComposite g.now.core m.0 }
-{
-    !g.alternatives(m).is_empty()
-}
 
 /// The least composite module that is not marked, or `None` where all are.
 pub fn least_unmarked(g: &Grammar, marks: &[bool]) -> Option<ModNo>
@@ -22,7 +13,7 @@ pub fn least_unmarked(g: &Grammar, marks: &[bool]) -> Option<ModNo>
 {
     for m in 0..g.modules().len() {
         let number = ModNo(m as u16);
-        if !marks[m] && is_composite(g, number) {
+        if !marks[m] && g.is_composite(number) {
             return Some(number);
         }
     }

@@ -7,7 +7,7 @@ ghost use Rattle.wf_spec.specs.Bodies.{modules_at};
 ghost use Rattle.wf_check.specs.Improper.{IsProductive, IsLeastWithout, OfAllComposite};
 ghost use Rattle.wf_check.specs.Ranks.{AreRanks, AreRanksBelow, IsRound, IsMoreRanked, IsLower, is_below};
 
-use crate::composite::{is_composite, least_unmarked};
+use crate::composite::least_unmarked;
 use std::alloc::{AllocError, Global};
 use wf_spec::{Grammar, ModNo, ProdNo, Production};
 
@@ -84,7 +84,7 @@ fn atomic_ranks(alloc: Global, g: &Grammar) -> Result<Vec<Option<u32>>, AllocErr
 {
     let mut ranks = Vec::new(alloc);
     for m in 0..g.modules().len() {
-        let is_atomic = !is_composite(g, ModNo(m as u16));
+        let is_atomic = !g.is_composite(ModNo(m as u16));
         ranks.push(is_atomic.then_some(0))?;
     }
     Ok(ranks)

@@ -1,50 +1,11 @@
 // Composite modules that are not reached from the start module.
-ghost use Rattle.std.specs.Prelude.{◌≡◌, ◌<◌, ◌↔◌, ◌++◌, ℕ, length, IfOk, OnOk, MatchOption};
-ghost use Rattle.wf_model.specs.Lists.{IsIn};
-ghost use Rattle.wf_model.specs.Proper.{Makes};
-ghost use Rattle.wf_graph.specs.Graph.{HasEdge};
-ghost use Rattle.wf_spec.specs.Bodies.{modules_at};
+ghost use Rattle.std.specs.Prelude.{IfOk, MatchOption};
 ghost use Rattle.wf_check.specs.Improper.{IsReached, IsLeastWithout, OfAllComposite};
 
 use crate::composite::least_unmarked;
 use std::alloc::{AllocError, Global};
 use wf_graph::reached;
-use wf_spec::{Grammar, ModNo, Production};
-
-/// Adds the modules of a body.
-fn add_body(list: &mut Vec<u32>, rule: &Production) -> Result<(), AllocError>
-    ensures { OnOk result (list.new.items ≡ list.old.items ++ modules_at rule.now.core.positions) }
-{
-    for q in rule.positions() {
-        list.push(u32::from(q.module.0))?;
-    }
-    Ok(())
-}
-
-/// The modules of all bodies of a module.
-fn made_from(alloc: Global, g: &Grammar, m: ModNo) -> Result<Vec<u32>, AllocError>
-    requires { m.0 < length g.now.core.modules }
-    ensures { IfOk result (λ list. (k : ℕ) → IsIn k list.items ↔ Makes g.now.core m.0 k) }
-{
-    let mut list = Vec::new(alloc);
-    for p in g.alternatives(m) {
-        add_body(&mut list, g.production(*p))?;
-    }
-    Ok(list)
-}
-
-/// A graph in which each module leads to the modules of its bodies.
-fn making(alloc: Global, g: &Grammar) -> Result<Vec<Vec<u32>>, AllocError>
-    ensures count { IfOk result (λ graph. length graph.items ≡ length g.now.core.modules) }
-    ensures edges { IfOk result (λ graph. (a b : ℕ) → HasEdge graph.items a b ↔ Makes g.now.core a b) }
-{
-    let mut graph = Vec::new(alloc);
-    for m in 0..g.modules().len() {
-        let list = made_from(alloc, g, ModNo(m as u16))?;
-        graph.push(list)?;
-    }
-    Ok(graph)
-}
+use wf_spec::{Grammar, ModNo, making_graph};
 
 /// The least composite module to which no list of bodies leads from the start module, or `None` where there is none. Fails only for want of memory.
 ///
@@ -52,7 +13,7 @@ fn making(alloc: Global, g: &Grammar) -> Result<Vec<Vec<u32>>, AllocError>
 pub fn unreached(alloc: Global, g: &Grammar) -> Result<Option<ModNo>, AllocError>
     ensures { IfOk result (λ o. MatchOption o (OfAllComposite g.now.core (IsReached g.now.core)) (λ m. IsLeastWithout g.now.core (IsReached g.now.core) m.0)) }
 {
-    let graph = making(alloc, g)?;
+    let graph = making_graph(alloc, g)?;
     let marks = reached(alloc, &graph, u32::from(g.start().0))?;
     Ok(least_unmarked(g, &marks))
 }

@@ -1,1 +1,4 @@
 pub mod Searching
+pub mod Rows
+pub mod Deriving
+pub mod Edges

@@ -1,13 +1,14 @@
 -- A search in a graph of numbered vertices.
-use Rattle.std.proofs.Common.{◌≡◌, ℕ, zero, suc, ◌+◌, ◌<◌, ◌≤◌, ◌⊎◌, ◌↔◌, Bool, true, false, not, cond, List, [], ◌∷◌, ◌++◌, set, replicate, length, get_or, Vec, refl, ap, sym, subst, ◌∙◌, arith, inl, inr, ⊎_elim, true≢false, append_assoc, append-nil, length-append}
-use Rattle.std.specs.Prelude.{count_by, ◌==◌}
+use Rattle.std.proofs.Common.{◌≡◌, ℕ, zero, suc, ◌+◌, ◌<◌, ◌≤◌, ◌↔◌, Bool, true, false, not, cond, List, [], ◌∷◌, ◌++◌, set, replicate, length, get_or, Vec, refl, ap, sym, subst, ◌∙◌, arith, inl, inr, ⊎_elim, true≢false, append_assoc, append-nil, length-append}
+use Rattle.std.specs.Prelude.{count_by}
 use Rattle.std.specs.declared.alloc.Global.{Global}
-use Rattle.std.proofs.lemmas.Bool.Decides.{nat_tests}
 use Rattle.std.proofs.lemmas.List.{get_or-set_same, get_or-set_other, length-set, get_or_append_left}
 use Rattle.std.proofs.lemmas.List.Sums.{sum_by-cons}
+use Rattle.std.proofs.lemmas.Bool.{cases_eq}
 use Rattle.wf_model.specs.Lists.{IsIn, Walk, here, onward}
 use Rattle.wf_model.proofs.Lists.{in_append_cases, in_append_left, in_append_right, in_at, at_is, at_below, at_in, is_at}
 use Rattle.wf_model.proofs.Walks.{walk-append, walk_one}
+use Rattle.wf_model.proofs.Tests.{marked_below}
 use Rattle.wf_graph.specs.Graph.{nexts, HasEdge, IsReached}
 use Rattle.wf_graph.specs.Search.{IsSearch, MetAll}
 
@@ -26,18 +27,6 @@ count_set (m ∷ ms) (suc v) h e =
     let f : count_by not (m ∷ ms) ≡ cond {A = ℕ} (not m) 1 0 + count_by not ms = count_cons m ms in
     let n : count_by not (set (m ∷ ms) (suc v) true) ≡ cond {A = ℕ} (not m) 1 0 + count_by not (set ms v true) = count_cons m (set ms v true) in
     omega arith
-
-same_or_not : (a b : ℕ) → (a ≡ b) ⊎ (a ≡ b → ⊥)
-same_or_not a b = go (a == b) refl
-  where
-    go : (t : Bool) → a == b ≡ t → (a ≡ b) ⊎ (a ≡ b → ⊥)
-    go true e = inl (grind (arith, nat_tests))
-    go false e = inr (λ (d : a ≡ b). (let z : a == b ≡ true = grind (arith, nat_tests) in true≢false (sym z ∙ e)))
-
-marked_below : (ms : List Bool) (v : ℕ) → get_or ms v false ≡ true → v < length ms
-marked_below [] v e = absurd (true≢false (sym e))
-marked_below (m ∷ ms) zero e = omega arith
-marked_below (m ∷ ms) (suc v) e = let r = marked_below ms v e in omega arith
 
 pub met_none : (m : List Bool) (q : List ℕ) → MetAll m q [] m q
 met_none m q = record {
@@ -72,8 +61,8 @@ met_new m q v h e =
       count = length-set m v true;
       more = v ∷ [];
       appended = refl;
-      new_marks = λ w r. ⊎_elim (λ (d : w ≡ v). inr (inl d)) (λ d. inl (sym (get_or-set_other m v w true false d) ∙ r)) (same_or_not w v);
-      old_marks = λ w r. ⊎_elim (λ (d : w ≡ v). subst (λ z. get_or (set m v true) z false ≡ true) (sym d) same) (λ d. get_or-set_other m v w true false d ∙ r) (same_or_not w v);
+      new_marks = λ w r. ⊎_elim (λ (d : w ≡ v). inr (inl d)) (λ d. inl (sym (get_or-set_other m v w true false d) ∙ r)) (cases_eq w v);
+      old_marks = λ w r. ⊎_elim (λ (d : w ≡ v). subst (λ z. get_or (set m v true) z false ≡ true) (sym d) same) (λ d. get_or-set_other m v w true false d ∙ r) (cases_eq w v);
       marks_more = λ w r. ⊎_elim (λ (d : w ≡ v). subst (λ z. get_or (set m v true) z false ≡ true) (sym d) same) (λ z. absurd z) r;
       from_list = λ w r. r;
       each = λ w r. ⊎_elim (λ (d : w ≡ v). subst (λ z. get_or (set m v true) z false ≡ true) (sym d) same) (λ z. absurd z) r;
@@ -123,7 +112,7 @@ search_more graph from m q done m' q' s h a = record {
   closed = λ k l w e. ⊎_elim
       (λ (d : k ≡ done). found w (a.each w (subst (λ z. HasEdge graph z w) (ap (λ z. get_or q' z 0) d ∙ old done h) e)))
       (λ d. let l' : k < done = omega (arith, d) in let l'' : k < length q = omega arith in kept w (s.closed k l' w (subst (λ z. HasEdge graph z w) (old k l'') e)))
-      (same_or_not k done);
+      (cases_eq k done);
 }
   where
     kept : (v : ℕ) → IsIn v q → IsIn v q'

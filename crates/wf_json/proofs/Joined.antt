@@ -7,8 +7,8 @@ use Rattle.std.specs.declared.result.Result.{Result}
 use Rattle.std.proofs.lemmas.Grind.{flat_map-append}
 use Rattle.std.proofs.lemmas.List.{append-nil}
 use Rattle.wf_model.specs.Lists.{numbers_from}
+use Rattle.wf_model.proofs.NumberLists.{numbers_from-last}
 use Rattle.wf_json.specs.Canonical.{list_of}
-use Rattle.wf_spec.proofs.Tables.{numbers_from-last}
 
 -- one text more, with the separator before it where it is not the first
 pub join_by-more : (text : ℕ → List ℕ) (sep : List ℕ) (k : ℕ) → join_by text sep (numbers_from 0 (k + 1)) ≡ join_by text sep (numbers_from 0 k) ++ (cond (k == 0) [] sep ++ text k)

@@ -1,9 +1,8 @@
 -- Look-ups in a list that is seen through a function.
 use Rattle.std.proofs.Common.{◌≡◌, ℕ, Bool, true, false, List, [], ◌∷◌, ◌++◌, ◌||◌, refl, ap, sym, subst, ◌∙◌, arith, map}
-use Rattle.std.specs.Prelude.{position, bytes_eq}
+use Rattle.std.specs.Prelude.{position, bytes_eq, if◌then◌else◌}
 use Rattle.std.specs.List.{list_any, position_or_len}
 use Rattle.std.proofs.lemmas.List.{length-map, map-append}
-use Rattle.std.specs.Prelude.{if◌then◌else◌}
 use Rattle.wf_model.specs.Lists.{some}
 
 pub some_any : {A : Type 0} (p : A → Bool) (xs : List A) → some p xs ≡ list_any p xs

@@ -1,26 +1,12 @@
 -- Continuing steps, one after another.
-use Rattle.std.proofs.Common.{◌≡◌, ℕ, zero, suc, ◌+◌, ◌-◌, ◌<◌, ◌≤◌, ◌⊎◌, get_or, refl, sym, ap, ◌∙◌, subst, ⊎_elim, arith}
+use Rattle.std.proofs.Common.{◌≡◌, ℕ, zero, suc, ◌+◌, ◌-◌, ◌<◌, ◌≤◌, ◌⊎◌, refl, sym, ap, ◌∙◌, subst, ⊎_elim, arith}
 use Rattle.wf_model.specs.Lists.{Walk, here, onward}
-use Rattle.wf_model.specs.Grammar.{Grammar, body_of}
-use Rattle.wf_model.specs.Proper.{Makes, Derives}
-use Rattle.wf_model.specs.Reach.{Step, target_of}
-use Rattle.wf_model.specs.Linear.{IsStepOf, IsLinear, IsOnCycle, GoesOn, GoesOnBy}
-use Rattle.wf_model.proofs.Lists.{in_at, at_is, at_below, at_in, is_at}
+use Rattle.wf_model.specs.Grammar.{Grammar}
+use Rattle.wf_model.specs.Proper.{Derives}
+use Rattle.wf_model.specs.Reach.{target_of}
+use Rattle.wf_model.specs.Linear.{IsLinear, IsOnCycle, GoesOn, GoesOnBy}
 use Rattle.wf_model.proofs.Walks.{walk-append, walk_one}
-
--- a step makes its target
-step_makes : (g : Grammar) (m : ℕ) (s : Step) → IsStepOf g m s → Makes g m (target_of g s)
-step_makes g m s i = (s.production, (i.in_range, i.head), at_in (target_of g s) s.position (body_of g s.production) (is_at s.position (body_of g s.production) 0 i.position))
-
-goes_makes : (g : Grammar) (a b : ℕ) → GoesOn g a b → Makes g a b
-goes_makes g a b h = subst (Makes g a) h.2 (step_makes g a h.0 h.1.0)
-
--- what makes a module that derives it back goes on to it
-makes_goes : (g : Grammar) (a b : ℕ) → Makes g a b → Derives g b a → GoesOn g a b
-makes_goes g a b h back =
-    let k = in_at b (body_of g h.0) h.2 in
-    let is : get_or (body_of g h.0) k.0 0 ≡ b = at_is b k.0 (body_of g h.0) 0 k.1 in
-    (record { production = h.0; position = k.0 }, (record { in_range = h.1.0; head = h.1.1; position = at_below b k.0 (body_of g h.0) k.1 }, subst (λ z. Derives g z a) (sym is) back), is)
+use Rattle.wf_model.proofs.Going.{goes_makes, makes_goes}
 
 -- modules that derive each other go on to each other
 derives_goes : (g : Grammar) {a b : ℕ} → Derives g a b → Derives g b a → Walk (GoesOn g) a b

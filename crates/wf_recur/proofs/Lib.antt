@@ -1,12 +1,12 @@
 pub mod Going
-pub mod Heads
-pub mod Lists
 pub mod Numbering
 pub mod Opening
 pub mod Order
 pub mod Places
 pub mod Reaching
-pub mod Rows
+pub mod ShortRounds
 pub mod Stepping
 pub mod Telling
 pub mod Ways
+pub mod OneCycles
+pub mod OneLoops

@@ -1,24 +1,18 @@
 -- Cycles are numbered by their least modules.
-use Rattle.std.proofs.Common.{◌≡◌, ℕ, zero, suc, ◌+◌, ◌<◌, ◌≤◌, ◌⊎◌, ◌∙◌, List, [], ◌∷◌, ◌++◌, map, length, get_or, Option, None, Some, refl, sym, ap, subst, inl, inr, ⊎_elim, arith}
+use Rattle.std.proofs.Common.{◌≡◌, ℕ, suc, ◌+◌, ◌<◌, ◌≤◌, ◌⊎◌, ◌∙◌, List, [], ◌∷◌, ◌++◌, map, length, get_or, Option, None, Some, refl, sym, ap, subst, inl, ⊎_elim, arith}
 use Rattle.std.proofs.lemmas.List.{get_or_append_left, get_or_push, length_push, map_push, get_or_past}
-use Rattle.wf_model.specs.Lists.{IsIn, IsAt, Walk}
+use Rattle.std.proofs.lemmas.Bool.{cases_lt}
+use Rattle.wf_model.specs.Lists.{IsIn, Walk}
 use Rattle.wf_model.specs.Grammar.{Grammar}
 use Rattle.wf_model.specs.WellFormed.{IsWellFormed}
 use Rattle.wf_model.specs.Linear.{IsLinear, IsOnCycle, GoesOn, GoesOnBy, IsLeast}
 use Rattle.wf_model.proofs.Lists.{in_append_left, in_append_right, in_append_cases, in_map, at_in, at_below, is_at}
+use Rattle.wf_model.proofs.Positions.{each_more, at_push}
 use Rattle.wf_recur.specs.Cycles.{OnSeen, least_of, IsRound, StandsAt, AreCyclesOf}
 use Rattle.wf_recur.specs.Rounds.{IsPlaced, IsPlaceOn, ArePlaced, IsRoundFrom, AreCyclesBelow, AreRoundsBelow}
-use Rattle.wf_recur.proofs.Lists.{each_more}
 use Rattle.wf_recur.proofs.Going.{walks_back, walk_on_cycle, by_walk, by_more, by_same}
 use Rattle.wf_recur.proofs.Telling.{continues_below}
-use Rattle.wf_recur.proofs.Ways.{less_or_same, less_or_not, none_some, closed_walk}
-
--- what stands in a list with one more at its end
-at_push : {A : Type 0} (x : A) (k : ℕ) (xs : List A) (y : A) → IsAt x k (xs ++ y ∷ []) → IsAt x k xs ⊎ ((k ≡ length xs) × (x ≡ y))
-at_push x zero [] y h = inr (refl, h)
-at_push x (suc k) [] y h = absurd h
-at_push x zero (z ∷ xs) y h = inl h
-at_push x (suc k) (z ∷ xs) y h = ⊎_elim (λ i. inl i) (λ r. inr (ap suc r.0, r.1)) (at_push x k xs y h)
+use Rattle.wf_recur.proofs.Ways.{less_or_same, none_some, closed_walk}
 
 -- the least modules, with a new one
 leasts_more : (g : Grammar) (n : ℕ) (leasts : List ℕ) → AreCyclesBelow g n leasts → IsLeast g n → AreCyclesBelow g (n + 1) (leasts ++ n ∷ [])
@@ -89,7 +83,7 @@ module _ (g : Grammar) (n : ℕ) (rounds : List (List ℕ)) (on : List (Option O
       λ k w. ⊎_elim
           (λ l. absurd (let p = closed_walk g on below.closed (walks_back g w) (below.placed k l (walk_on_cycle g (walks_back g w) cycle)) in none_some (get_or on n None) p.0 none p.1))
           (λ l. l)
-          (less_or_not k n),
+          (cases_lt k n),
     )
 
     size : length (rounds ++ round ∷ []) ≡ length rounds + 1
@@ -141,7 +135,7 @@ module _ (g : Grammar) (n : ℕ) (rounds : List (List ℕ)) (on : List (Option O
         let some : 0 < length round = omega arith in
         let met : first ≡ b = by_same g linear (suc j) first first b (subst (λ k. GoesOnBy g k first first) (sym e) found.whole.whole.1) way in
         subst (IsPlaced after) met (placed.each 0 some))
-        (less_or_not (suc j) (length round))
+        (cases_lt (suc j) (length round))
       where
         first : ℕ
         first = least_of round
@@ -164,7 +158,7 @@ module _ (g : Grammar) (n : ℕ) (rounds : List (List ℕ)) (on : List (Option O
       few = (let q = below.few in omega (arith, size));
       leasts = subst (AreCyclesBelow g (n + 1)) (sym (map_push least_of rounds round ∙ ap (λ l. map least_of rounds ++ l ∷ []) found.first)) (leasts_more g n (map least_of rounds) below.leasts is_least);
       each = λ k h. (each_round k (omega (arith, size))).0;
-      short = λ k. ⊎_elim (λ l. (each_round k l).1) (λ l. no_round k l) (less_or_not k (length rounds + 1));
+      short = λ k. ⊎_elim (λ l. (each_round k l).1) (λ l. no_round k l) (cases_lt k (length rounds + 1));
       one_each = placed.count ∙ below.one_each;
       stands = stand;
       placed = λ m h c. ⊎_elim

@@ -1,5 +1,5 @@
 -- Modules that have a continuing step and no place yet.
-use Rattle.std.proofs.Common.{◌≡◌, ℕ, zero, suc, ◌<◌, ◌∙◌, ◌⊎◌, inl, inr, ⊎_elim, true, false, List, length, get_or, set, replicate, Option, None, Some, MatchOption, option_map, refl, sym, ap, true≢false}
+use Rattle.std.proofs.Common.{◌≡◌, ℕ, zero, suc, ◌<◌, ◌∙◌, ◌⊎◌, inl, inr, ⊎_elim, true, List, length, get_or, set, replicate, Option, None, Some, option_map, refl, sym, ap, true≢false}
 use Rattle.std.specs.Prelude.{is_some}
 use Rattle.std.proofs.lemmas.List.{map-set}
 use Rattle.std.proofs.Math.ListN.{get_or-map}
@@ -11,14 +11,6 @@ use Rattle.wf_recur.specs.Cycles.{OnSeen, on_of, step_of}
 use Rattle.wf_recur.specs.Rounds.{IsPlaced, stands_in}
 use Rattle.wf_recur.specs.Steps.{AreOnlySteps}
 use Rattle.wf_recur.proofs.Telling.{none_told}
-
-pub match_none : {A : Type 0} (o : Option A) (P : Type 0) (Q : A → Type 0) → MatchOption o P Q → is_some o ≡ false → P
-match_none None P Q h e = h
-match_none (Some x) P Q h e = absurd (true≢false e)
-
-pub match_some : {A : Type 0} (o : Option A) (P : Type 0) (Q : A → Type 0) → MatchOption o P Q → is_some o ≡ true → (x : A) × Q x
-match_some None P Q h e = absurd (true≢false (sym e))
-match_some (Some x) P Q h e = (x, h)
 
 -- a place that is held is told
 pub place_read : (on : List (Option OnCycle)) (m : ℕ) → is_some (get_or on m None) ≡ true → IsPlaced (stands_in on) m

@@ -1,16 +1,12 @@
 -- Lists in order: each element stands before all later ones.
-use Rattle.std.proofs.Common.{ℕ, zero, suc, ◌<◌, ◌≤◌, Bool, true, false, cond, List, [], ◌∷◌, ◌++◌, map, flat_map, filter, refl, sym, subst, inl, inr, ⊎_elim, arith}
+use Rattle.std.proofs.Common.{ℕ, zero, suc, ◌<◌, Bool, true, false, cond, List, [], ◌∷◌, ◌++◌, map, flat_map, filter, refl, sym, subst, inl, inr, ⊎_elim}
 use Rattle.wf_model.specs.Lists.{IsIn, numbers_from}
 use Rattle.wf_model.proofs.Lists.{in_append_cases, in_map_from, in_filter_from, in_flat_map_from}
+use Rattle.wf_model.proofs.NumberLists.{from_first}
 
 abbrev pub InOrder : {A : Type 0} → (A → A → Type 0) → List A → Type 0
 InOrder R [] = Unit {0}
 InOrder {A} R (x ∷ xs) = ((y : A) → IsIn y xs → R x y) × InOrder R xs
-
-from_first : (i k n : ℕ) → IsIn i (numbers_from k n) → k ≤ i
-from_first i k zero h = absurd h
-from_first i k (suc n) (inl e) = omega arith
-from_first i k (suc n) (inr h) = let r : suc k ≤ i = from_first i (suc k) n h in omega arith
 
 pub numbers_in_order : (k n : ℕ) → InOrder (λ (a b : ℕ). a < b) (numbers_from k n)
 numbers_in_order k zero = tt

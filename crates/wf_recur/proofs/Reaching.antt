@@ -2,22 +2,11 @@
 use Rattle.std.proofs.Common.{◌≡◌, ◌↔◌, ℕ, ◌+◌, ◌<◌, ◌∙◌, ◌∷◌, ◌++◌, [], Bool, true, false, List, length, get_or, Vec}
 use Rattle.std.specs.declared.alloc.Global.{Global}
 use Rattle.wf_model.specs.Grammar.{Grammar}
-use Rattle.wf_model.specs.WellFormed.{IsWellFormed}
-use Rattle.wf_model.specs.Proper.{Makes, Derives}
-use Rattle.wf_model.proofs.Walks.{walk_through, walk_one}
+use Rattle.wf_model.specs.Proper.{Makes}
+use Rattle.wf_model.proofs.Positions.{each_more}
 use Rattle.wf_recur.specs.Reaching.{IsRow}
-use Rattle.wf_recur.proofs.Lists.{each_more}
 use Rattle.wf_graph.specs.Graph.{HasEdge, IsReached}
-
--- what stands in a body is a module
-pub made_below : (g : Grammar) → IsWellFormed g → (a b : ℕ) → Makes g a b → b < length g.modules
-made_below g w a b d = (w.bodies d.0 d.1.0).modules b d.2
-
-derived_reached : (g : Grammar) (graph : List (Vec ℕ Global)) (marks : List Bool) (from : ℕ) → ((a b : ℕ) → HasEdge graph a b ↔ Makes g a b) → ((v : ℕ) → (get_or marks v false ≡ true) ↔ IsReached graph from v) → (v : ℕ) → (get_or marks v false ≡ true) ↔ Derives g from v
-derived_reached g graph marks from edges reached v = (
-  λ e. walk_through (λ z. z) (λ a b i. walk_one ((edges a b).0 i)) ((reached v).0 e),
-  λ d. (reached v).1 (walk_through (λ z. z) (λ a b m. walk_one ((edges a b).1 m)) d),
-)
+use Rattle.wf_graph.proofs.Deriving.{derived_reached}
 
 -- a row more
 pub row_more : (g : Grammar) (graph : List (Vec ℕ Global)) (rows : List (List Bool)) (m : ℕ) (row : List Bool) → length graph ≡ length g.modules → ((a b : ℕ) → HasEdge graph a b ↔ Makes g a b) → length row ≡ length graph → ((v : ℕ) → (get_or row v false ≡ true) ↔ IsReached graph m v) → length rows ≡ m → ((k : ℕ) → k < m → IsRow g k (get_or rows k [])) → (k : ℕ) → k < m + 1 → IsRow g k (get_or (rows ++ row ∷ []) k [])

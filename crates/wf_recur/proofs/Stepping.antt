@@ -15,13 +15,13 @@ use Rattle.wf_model.proofs.Lists.{in_filter, in_filter_from, in_flat_map, in_fla
 use Rattle.wf_model.proofs.Level.{in_numbers, numbers_in}
 use Rattle.wf_spec.specs.Bodies.{modules_at}
 use Rattle.wf_spec.specs.Tables.{productions_of}
-use Rattle.wf_spec.proofs.Tables.{numbers_from-last}
 use Rattle.wf_recur.specs.Cycles.{step_of}
 use Rattle.wf_recur.specs.Loops.{IsBefore}
 use Rattle.wf_recur.specs.Reaching.{AreDerived}
 use Rattle.wf_recur.specs.Steps.{steps_to, leads_back, back_steps, all_back_steps, TellsStep, AreTwoLeast}
-use Rattle.wf_recur.proofs.Heads.{headed_gives, headed_from}
+use Rattle.wf_spec.proofs.Heads.{headed_gives, headed_from}
 use Rattle.wf_recur.proofs.Order.{InOrder, numbers_in_order, filter_in_order, map_in_order, flat_in_order}
+use Rattle.wf_model.proofs.NumberLists.{numbers_from-last}
 
 pub target_below : (g : Grammar) → IsWellFormed g → (s : Step) → s.production < length g.productions → s.position < length (body_of g s.production) → target_of g s < length g.modules
 target_below g w s h i = (w.bodies s.production h).modules (target_of g s) (at_in (target_of g s) s.position (body_of g s.production) (is_at s.position (body_of g s.production) 0 i))

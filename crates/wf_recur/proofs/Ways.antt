@@ -1,28 +1,21 @@
 -- Going round a cycle.
-use Rattle.std.proofs.Common.{◌≡◌, ◌≢◌, ℕ, zero, suc, ◌+◌, ◌-◌, ◌<◌, ◌≤◌, ◌⊎◌, ◌∙◌, List, [], ◌∷◌, ◌++◌, length, get_or, set, Option, None, Some, unwrap_or, refl, sym, ap, subst, inl, inr, ⊎_elim, arith}
+use Rattle.std.proofs.Common.{◌≡◌, ◌≢◌, ℕ, zero, suc, ◌+◌, ◌-◌, ◌<◌, ◌≤◌, ◌⊎◌, ◌∙◌, List, [], ◌∷◌, ◌++◌, length, get_or, set, Option, None, Some, refl, sym, ap, subst, inl, inr, ⊎_elim, arith}
 use Rattle.std.proofs.lemmas.List.{get_or_append_left, get_or_push, length_push, length-set, get_or-set_same, get_or-set_other}
 use Rattle.std.proofs.lemmas.List.Sums.{sum_by-set}
 use Rattle.std.specs.Prelude.{is_none, cond}
+use Rattle.std.proofs.lemmas.Bool.{cases_eq, cases_lt}
+use Rattle.std.proofs.lemmas.Option.{same_Some}
 use Rattle.wf_model.specs.Lists.{Walk, here, onward}
 use Rattle.wf_model.specs.Grammar.{Grammar}
 use Rattle.wf_model.specs.Reach.{Step, target_of}
 use Rattle.wf_model.specs.Linear.{Continues, IsLinear, IsOnCycle, GoesOn, GoesOnBy, IsPlaceFrom, IsCycleLength}
+use Rattle.wf_model.proofs.Positions.{each_more}
 use Rattle.wf_recur.specs.Cycles.{OnSeen, least_of, IsRound}
 use Rattle.wf_recur.specs.Rounds.{IsPlaced, IsClosed, unplaced, IsPlaceOn, ArePlaced, IsWay, IsRoundFrom}
-use Rattle.wf_recur.proofs.Lists.{each_more}
 use Rattle.wf_recur.proofs.Going.{walks_back, walk_on_cycle, by_walk, walk_by, by_more, by_join, by_same, by_after, by_fewer}
 
 pub less_or_same : (k n : ℕ) → k < n + 1 → (k < n) ⊎ (k ≡ n)
 less_or_same k n h = grind arith
-
-pub less_or_not : (k n : ℕ) → (k < n) ⊎ (n ≤ k)
-less_or_not k n = grind arith
-
-same_or_other : (k n : ℕ) → (k ≡ n) ⊎ (k ≢ n)
-same_or_other k n = ⊎_elim (λ l. inr (λ e. absurd (omega arith))) (λ l. ⊎_elim (λ m. inr (λ e. absurd (omega arith))) (λ m. inl (omega arith)) (less_or_not n k)) (less_or_not k n)
-
-some_same : {A : Type 0} (x y : A) → Some x ≡ Some y → x ≡ y
-some_same x y e = ap (λ o. unwrap_or o x) e
 
 pub none_some : {A : Type 0} (o : Option A) (x : A) → o ≡ None → o ≡ Some x → ⊥
 none_some o x e f = cc
@@ -48,7 +41,7 @@ set_keeps : (on : List (Option OnSeen)) (m k : ℕ) (n o : OnSeen) → get_or on
 set_keeps on m k n o none e = ⊎_elim
     (λ d. absurd (none_some (get_or on k None) o (subst (λ z. get_or on z None ≡ None) (sym d) none) e))
     (λ d. get_or-set_other on m k (Some n) None d ∙ e)
-    (same_or_other k m)
+    (cases_eq k m)
 
 unplaced_less : (on : List (Option OnSeen)) (m : ℕ) (n : OnSeen) → m < length on → get_or on m None ≡ None → unplaced (set on m (Some n)) + 1 ≡ unplaced on
 unplaced_less on m n h none =
@@ -90,10 +83,10 @@ module _ (g : Grammar) (cycle : ℕ) (round : List ℕ) (before on : List (Optio
   told : (k : ℕ) (o : OnSeen) → get_or (set on m (Some own)) k None ≡ Some o → (get_or before k None ≡ Some o) ⊎ IsPlaceOn g cycle (round ++ m ∷ []) k o
   told k o e = ⊎_elim
       (λ (d : k ≡ m).
-      let same : own ≡ o = some_same own o (sym here_it_is ∙ (ap (λ z. get_or (set on m (Some own)) z None) (sym d) ∙ e)) in
+      let same : own ≡ o = same_Some own o (sym here_it_is ∙ (ap (λ z. get_or (set on m (Some own)) z None) (sym d) ∙ e)) in
       inr (subst (λ z. IsPlaceOn g cycle (round ++ m ∷ []) z o) (sym d) (subst (IsPlaceOn g cycle (round ++ m ∷ []) m) same its_own)))
       (λ d. ⊎_elim (λ a. inl a) (λ p. inr (moved k o p)) (placed.new k o (sym (get_or-set_other on m k (Some own) None d) ∙ e)))
-      (same_or_other k m)
+      (cases_eq k m)
 
   placed_more : ArePlaced g cycle (round ++ m ∷ []) before (set on m (Some (record { cycle = cycle; place = length round; step = s })))
   placed_more = record {
@@ -149,13 +142,13 @@ module _ (g : Grammar) (linear : IsLinear g) (from m : ℕ) (round : List ℕ) (
       fewest k positive h = ⊎_elim
           (λ l. absurd (way.differ 0 k positive l (is ∙ by_same g linear k from from (get_or round k 0) h (way.goes k l))))
           (λ l. l)
-          (less_or_not k (length round))
+          (cases_lt k (length round))
 
       soonest : (j : ℕ) → j < length round → (k : ℕ) → GoesOnBy g k from (get_or round j 0) → j ≤ k
       soonest j h k w = ⊎_elim
           (λ l. absurd (let k' : k < length round = omega arith in way.differ k j l h (by_same g linear k from (get_or round k 0) (get_or round j 0) (way.goes k k') w)))
           (λ l. l)
-          (less_or_not k j)
+          (cases_lt k j)
 
       parts : IsCycleLength g (least_of round) (length round) × ((j : ℕ) → j < length round → IsPlaceFrom g (least_of round) j (get_or round j 0))
       parts = subst (λ l. IsCycleLength g l (length round) × ((j : ℕ) → j < length round → IsPlaceFrom g l j (get_or round j 0))) (sym is) ((some, home, fewest), λ j h. (way.goes j h, soonest j h))

@@ -1,14 +1,10 @@
 -- The cycles of a grammar as a table.
 use Rattle.std.specs.Prelude.{◌≡◌, ℕ, ◌<◌, ◌≤◌, List, [], map, length, get_or, Option, Some, None}
-use Rattle.wf_model.specs.declared.body.Step.{Step as StepHeld}
 use Rattle.wf_model.specs.Grammar.{Grammar}
 use Rattle.wf_model.specs.Reach.{Step}
 use Rattle.wf_model.specs.Linear.{Continues, IsOnCycle, IsPlaceFrom, IsCycleLength, AreCycles}
 use Rattle.wf_recur.specs.declared.table.OnCycle.{OnCycle}
-
--- a step, as the definitions see it
-abbrev pub step_of : StepHeld → Step
-step_of s = record { production = s.production.0; position = s.position.0 }
+pub use Rattle.wf_model.specs.Steps.{step_of}
 
 -- where a module stands: the number of its cycle, its place there, and its continuing step
 pub record OnSeen : Type 0 where
@@ -23,6 +19,11 @@ on_of o = record { cycle = o.cycle.0; place = o.place; step = step_of o.step }
 pub record CyclesSeen : Type 0 where
   pub rounds : List (List ℕ)
   pub on : List (Option OnSeen)
+
+-- at most 1,024 cycles, of at most 1,024 modules each: a grammar has no more modules
+pub record AreFewRounds (rounds : List (List ℕ)) : Type 0 where
+  pub few : length rounds ≤ 1024
+  pub short : (k : ℕ) → length (get_or rounds k []) ≤ 1024
 
 -- the modules of a cycle; none past the end
 abbrev pub round_at : CyclesSeen → ℕ → List ℕ

@@ -10,4 +10,5 @@ mod table;
 
 pub use fault::RecurFault;
 pub use search::cycles;
+pub use steps::target;
 pub use table::{CycleNo, Cycles, OnCycle};

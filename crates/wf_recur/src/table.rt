@@ -1,6 +1,6 @@
 // The cycles of a grammar.
-ghost use Rattle.std.specs.Prelude.{◌≡◌, ◌<◌, ◌≤◌, [], None, length, map, get_or, option_map};
-ghost use Rattle.wf_recur.specs.Cycles.{on_of};
+ghost use Rattle.std.specs.Prelude.{◌≡◌, ◌<◌, [], None, length, get_or, option_map};
+ghost use Rattle.wf_recur.specs.Cycles.{on_of, AreFewRounds};
 ghost use Rattle.wf_recur.specs.Rounds.{rounds_in, stands_in};
 
 use std::marker::Model;
@@ -27,15 +27,19 @@ pub struct Cycles {
 
 impl Model for Cycles {
     ghost use Rattle.std.specs.Prelude.{map, option_map};
-    ghost use Rattle.wf_recur.specs.Cycles.{CyclesSeen, on_of};
+    ghost use Rattle.wf_recur.specs.Cycles.{CyclesSeen, on_of, AreFewRounds};
 
     ghost Value = { CyclesSeen };
 
     ghost view = { λ c. record { rounds = map (λ r. map (λ m. m.0) r.items) c.rounds.items; on = map (option_map on_of) c.on.items } };
+
+    ghost invariant = { λ c. AreFewRounds (map (λ r. map (λ m. m.0) r.items) c.rounds.items) };
 }
 
 impl Cycles {
+    /// The cycles whose modules these are, by place, and where each module stands.
     pub(crate) fn of_tables(rounds: Vec<Vec<ModNo>>, on: Vec<Option<OnCycle>>) -> Cycles
+        requires { AreFewRounds (rounds_in rounds.items) }
         ensures rounds { result.rounds ≡ rounds_in rounds.items }
         ensures on { result.on ≡ stands_in on.items }
     {
@@ -52,7 +56,6 @@ impl Cycles {
 
     /// How many cycles there are.
     pub fn count(&self) -> u16
-        requires { length self.now.rounds ≤ 1024 }
         ensures { result ≡ length self.now.rounds }
     {
         self.rounds.len() as u16
@@ -60,8 +63,7 @@ impl Cycles {
 
     /// How many modules a cycle has.
     pub fn length(&self, c: CycleNo) -> u16
-        requires in_range { c.0 < length self.now.rounds }
-        requires few { length (get_or self.now.rounds c.0 []) ≤ 1024 }
+        requires { c.0 < length self.now.rounds }
         ensures { result ≡ length (get_or self.now.rounds c.0 []) }
     {
         self.rounds[c.0 as usize].len() as u16

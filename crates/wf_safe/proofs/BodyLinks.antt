@@ -14,13 +14,6 @@ use Rattle.bool_mat.specs.Matrix.{has}
 use Rattle.wf_body.proofs.Rowing.{module_stands}
 use Rattle.wf_safe.specs.BodyGraph.{pair_link, row_links, matrix_links}
 
--- what stands past the end of a list
-abbrev pub no_inner : InnerHeld
-no_inner = record { pos = record { 0 = 0 }; port = record { 0 = 0 } }
-
-abbrev pub no_edge : EdgeHeld
-no_edge = record { from = no_inner; to = no_inner }
-
 next_is : (k : ℕ) → suc k ≡ k + 1
 next_is k = omega arith
 

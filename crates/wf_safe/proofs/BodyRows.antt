@@ -3,8 +3,9 @@ use Rattle.std.proofs.Common.{◌≡◌, ◌↔◌, ℕ, ◌+◌, ◌<◌, ◌^�
 use Rattle.std.proofs.Math.Seq.{get_or-append_seam}
 use Rattle.std.proofs.lemmas.List.{get_or_append_left}
 use Rattle.std.proofs.lemmas.Nat.{or_lt, pow_pos, pow_below}
+use Rattle.std.proofs.lemmas.Bool.{cases_eq}
 use Rattle.bool_mat.specs.Matrix.{has}
-use Rattle.bool_mat.proofs.Rows.{has_none, has_or, same_or_not}
+use Rattle.bool_mat.proofs.Rows.{has_none, has_or}
 
 -- the row has those of the first n columns that a property holds of, and no others
 pub record IsRowOf (P : ℕ → Type 0) (n row : ℕ) : Type 0 where
@@ -30,7 +31,7 @@ module _ (P : ℕ → Type 0) where
           λ p. (has_or row one k).1 (⊎_elim
               (λ e. inr ((o k).1 e))
               (λ e. let b = p.0 in let l : k < n = omega arith in inl ((r.columns k).1 (l, p.1)))
-              (same_or_not k n)),
+              (cases_eq k n)),
         );
         within = or_lt (n + 1) row one row_small one_small;
       }
@@ -45,7 +46,7 @@ module _ (P : ℕ → Type 0) where
           λ p. ⊎_elim
               (λ e. absurd (f (subst P e p.1)))
               (λ e. let b = p.0 in let l : k < n = omega arith in (r.columns k).1 (l, p.1))
-              (same_or_not k n),
+              (cases_eq k n),
         );
         within = omega arith;
       }
@@ -55,7 +56,7 @@ pub rows_more : (R : ℕ → ℕ → Type 0) (columns n row : ℕ) (rows new : L
     ((i o : ℕ) → i < n → o < columns → IsTrue (has (get_or rows i 0) o) ↔ R i o) → ((o : ℕ) → o < columns → IsTrue (has row o) ↔ R n o) →
     (i o : ℕ) → i < n + 1 → o < columns → IsTrue (has (get_or new i 0) o) ↔ R i o
 rows_more R columns n row rows new count e h here i o l m =
-    elim (same_or_not i n) [
+    elim (cases_eq i n) [
       | inl s ↦ let last : get_or new i 0 ≡ row = ap (λ l. get_or l i 0) e ∙ (ap (λ k. get_or (rows ++ row ∷ []) k 0) (s ∙ sym count) ∙ get_or-append_seam rows row [] 0) in
           subst (λ w. IsTrue (has w o) ↔ R i o) (sym last) (subst (λ k. IsTrue (has row o) ↔ R k o) (sym s) (here o m))
       | inr d ↦ let low : i < n = omega arith in

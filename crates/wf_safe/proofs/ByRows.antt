@@ -1,5 +1,6 @@
 -- What the rows that chosen productions induce tell of a view: it is safe exactly if each production agrees with its seen, expanded head.
 use Rattle.std.proofs.Common.{◌≡◌, ◌↔◌, ℕ, ◌<◌, Bool, true, false, IsTrue, List, map, length, Option, refl, sym, ap, ◌∙◌, subst, arith}
+use Rattle.std.specs.Cmp.Derive.{one_truth}
 use Rattle.wf_model.specs.Lists.{numbers_from}
 use Rattle.wf_model.specs.Grammar.{Grammar, head_of}
 use Rattle.wf_model.specs.View.{View, expands, shows, IsSeenModule}
@@ -11,7 +12,6 @@ use Rattle.wf_model.proofs.Level.{numbers_in}
 use Rattle.wf_body.specs.Matrices.{HasRows}
 use Rattle.wf_check.specs.Proper.{Ranking, IsRankingOf}
 use Rattle.wf_view.specs.Held.{HeldView, IsHeldFor}
-use Rattle.wf_view.proofs.Flagged.{same_tests}
 use Rattle.wf_laws.specs.Chosen.{HasBothExpansions}
 use Rattle.wf_laws.specs.Ranked.{RanksFall}
 use Rattle.wf_laws.proofs.Ranked.{ends_law}
@@ -47,7 +47,7 @@ module _ (g : Grammar) (v : HeldView) (r : Ranking) (rows : List (Option (List �
 
   pub induced_by : IsInducedBy g v.core (IsChosen choice) (pairs_of rows)
   induced_by = record {
-    shown = λ m seen x i o hi ho. let q = (known.shown m seen x).pairs i o hi ho in same_tests (pairs_of rows m i o) (shows v.core m i o) q.0 q.1;
+    shown = λ m seen x i o hi ho. let q = (known.shown m seen x).pairs i o hi ho in one_truth (pairs_of rows m i o) (shows v.core m i o) q.0 q.1;
     induced = λ p hp q seen x i o hi ho. subst (λ z. IsTrue (pairs_of rows (head_of g p) i o) ↔ BodyJoins g (pairs_of rows) z i o) (sym (c.ranked (head_of g p) p q)) ((known.induced (head_of g p) (seen, x)).pairs i o hi ho);
   }
 

@@ -7,14 +7,13 @@ use Rattle.wf_model.specs.declared.event.Event.{Event}
 use Rattle.wf_model.specs.Meaning.{pairs_of}
 use Rattle.wf_model.specs.Safe.{IsExpansion, Joins, BodyJoins, IsBy, IsChosen, Ends}
 use Rattle.wf_laws.specs.Chosen.{IsByOther}
-use Rattle.wf_laws.specs.Settled.{IsSettledBody, IsInducedWhereSettled, IsToldOfChoice}
-use Rattle.wf_laws.proofs.Settled.{settled_law}
+use Rattle.wf_laws.specs.Settled.{IsSettledBody, IsInducedWhereSettled}
 use Rattle.wf_safe.specs.declared.witness.Witness.{Witness}
 use Rattle.wf_safe.specs.Choosing.{HasNumbers}
 use Rattle.wf_safe.specs.Settling.{is_set, AreSet, AreAllRowsByChoice, AreApart}
 use Rattle.wf_safe.specs.Witness.{chosen_in, IsChoiceOf, IsOtherRun, IsWitness}
 use Rattle.wf_safe.proofs.SeenBelow.{seen_below}
-use Rattle.wf_safe.proofs.Disagreeing.{disagree_same, head_seen, head_expanded, one_joins, other_joins}
+use Rattle.wf_safe.proofs.Disagreeing.{disagree_same, head_seen, head_expanded, one_joins, other_joins, told_by}
 
 module _ (g : Grammar) (u : View) (choice : List (ℕ × ℕ)) (wf : IsWellFormed g) (rows : List (Option (List ℕ))) (all : AreAllRowsByChoice g u choice rows) where
   -- what is settled has rows
@@ -37,20 +36,17 @@ module _ (g : Grammar) (u : View) (w : Witness) (wf : IsWellFormed g) (rows : Li
   induced : IsInducedWhereSettled g u (IsChosen (chosen_in w.choice)) (pairs_of rows)
   induced = rows_induced g u (chosen_in w.choice) wf rows all
 
-  told : IsToldOfChoice g u (chosen_in w.choice)
-  told = settled_law g u (chosen_in w.choice) wf
-
   pub apart_from : IsWitness g u w → AreApart g rows w
   apart_from h =
       let s = (h.choice.seen w.«module».0 w.one.0 h.one).0 in
       let r = h.runs in
-      let one = told.ends w.«module».0 s r.one_run r.is_one.expansion_of r.is_one.by in
+      let one = (told_by g u w wf).ends w.«module».0 s r.one_run r.is_one.expansion_of r.is_one.by in
       let run : IsOtherRun g u (chosen_in w.choice) (head_of g w.other.0) w.other.0 h.runs.other_run = subst (λ z. IsOtherRun g u (chosen_in w.choice) z w.other.0 h.runs.other_run) (sym h.other.1) h.runs.is_other in
       let j = one_joins g u w (pairs_of rows) wf h induced in
       let k = other_joins g u w (pairs_of rows) wf h induced in
       record {
         one_set = settled_set g u (chosen_in w.choice) wf rows all one.0 w.«module».0 (seen_below g u w.«module».0 wf s) one.1;
-        other_set = body_set g u (chosen_in w.choice) wf rows all w.other.0 h.other.0 (told.other_ends w.other.0 (head_seen g u w (pairs_of rows) wf h induced) (head_expanded g u w (pairs_of rows) wf h induced) r.other_run run.expansion_of run.by);
+        other_set = body_set g u (chosen_in w.choice) wf rows all w.other.0 h.other.0 ((told_by g u w wf).other_ends w.other.0 (head_seen g u w (pairs_of rows) wf h induced) (head_expanded g u w (pairs_of rows) wf h induced) r.other_run run.expansion_of run.by);
         disagree = disagree_same w.joined_by_one _ _ _ _ (j.1, j.0) (k.1, k.0) r.disagree;
       }
 
@@ -59,7 +55,7 @@ module _ (g : Grammar) (u : View) (w : Witness) (wf : IsWellFormed g) (rows : Li
     seen = (ch.seen w.«module».0 w.one.0 nums.one).0
 
     one_run : (e : List Event) × IsExpansion g u w.«module».0 e × IsBy g u w.«module».0 (IsChosen (chosen_in w.choice)) e
-    one_run = told.run w.«module».0 seen (all.right.settled w.«module».0 apart.one_set)
+    one_run = (told_by g u w wf).run w.«module».0 seen (all.right.settled w.«module».0 apart.one_set)
 
     seen_head : IsSeenModule g u (head_of g w.other.0)
     seen_head = subst (IsSeenModule g u) (sym nums.other.1) seen
@@ -68,7 +64,7 @@ module _ (g : Grammar) (u : View) (w : Witness) (wf : IsWellFormed g) (rows : Li
     expanded_head = subst (λ z. IsTrue (expands u z)) (sym nums.other.1) (ch.seen w.«module».0 w.one.0 nums.one).1
 
     other_run : (e : List Event) × IsExpansion g u (head_of g w.other.0) e × IsByOther g u (head_of g w.other.0) (IsChosen (chosen_in w.choice)) w.other.0 e
-    other_run = told.other_run w.other.0 nums.other.0 seen_head expanded_head (λ k i. all.right.settled k (apart.other_set k i))
+    other_run = (told_by g u w wf).other_run w.other.0 nums.other.0 seen_head expanded_head (λ k i. all.right.settled k (apart.other_set k i))
 
     pub witness_from : IsWitness g u w
     witness_from = record {
@@ -83,9 +79,9 @@ module _ (g : Grammar) (u : View) (w : Witness) (wf : IsWellFormed g) (rows : Li
         other_run = other_run.0;
         is_other = subst (λ z. IsOtherRun g u (chosen_in w.choice) z w.other.0 other_run.0) nums.other.1 (record { expansion_of = other_run.1; by = other_run.2 });
         disagree = disagree_same w.joined_by_one _ _ _ _
-            (told.joins (pairs_of rows) induced w.«module».0 seen one_run.0 one_run.1 one_run.2 w.input.0 w.output.0 nums.input nums.output)
+            ((told_by g u w wf).joins (pairs_of rows) induced w.«module».0 seen one_run.0 one_run.1 one_run.2 w.input.0 w.output.0 nums.input nums.output)
             (subst (λ z. BodyJoins g (pairs_of rows) w.other.0 w.input.0 w.output.0 ↔ Joins g u z other_run.0 w.input.0 w.output.0) nums.other.1
-            (told.other_joins (pairs_of rows) induced w.other.0 seen_head expanded_head other_run.0 other_run.1 other_run.2 w.input.0 w.output.0))
+            ((told_by g u w wf).other_joins (pairs_of rows) induced w.other.0 seen_head expanded_head other_run.0 other_run.1 other_run.2 w.input.0 w.output.0))
             apart.disagree;
       };
     }

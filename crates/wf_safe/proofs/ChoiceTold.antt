@@ -10,7 +10,7 @@ use Rattle.wf_model.proofs.Level.{in_numbers, numbers_in}
 use Rattle.wf_view.specs.Held.{HeldView, IsHeldFor}
 use Rattle.wf_safe.specs.Choosing.{is_seen_expanded, needing_below, AreProductions}
 use Rattle.wf_safe.specs.Witness.{modules_in, IsChoiceOf}
-use Rattle.wf_safe.proofs.Rising.{IsRising, same_rising, numbers_rise}
+use Rattle.wf_model.proofs.Rising.{IsRising, same_rising, numbers_rise}
 use Rattle.wf_safe.proofs.SeenBelow.{seen_below}
 
 module _ (g : Grammar) (v : HeldView) (wf : IsWellFormed g) (held : IsHeldFor g v) where

@@ -1,13 +1,14 @@
 -- The choice of a production for each seen, expanded module, one module after another.
-use Rattle.std.proofs.Common.{◌≡◌, ℕ, zero, suc, ◌+◌, ◌<◌, ◌⊎◌, List, [], ◌∷◌, ◌++◌, length, refl, sym, ap, ◌∙◌, subst, inl, inr, ⊎_elim, arith}
+use Rattle.std.proofs.Common.{◌≡◌, ℕ, ◌+◌, ◌<◌, List, [], ◌∷◌, ◌++◌, length, sym, ap, ◌∙◌, subst, inl, inr, ⊎_elim, arith}
 use Rattle.std.proofs.lemmas.List.{map_push}
+use Rattle.std.proofs.lemmas.Bool.{cases_eq}
 use Rattle.wf_model.specs.Lists.{IsIn, IsAt}
 use Rattle.wf_model.specs.Grammar.{Grammar, IsProductionOf}
 use Rattle.wf_model.specs.View.{View}
 use Rattle.wf_model.specs.WellFormed.{IsWellFormed}
 use Rattle.wf_model.specs.Safe.{IsChosen}
 use Rattle.wf_model.proofs.Lists.{in_append_left, in_append_right, in_append_cases, at_in, at_below}
-use Rattle.bool_mat.proofs.Rows.{same_or_not}
+use Rattle.wf_model.proofs.Positions.{at_push}
 use Rattle.wf_check.specs.Proper.{Ranking, IsRankingOf}
 use Rattle.wf_view.specs.Held.{HeldView, IsHeldFor}
 use Rattle.wf_safe.specs.declared.witness.Choice.{Choice}
@@ -37,20 +38,13 @@ pub not_chosen : (g : Grammar) (u : View) (r : Ranking) (n : ℕ) (list : List (
 not_chosen g u r n list b not = record {
   in_order = b.in_order;
   below = λ m i. let l = b.below m i in omega arith;
-  all = λ m l o. elim (same_or_not m n) [
+  all = λ m l o. elim (cases_eq m n) [
     | inl e ↦ absurd (not (subst (IsSeenExpanded g u) e o))
     | inr e ↦ b.all m (omega arith) o
   ];
   seen = b.seen;
   ranked = b.ranked;
 }
-
--- what stands in a list with one more at its end
-at_push : {A : Type 0} (x : A) (k : ℕ) (xs : List A) (y : A) → IsAt x k (xs ++ y ∷ []) → IsAt x k xs ⊎ ((k ≡ length xs) × (x ≡ y))
-at_push x zero [] y h = inr (refl, h)
-at_push x (suc k) [] y h = absurd h
-at_push x zero (z ∷ xs) y h = inl h
-at_push x (suc k) (z ∷ xs) y h = ⊎_elim (λ i. inl i) (λ r. inr (ap suc r.0, r.1)) (at_push x k xs y h)
 
 order_more : (n : ℕ) (ms : List ℕ) → ((j k a b : ℕ) → j < k → IsAt a j ms → IsAt b k ms → a < b) → ((m : ℕ) → IsIn m ms → m < n) → (j k a b : ℕ) → j < k → IsAt a j (ms ++ n ∷ []) → IsAt b k (ms ++ n ∷ []) → a < b
 order_more n ms order below j k a b l x y =
@@ -65,7 +59,7 @@ chosen_more g u r n list b known =
     record {
       in_order = λ j k a b' l x y. order_more n (modules_in list) b.in_order b.below j k a b' l (subst (IsAt a j) e x) (subst (IsAt b' k) e y);
       below = λ m i. ⊎_elim (λ h. let l = b.below m h in omega arith) (λ h. ⊎_elim (λ (q : m ≡ n). omega arith) (λ z. absurd z) h) (in_append_cases m (modules_in list) (n ∷ []) (subst (IsIn m) e i));
-      all = λ m l o. subst (IsIn m) (sym e) (elim (same_or_not m n) [
+      all = λ m l o. subst (IsIn m) (sym e) (elim (cases_eq m n) [
         | inl q ↦ in_append_right m (modules_in list) (n ∷ []) (inl q)
         | inr q ↦ in_append_left m (modules_in list) (n ∷ []) (b.all m (omega arith) o)
       ]);

@@ -29,11 +29,12 @@ witness_law g u w h safe =
     (safe w.«module».0 seen r.one_run r.other_run one other w.input.0 w.output.0 h.input h.output)
     (safe w.«module».0 seen r.other_run r.one_run other one w.input.0 w.output.0 h.input h.output)
 
+-- what its choice tells
+pub told_by : (g : Grammar) (u : View) (w : Witness) → IsWellFormed g → IsToldOfChoice g u (chosen_in w.choice)
+told_by g u w wf = settled_law g u (chosen_in w.choice) wf
+
 -- the two expansions of a witness and the pairs of an assignment that its choice induces
 module _ (g : Grammar) (u : View) (w : Witness) (d : Assignment) (wf : IsWellFormed g) (h : IsWitness g u w) (ind : IsInducedWhereSettled g u (IsChosen (chosen_in w.choice)) d) where
-  told : IsToldOfChoice g u (chosen_in w.choice)
-  told = settled_law g u (chosen_in w.choice) wf
-
   pub head_seen : IsSeenModule g u (head_of g w.other.0)
   head_seen = subst (IsSeenModule g u) (sym h.other.1) (h.choice.seen w.«module».0 w.one.0 h.one).0
 
@@ -41,14 +42,14 @@ module _ (g : Grammar) (u : View) (w : Witness) (d : Assignment) (wf : IsWellFor
   head_expanded = subst (λ z. IsTrue (expands u z)) (sym h.other.1) (h.choice.seen w.«module».0 w.one.0 h.one).1
 
   pub one_joins : IsTrue (d w.«module».0 w.input.0 w.output.0) ↔ Joins g u w.«module».0 h.runs.one_run w.input.0 w.output.0
-  one_joins = told.joins d ind w.«module».0 (h.choice.seen w.«module».0 w.one.0 h.one).0 h.runs.one_run h.runs.is_one.expansion_of h.runs.is_one.by w.input.0 w.output.0 h.input h.output
+  one_joins = (told_by g u w wf).joins d ind w.«module».0 (h.choice.seen w.«module».0 w.one.0 h.one).0 h.runs.one_run h.runs.is_one.expansion_of h.runs.is_one.by w.input.0 w.output.0 h.input h.output
 
   pub other_joins : BodyJoins g d w.other.0 w.input.0 w.output.0 ↔ Joins g u w.«module».0 h.runs.other_run w.input.0 w.output.0
   other_joins =
       let e = h.runs.other_run in
       let run : IsOtherRun g u (chosen_in w.choice) (head_of g w.other.0) w.other.0 h.runs.other_run = subst (λ z. IsOtherRun g u (chosen_in w.choice) z w.other.0 h.runs.other_run) (sym h.other.1) h.runs.is_other in
       subst (λ z. BodyJoins g d w.other.0 w.input.0 w.output.0 ↔ Joins g u z h.runs.other_run w.input.0 w.output.0) h.other.1
-      (told.other_joins d ind w.other.0 head_seen head_expanded e run.expansion_of run.by w.input.0 w.output.0)
+      ((told_by g u w wf).other_joins d ind w.other.0 head_seen head_expanded e run.expansion_of run.by w.input.0 w.output.0)
 
   -- so the other production does not join the pair exactly where it is assigned to the module
   pub not_agreeing : AgreesOn g d w.other.0 w.input.0 w.output.0 → ⊥

@@ -1,6 +1,6 @@
 -- Rows are found in order of rank: what is known before a module is tried, and after.
 use Rattle.std.proofs.Common.{◌≡◌, ◌≢◌, ◌⊎◌, ◌↔◌, ℕ, ◌+◌, ◌<◌, ◌≤◌, true, false, IsTrue, List, length, set, length-set, Option, Some, refl, sym, ap, ◌∙◌, subst, inl, inr, ⊎_elim, arith, true≢false}
-use Rattle.std.proofs.lemmas.Bool.{cases_lt}
+use Rattle.std.proofs.lemmas.Bool.{cases_lt, cases_eq}
 use Rattle.std.proofs.lemmas.List.{get_or_past}
 use Rattle.wf_model.specs.Lists.{IsIn}
 use Rattle.wf_model.specs.Grammar.{Grammar, inputs_of, outputs_of, head_of, body_of}
@@ -8,7 +8,6 @@ use Rattle.wf_model.specs.View.{View, expands, IsSeenModule, in_body}
 use Rattle.wf_model.specs.Meaning.{pairs_of}
 use Rattle.wf_model.specs.WellFormed.{IsWellFormed}
 use Rattle.wf_model.specs.Safe.{BodyJoins}
-use Rattle.bool_mat.proofs.Rows.{same_or_not}
 use Rattle.wf_body.specs.Matrices.{HasRows, HaveRows}
 use Rattle.wf_check.specs.Proper.{Ranking, IsRankingOf}
 use Rattle.wf_view.specs.Held.{HeldView, IsHeldFor}
@@ -38,7 +37,7 @@ none_before g v r rows wf h held s = record {
 before_cases : (a m n k : ℕ) → ComesBefore a m n (k + 1) → ComesBefore a m n k ⊎ ((a ≡ n) × (m ≡ k))
 before_cases a m n k (inl l) = inl (inl l)
 before_cases a m n k (inr b) =
-    elim (same_or_not m k) [
+    elim (cases_eq m k) [
       | inl e ↦ inr (b.0, e)
       | inr e ↦ let l = b.1 in inl (inr (b.0, omega arith))
     ]
@@ -98,7 +97,7 @@ next_before g v r n k old new wf h held b o e s =
       one_each = length-set old k (Some s.rows) ∙ b.one_each;
       fit = fit_set g old s.rows k (this (omega arith) f.of_module.1).held b.fit;
       shown = λ m seen x. shown_stays g v.core old (Some s.rows) k m (λ q. true≢false (sym (ap (expands v.core) q ∙ o.1) ∙ x)) (b.shown m seen x);
-      induced = λ m p c. elim (same_or_not m k) [
+      induced = λ m p c. elim (cases_eq m k) [
         | inl q ↦ subst (HasInduced g r (set old k (Some s.rows))) (sym q) (this (omega arith) f.of_module.1)
         | inr q ↦ ⊎_elim (λ d. induced_stays g v r old (Some s.rows) k m wf h held p (⊎_elim (λ (z : rank_of r m < n). omega arith) (λ (z : (rank_of r m ≡ n) × (m < k)). let y = z.0 in omega arith) d) q (b.induced m p d)) (λ (d : (rank_of r m ≡ n) × (m ≡ k)). absurd (q d.1)) (before_cases (rank_of r m) m n k c)
       ];
@@ -127,7 +126,7 @@ next_rank g u r n rows wf b = record {
 }
   where
     cases : (a m : ℕ) → m < length g.modules → ComesBefore a m (n + 1) 0 → ComesBefore a m n (length g.modules)
-    cases a m l (inl z) = elim (same_or_not a n) [ inl e ↦ inr (e, l) | inr e ↦ inl (omega arith) ]
+    cases a m l (inl z) = elim (cases_eq a n) [ inl e ↦ inr (e, l) | inr e ↦ inl (omega arith) ]
     cases a m l (inr z) = let y = z.1 in absurd (omega arith)
 
 -- after the greatest rank all is known

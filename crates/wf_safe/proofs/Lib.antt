@@ -6,7 +6,6 @@ pub mod Taken
 pub mod Choices
 pub mod Needing
 pub mod Standing
-pub mod Rising
 pub mod ChoiceTold
 pub mod SameBodies
 pub mod Tables

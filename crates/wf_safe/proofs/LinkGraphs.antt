@@ -4,7 +4,7 @@ use Rattle.std.specs.declared.alloc.Global.{Global}
 use Rattle.wf_model.specs.Links.{Link}
 use Rattle.wf_model.proofs.Lists.{in_append_left, in_append_right, in_append_cases}
 use Rattle.wf_graph.specs.Graph.{HasEdge}
-use Rattle.wf_spec.specs.Graphs.{HasOneMore}
+use Rattle.wf_graph.specs.OneMore.{HasOneMore}
 use Rattle.wf_safe.specs.BodyGraph.{AddsLinks, IsGraphOf, Leads, vertex_of}
 
 leads_left : (xs ys : List (Link (Option ℕ))) (a b : ℕ) → Leads xs a b → Leads (xs ++ ys) a b

@@ -5,7 +5,7 @@ use Rattle.std.proofs.lemmas.List.{append_cancel_left}
 use Rattle.std.proofs.lemmas.List.Elements.{filter-append}
 use Rattle.std.proofs.lemmas.Bool.Decides.{nat_tests}
 use Rattle.wf_model.specs.Lists.{numbers_from}
-use Rattle.wf_spec.proofs.Tables.{numbers_from-last}
+use Rattle.wf_model.proofs.NumberLists.{numbers_from-last}
 use Rattle.wf_view.specs.Held.{HeldView}
 use Rattle.wf_safe.specs.declared.witness.Choice.{Choice}
 use Rattle.wf_safe.specs.Choosing.{is_seen_expanded, needing_below}

@@ -11,7 +11,7 @@ use Rattle.wf_check.specs.Proper.{Ranking}
 use Rattle.wf_safe.specs.declared.witness.Choice.{Choice}
 use Rattle.wf_safe.specs.declared.witness.Witness.{Witness}
 use Rattle.wf_safe.specs.Witness.{chosen_in, modules_in, IsChoiceOf, IsFirstWitness, ComesBefore, AgreesOn, OneWitnessLaw}
-use Rattle.wf_safe.proofs.Rising.{same_rising}
+use Rattle.wf_model.proofs.Rising.{same_rising}
 use Rattle.wf_safe.proofs.Disagreeing.{head_seen, head_expanded, not_agreeing, joined_told}
 
 -- a list of pairs by its modules, where these tell the productions

@@ -1,9 +1,9 @@
 -- A table of the pairs that a view shows, with one module more.
 use Rattle.std.proofs.Common.{◌≡◌, ℕ, ◌+◌, ◌<◌, Bool, true, false, cond, IsTrue, List, [], Option, None, Some, length, get_or, set, is_some, sym, ap, ◌∙◌, subst, ⊎_elim, refl, arith, true≢false}
+use Rattle.std.proofs.lemmas.Bool.{cases_eq}
 use Rattle.wf_model.specs.Grammar.{Grammar}
 use Rattle.wf_model.specs.View.{expands}
 use Rattle.wf_model.specs.Meaning.{bit_of}
-use Rattle.bool_mat.proofs.Rows.{same_or_not}
 use Rattle.wf_view.specs.Held.{HeldView, IsHeldFor, AreShownRows}
 use Rattle.wf_safe.specs.Settling.{is_set, AreShown, AreOnlyShownBelow}
 use Rattle.wf_safe.proofs.Tables.{pairs_same, set_here, set_there, table_more}
@@ -14,7 +14,7 @@ module _ (g : Grammar) (v : HeldView) (held : IsHeldFor g v) (m : ℕ) (low : m 
   not_shown ex = record {
     table = below.table;
     only = λ k h. let o = below.only k h in let l = o.0 in (omega arith, o.1);
-    shown = λ k h e. ⊎_elim (λ (s : k ≡ m). absurd (true≢false (sym ex ∙ (ap (expands v.core) (sym s) ∙ e)))) (λ n. below.shown k (let d : k ≡ m → ⊥ = n in omega arith) e) (same_or_not k m);
+    shown = λ k h e. ⊎_elim (λ (s : k ≡ m). absurd (true≢false (sym ex ∙ (ap (expands v.core) (sym s) ∙ e)))) (λ n. below.shown k (let d : k ≡ m → ⊥ = n in omega arith) e) (cases_eq k m);
   }
 
   -- any other gets those that the view shows
@@ -24,13 +24,13 @@ module _ (g : Grammar) (v : HeldView) (held : IsHeldFor g v) (m : ℕ) (low : m 
     only = λ k h. ⊎_elim
         (λ (s : k ≡ m). (omega arith, ap (expands v.core) s ∙ ex))
         (λ n. let o = below.only k (sym (is_set_there k n) ∙ h) in let l = o.0 in (omega arith, o.1))
-        (same_or_not k m);
+        (cases_eq k m);
     shown = λ k h e. ⊎_elim
         (λ (s : k ≡ m). subst (λ z. IsTrue (is_set new z) × AreShown g v.core new z) (sym s)
         (ap (λ (z : Option (List ℕ)). is_some z) here, λ i o hi ho. ap (λ (z : Option (List ℕ)). bit_of z i o) here ∙ rows.bits i o hi ho))
         (λ n. let b = below.shown k (let d : k ≡ m → ⊥ = n in omega arith) e in
         (is_set_there k n ∙ b.0, λ i o hi ho. pairs_same old new k (set_there g old m (get_or v.rows m []) there k n) i o ∙ b.1 i o hi ho))
-        (same_or_not k m);
+        (cases_eq k m);
   }
     where
       new : List (Option (List ℕ))

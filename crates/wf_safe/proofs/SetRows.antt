@@ -1,7 +1,7 @@
 -- Rows that are set for one module.
 use Rattle.std.proofs.Common.{◌≡◌, ◌≢◌, ◌↔◌, ℕ, ◌<◌, ◌^◌, IsTrue, List, length, get_or, set, length-set, Option, Some, None, replicate, inl, inr, ⊎_elim, sym, ap, ◌∙◌, subst, arith}
 use Rattle.std.specs.List.{All}
-use Rattle.std.proofs.lemmas.Bool.{cases_lt}
+use Rattle.std.proofs.lemmas.Bool.{cases_lt, cases_eq}
 use Rattle.std.proofs.lemmas.List.{get_or-set_same, get_or-set_other, get_or-replicate, get_or_past, length-replicate}
 use Rattle.wf_model.specs.Grammar.{Grammar, inputs_of, outputs_of}
 use Rattle.wf_model.specs.Meaning.{bit_of, pairs_of}
@@ -9,7 +9,6 @@ use Rattle.wf_model.specs.View.{View, shows}
 use Rattle.bool_mat.specs.Matrix.{has}
 use Rattle.wf_body.specs.Matrices.{HasRows, IsMatrixOf}
 use Rattle.wf_body.proofs.Rowing.{pair_is}
-use Rattle.bool_mat.proofs.Rows.{same_or_not}
 use Rattle.wf_safe.specs.Full.{AreFit}
 use Rattle.wf_safe.specs.Inducing.{HasPairs, HasShown}
 
@@ -47,7 +46,7 @@ pairs_set rows new m i o l = pair_is (set rows m (Some new)) new m i o (get_or-s
 
 -- rows that fit are set among rows that fit
 pub fit_set : (g : Grammar) (rows : List (Option (List ℕ))) (new : List ℕ) (m : ℕ) → HasRows g (set rows m (Some new)) m → AreFit g rows → AreFit g (set rows m (Some new))
-fit_set g rows new m h fit k = elim (same_or_not k m) [
+fit_set g rows new m h fit k = elim (cases_eq k m) [
   | inl e ↦ inl (subst (HasRows g (set rows m (Some new))) (sym e) h)
   | inr q ↦ ⊎_elim (λ a. inl (rows_stay g rows (Some new) m k q a)) (λ a. inr (get_or-set_other rows m k (Some new) None q ∙ a)) (fit k)
 ]

@@ -1,5 +1,6 @@
 -- Tables of rows stay right while choices settle their modules, one after another.
 use Rattle.std.proofs.Common.{◌≡◌, ◌↔◌, ℕ, ◌<◌, Bool, false, IsTrue, List, Option, None, Some, length, get_or, is_some, sym, ap, ◌∙◌, subst, ⊎_elim, true≢false}
+use Rattle.std.proofs.lemmas.Bool.{cases_eq}
 use Rattle.wf_model.specs.Lists.{Walk, here, onward}
 use Rattle.wf_model.specs.Grammar.{Grammar}
 use Rattle.wf_model.specs.WellFormed.{IsWellFormed}
@@ -9,10 +10,9 @@ use Rattle.wf_model.specs.Safe.{BodyJoins, IsChosen}
 use Rattle.wf_laws.specs.Settled.{IsSettled}
 use Rattle.wf_laws.proofs.Making.{settled_from}
 use Rattle.bool_mat.specs.Matrix.{has}
-use Rattle.bool_mat.proofs.Rows.{same_or_not}
 use Rattle.wf_safe.specs.Settling.{is_set, AreSet, IsTable, Settles, SettlesOne, AreTried, AreOnlyShownBelow, AreJoined, AreRowsByChoice, AreAllRowsByChoice}
 use Rattle.wf_safe.specs.Witness.{IsChoiceOf}
-use Rattle.wf_safe.proofs.Rising.{one_second}
+use Rattle.wf_model.proofs.Rising.{one_second}
 use Rattle.wf_safe.proofs.Tables.{has_is, place_there, pairs_same, set_here, set_there, table_more, joins_same}
 
 module _ (g : Grammar) (u : View) (choice : List (ℕ × ℕ)) (ch : IsChoiceOf g u choice) where
@@ -70,7 +70,7 @@ module _ (g : Grammar) (u : View) (choice : List (ℕ × ℕ)) (ch : IsChoiceOf 
       settled = λ k h. ⊎_elim
           (λ (e : k ≡ m). subst (IsSettled g u (IsChosen choice)) (sym e) (settled_from g u (IsChosen choice) m p chosen (ch.productions m p chosen) (λ j i. right.settled j (s.ready j i))))
           (λ n. right.settled k (was_set k n h))
-          (same_or_not k m);
+          (cases_eq k m);
       bodies = λ k q c h. ⊎_elim
           (λ (e : k ≡ m).
           let one : q ≡ p = one_second choice ch.in_order m q p (subst (λ z. IsChosen choice z q) e c) chosen in
@@ -78,7 +78,7 @@ module _ (g : Grammar) (u : View) (choice : List (ℕ × ℕ)) (ch : IsChoiceOf 
           (λ n. let w = was_set k n h in
           let b = right.bodies k q c w in
           (still_set q b.0, joined_there k q w b.0 b.1))
-          (same_or_not k m);
+          (cases_eq k m);
     }
 
   -- so it stays along further choices

@@ -5,6 +5,7 @@ use Rattle.std.specs.Int.{bit_at}
 use Rattle.std.proofs.lemmas.Grind.{common_steps}
 use Rattle.std.proofs.lemmas.Nat.Bits.{bit_at-zero}
 use Rattle.std.proofs.lemmas.List.{get_or-set_same, get_or-set_other, get_or_past, length-set}
+use Rattle.std.proofs.lemmas.Bool.{cases_eq}
 use Rattle.wf_model.specs.Lists.{IsIn}
 use Rattle.wf_model.specs.Grammar.{Grammar, module_at, inputs_of, outputs_of, body_of, IsProductionOf}
 use Rattle.wf_model.specs.WellFormed.{IsWellFormed}
@@ -12,7 +13,6 @@ use Rattle.wf_model.specs.Meaning.{bit_of, pairs_of}
 use Rattle.wf_model.specs.Safe.{BodyJoins}
 use Rattle.wf_model.proofs.Lists.{is_at, at_in}
 use Rattle.bool_mat.specs.Matrix.{has}
-use Rattle.bool_mat.proofs.Rows.{same_or_not}
 use Rattle.wf_body.specs.Matrices.{HasRows}
 use Rattle.wf_safe.proofs.SameBodies.{body_joins_same}
 use Rattle.wf_safe.specs.Settling.{is_set, IsTable, unset}
@@ -49,7 +49,7 @@ module _ (g : Grammar) (old : List (Option (List ℕ))) (m : ℕ) (rows : List �
     formed = λ k h. ⊎_elim
         (λ e. subst (HasRows g (set old m (Some rows))) (sym e) has_here)
         (λ n. rows_same g old (set old m (Some rows)) k (length-set old m (Some rows)) (set_there k n) (t.formed k (subst (λ (z : Option (List ℕ)). IsTrue (is_some z)) (set_there k n) h)))
-        (same_or_not k m);
+        (cases_eq k m);
   }
     where
       has_here : HasRows g (set old m (Some rows)) m

@@ -1,56 +1,57 @@
--- The names of heads, and deps parts on them.
-use Rattle.std.proofs.Common.{◌≡◌, ◌↔◌, ◌⊎◌, ℕ, ◌+◌, ◌<◌, ◌≤◌, true, List, [], ◌∷◌, ◌++◌, length, get_or, map, take, Option, sym, ap, subst, ◌∙◌, inl, inr, ⊎_elim}
-use Rattle.std.specs.Prelude.{position}
-use Rattle.std.proofs.lemmas.List.{map_more, take_all}
-use Rattle.wf_model.specs.declared.parts.ProdPart.{ProdPart}
-use Rattle.wf_model.specs.declared.parts.DepsPart.{DepsPart}
-use Rattle.wf_model.specs.Faults.{is_one_of}
-use Rattle.wf_model.specs.Lists.{IsIn}
-use Rattle.wf_model.proofs.Lists.{among_gives, among_not, in_append_left, in_append_right, in_append_cases, in_map, in_map_from}
-use Rattle.wf_spec.specs.Rules.{each, IsFirstFailing, IsOfAtomic}
-use Rattle.wf_spec.specs.declared.fault.FormFault.TheVariants.{DepsOnComposite}
-use Rattle.wf_spec.proofs.Rules.{position_is_first}
+-- The productions that a module heads, and what stands in their bodies.
+use Rattle.std.proofs.Common.{◌≡◌, ◌↔◌, ℕ, suc, ◌<◌, Bool, true, false, not, IsTrue, List, [], ◌∷◌, length, get_or, map, flat_map, refl, sym, ap, ◌∙◌, subst, inl, arith, true≢false}
+use Rattle.std.specs.Prelude.{◌==◌}
+use Rattle.std.proofs.lemmas.Bool.{eqb-true, eq-eqb}
+use Rattle.std.proofs.lemmas.Bool.Decides.{nat_tests}
+use Rattle.wf_model.specs.declared.numbers.ProdNo.{ProdNo}
+use Rattle.wf_model.specs.Lists.{IsIn, numbers_from}
+use Rattle.wf_model.specs.Composite.{is_composite}
+use Rattle.wf_model.specs.Grammar.{Grammar, head_of, body_of, IsComposite, IsProductionOf}
+use Rattle.wf_model.specs.Proper.{Makes}
+use Rattle.wf_model.proofs.Lists.{in_filter, in_filter_from, in_flat_map, in_flat_map_from, in_map, at_in, is_at}
+use Rattle.wf_model.proofs.Composites.{composite_is, atomic_is}
+use Rattle.wf_model.proofs.Level.{in_numbers, numbers_in}
+use Rattle.wf_spec.specs.Tables.{productions_of}
 
--- a name that is taken already
-pub taken : (names : List (List ℕ)) (name : List ℕ) → is_one_of names name ≡ true → (n : List ℕ) → IsIn n names ↔ (IsIn n names ⊎ (n ≡ name))
-taken names name h n = (inl, ⊎_elim (λ i. i) (λ e. subst (λ m. IsIn m names) (sym e) (among_gives name names h)))
+pub headed_gives : (g : Grammar) (m p : ℕ) → IsIn p (productions_of g m) → IsProductionOf g p m
+headed_gives g m p i =
+    let f = in_filter_from (λ k. head_of g k == m) p (numbers_from 0 (length g.productions)) i in
+    (omega (arith, in_numbers p 0 (length g.productions) f.0), eqb-true (head_of g p) m f.1)
 
-in_last : {A : Type 0} (n : A) (xs : List A) (x : A) → IsIn n (xs ++ x ∷ []) ↔ (IsIn n xs ⊎ (n ≡ x))
-in_last n xs x = (
-  λ i. ⊎_elim inl (λ l. ⊎_elim inr (λ z. absurd z) l) (in_append_cases n xs (x ∷ []) i),
-  ⊎_elim (in_append_left n xs (x ∷ [])) (λ e. in_append_right n xs (x ∷ []) (inl e)),
+pub headed_from : (g : Grammar) (m p : ℕ) → IsProductionOf g p m → IsIn p (productions_of g m)
+headed_from g m p h =
+    let l = h.0 in
+    in_filter (λ k. head_of g k == m) p (numbers_from 0 (length g.productions)) (numbers_in p 0 (length g.productions) (omega arith) (omega arith)) (eq-eqb (head_of g p) m h.1)
+
+-- each of a list of numbers is of such a production
+pub headed_at : (g : Grammar) (m : ℕ) (ps : List ProdNo) (k : ℕ) (d : ProdNo) → map (λ (p : ProdNo). p.0) ps ≡ productions_of g m → k < length ps → IsProductionOf g (get_or ps k d).0 m
+headed_at g m ps k d e h = headed_gives g m (get_or ps k d).0 (subst (IsIn (get_or ps k d).0) e (in_map (λ (p : ProdNo). p.0) (get_or ps k d) ps (at_in (get_or ps k d) k ps (is_at k ps d h))))
+
+-- the modules of all bodies of a module
+pub bodies_make : (g : Grammar) (m k : ℕ) → IsIn k (flat_map (body_of g) (productions_of g m)) ↔ Makes g m k
+bodies_make g m k = (
+  λ i. (let r = in_flat_map_from (body_of g) k (productions_of g m) i in (r.0, headed_gives g m r.0 r.1, r.2)),
+  λ d. in_flat_map (body_of g) d.0 k (productions_of g m) (headed_from g m d.0 d.1) d.2,
 )
 
--- one that is added
-pub added : (old new : List (List ℕ)) (name : List ℕ) → new ≡ old ++ name ∷ [] → (n : List ℕ) → IsIn n new ↔ (IsIn n old ⊎ (n ≡ name))
-added old new name is n = subst (λ (l : List (List ℕ)). IsIn n l ↔ (IsIn n old ⊎ (n ≡ name))) (sym is) (in_last n old name)
-
--- the heads so far, and the next
-pub heads_more : (rules : List ProdPart) (k : ℕ) (p : ProdPart) (name : List ℕ) (old new : List (List ℕ)) → k < length rules → p ≡ get_or rules k p → name ≡ p.head
-    → ((n : List ℕ) → IsIn n old ↔ IsIn n (map (λ (r : ProdPart). r.head) (take k rules))) → ((n : List ℕ) → IsIn n new ↔ (IsIn n old ⊎ (n ≡ name)))
-    → (n : List ℕ) → IsIn n new ↔ IsIn n (map (λ (r : ProdPart). r.head) (take (k + 1) rules))
-heads_more rules k p name old new inside was is before step n =
-    subst (λ (l : List (List ℕ)). IsIn n new ↔ IsIn n l) (sym whole) (
-      λ i. (in_last n so_far name).1 (⊎_elim (λ j. inl ((before n).0 j)) inr ((step n).0 i)),
-      λ i. (step n).1 (⊎_elim (λ j. inl ((before n).1 j)) inr ((in_last n so_far name).0 i)),
-    )
+-- a module is composite where it heads some production
+pub composite_told : (g : Grammar) (m : ℕ) (ps : List ProdNo) (empty : Bool) → empty ≡ (length ps == 0) → map (λ (p : ProdNo). p.0) ps ≡ productions_of g m → IsTrue (not empty) ↔ IsComposite g m
+composite_told g m [] empty e is = (
+  λ t. absurd (true≢false (sym t ∙ ap not e)),
+  λ d. absurd (subst (IsIn d.0) (sym is) (headed_from g m d.0 d.1)),
+)
+composite_told g m (p ∷ ps) empty e is = (
+  λ t. (p.0, headed_gives g m p.0 (subst (IsIn p.0) is (inl refl))),
+  λ d. ap not (e ∙ some_there (suc (length ps)) (omega arith)),
+)
   where
-    so_far : List (List ℕ)
-    so_far = map (λ (r : ProdPart). r.head) (take k rules)
+    some_there : (n : ℕ) → 0 < n → (n == 0) ≡ false
+    some_there n h = grind (arith, nat_tests)
 
-    whole : map (λ (r : ProdPart). r.head) (take (k + 1) rules) ≡ so_far ++ name ∷ []
-    whole = map_more (λ (r : ProdPart). r.head) rules k p inside ∙ ap (λ h. so_far ++ h ∷ []) (sym (is ∙ ap (λ (r : ProdPart). r.head) was))
-
-pub heads_all : (rules : List ProdPart) (k : ℕ) (names : List (List ℕ)) → length rules ≤ k → ((n : List ℕ) → IsIn n names ↔ IsIn n (map (λ (r : ProdPart). r.head) (take k rules)))
-    → (n : List ℕ) → IsIn n names ↔ IsIn n (map (λ (r : ProdPart). r.head) rules)
-heads_all rules k names past h n = subst (λ (l : List ProdPart). IsIn n names ↔ IsIn n (map (λ (r : ProdPart). r.head) l)) (take_all k rules past) (h n)
-
--- the first deps part whose module is a head is the first at which the rule fails
-pub first_composite : (rules : List ProdPart) (deps : List DepsPart) (names : List (List ℕ)) (answer : Option ℕ)
-    → ((n : List ℕ) → IsIn n names ↔ IsIn n (map (λ (r : ProdPart). r.head) rules)) → answer ≡ position (λ (d : DepsPart). is_one_of names d.«module») deps
-    → IsFirstFailing (each deps (IsOfAtomic rules) DepsOnComposite) answer
-first_composite rules deps names answer heads is =
-    position_is_first (λ (d : DepsPart). is_one_of names d.«module») (IsOfAtomic rules) DepsOnComposite deps answer
-    (λ d i no p j e. among_not d.«module» names no ((heads d.«module»).1 (subst (λ n. IsIn n (map (λ (r : ProdPart). r.head) rules)) e (in_map (λ (r : ProdPart). r.head) p rules j))))
-    (λ d i bad all. (let r = in_map_from (λ (q : ProdPart). q.head) d.«module» rules ((heads d.«module»).0 (among_gives d.«module» names bad)) in all r.0 r.1 (sym r.2)))
-    is
+-- and so its test says
+pub composite_tested : (g : Grammar) (m : ℕ) (ps : List ProdNo) (empty : Bool) → empty ≡ (length ps == 0) → map (λ (p : ProdNo). p.0) ps ≡ productions_of g m → not empty ≡ is_composite g m
+composite_tested g m ps empty e is = by (composite_told g m ps empty e is) (not empty) refl
+  where
+    by : IsTrue (not empty) ↔ IsComposite g m → (b : Bool) → not empty ≡ b → not empty ≡ is_composite g m
+    by told true t = t ∙ sym (composite_is g m (told.0 t))
+    by told false t = t ∙ sym (atomic_is g m (λ d. true≢false (sym (told.1 d) ∙ t)))

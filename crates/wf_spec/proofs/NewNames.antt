@@ -1,10 +1,11 @@
 -- Names that are none of those before them.
-use Rattle.std.proofs.Common.{◌≡◌, ℕ, ◌+◌, ◌<◌, false, true, List, [], ◌∷◌, ◌++◌, map, take, length, get_or, sym, ap, subst, ◌∙◌, below_more}
+use Rattle.wf_model.proofs.Lists.{in_at, at_below, at_is, among_gives, among_not}
+use Rattle.wf_model.specs.Lists.{AllDiffer, IsIn}
+use Rattle.std.proofs.Common.{arith, inl, inr, suc, ◌≡◌, ℕ, ◌+◌, ◌<◌, false, true, List, [], ◌∷◌, ◌++◌, map, take, length, get_or, sym, ap, subst, ◌∙◌, below_more}
 use Rattle.std.proofs.lemmas.List.{take-map, get_or-map, map_more}
-use Rattle.wf_model.specs.Lists.{IsIn}
 use Rattle.wf_model.specs.Faults.{is_one_of}
-use Rattle.wf_model.proofs.Lists.{among_gives, among_not}
-use Rattle.wf_spec.specs.Rules.{IsNewAt, FailsFirstAt}
+use Rattle.wf_spec.specs.Naming.{IsNewAt}
+use Rattle.wf_spec.specs.FirstFaults.{FailsFirstAt}
 
 module _ {A : Type 0} (f : A → List ℕ) (xs : List A) (k : ℕ) (x : A) (was : x ≡ get_or xs k x) (inside : k < length xs) where
   name_at : get_or (map f xs) k [] ≡ f x
@@ -32,3 +33,14 @@ module _ {A : Type 0} (f : A → List ℕ) (xs : List A) (k : ℕ) (x : A) (was 
 
   pub names_more : (taken longer : List (List ℕ)) (name : List ℕ) → taken ≡ map f (take k xs) → name ≡ f x → longer ≡ taken ++ name ∷ [] → longer ≡ map f (take (k + 1) xs)
   names_more taken longer name is same more = more ∙ ap (λ l. l ++ name ∷ []) is ∙ ap (λ n. map f (take k xs) ++ n ∷ []) (same ∙ ap f was) ∙ sym (map_more f xs k x inside)
+
+-- names that are new at each place differ
+pub new_differ : (names : List (List ℕ)) → ((k : ℕ) → k < length names → IsNewAt names k) → AllDiffer names
+new_differ [] h = tt
+new_differ (n ∷ names) h = (
+  λ i.
+      let r = in_at n names i in
+      let inside : suc r.0 < suc (length names) = (let a = at_below n r.0 names r.1 in omega arith) in
+      h (suc r.0) inside (inl (at_is n r.0 names [] r.1)),
+  new_differ names (λ k inside i. h (suc k) (omega arith) (inr i)),
+)

@@ -7,12 +7,12 @@ use Rattle.wf_model.specs.declared.parts.PairPart.{PairPart}
 use Rattle.wf_model.specs.Lists.{IsIn}
 use Rattle.wf_model.specs.Grammar.{Module}
 use Rattle.wf_model.proofs.Lists.{among_gives, among_from}
-use Rattle.wf_spec.specs.Forming.{place_of, names_of, module_in}
-use Rattle.wf_spec.specs.Rules.{HasKnownPairs}
-use Rattle.wf_spec.proofs.Ends.{all_gives, all_from}
+use Rattle.wf_spec.specs.Naming.{place_of, names_of, module_in}
+use Rattle.wf_spec.specs.Pairs.{HasKnownPairs}
+use Rattle.wf_spec.proofs.Tests.{all_gives, all_from}
 
 -- the test of a pair
-abbrev is_pair_of : Module → PairPart → Bool
+abbrev pub is_pair_of : Module → PairPart → Bool
 is_pair_of m e = list_any (bytes_eq e.input) m.inputs && list_any (bytes_eq e.output) m.outputs
 
 listed : (n : List ℕ) (ns : List (List ℕ)) → list_any (bytes_eq n) ns ≡ true → IsIn n ns

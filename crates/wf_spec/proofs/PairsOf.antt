@@ -1,13 +1,12 @@
 -- Pairs of parts, by numbers.
-use Rattle.std.proofs.Common.{◌≡◌, ℕ, ◌<◌, List, map, length, get_or, sym, ap, ◌∙◌, subst}
+use Rattle.std.proofs.Common.{◌≡◌, ℕ, ◌<◌, List, length, get_or, sym, ap, ◌∙◌, subst}
 use Rattle.std.proofs.lemmas.List.{length-map, get_or_default}
 use Rattle.wf_model.specs.declared.parts.DepsPart.{DepsPart}
 use Rattle.wf_model.specs.declared.parts.PairPart.{PairPart}
 use Rattle.wf_model.specs.Lists.{IsIn}
-use Rattle.wf_model.specs.Grammar.{Module, Given}
-use Rattle.wf_spec.specs.Forming.{place_of, names_of, module_in, given_in}
-use Rattle.wf_spec.specs.Rows.{pair_in}
-use Rattle.wf_spec.specs.Rules.{HasKnownPairs}
+use Rattle.wf_model.specs.Grammar.{Module}
+use Rattle.wf_spec.specs.Naming.{place_of, names_of, module_in}
+use Rattle.wf_spec.specs.Pairs.{HasKnownPairs}
 
 -- the module of a name, as it is read
 pub read_module : (modules : List Module) (names : List (List ℕ)) (name told : List ℕ) (k : ℕ) (m : Module) → names ≡ names_of modules → told ≡ name → k ≡ place_of names told → k < length names
@@ -25,11 +24,3 @@ pub read_pairs : (modules : List Module) (d : DepsPart) (m : Module) (pairs : Li
     → (e : PairPart) → IsIn e pairs → IsIn e.input m.inputs × IsIn e.output m.outputs
 read_pairs modules d m pairs at same known e here =
     subst (λ (x : Module). IsIn e.input x.inputs × IsIn e.output x.outputs) (sym at) (known e (subst (IsIn e) same here))
-
--- what a part gives, as it is made
-pub made_given : (modules : List Module) (d : DepsPart) (given : Given) (m : Module) (pairs : List PairPart) → m ≡ module_in modules (place_of (names_of modules) d.module) → pairs ≡ d.pairs
-    → given.module_no ≡ place_of (names_of modules) d.module → given.pairs ≡ map (pair_in m) pairs → given ≡ given_in modules d
-made_given modules d given m pairs at same number are =
-    ap (λ n. let r : Given = record { module_no = n; pairs = given.pairs } in r) number
-    ∙ ap (λ ps. let r : Given = record { module_no = place_of (names_of modules) d.module; pairs = ps } in r)
-    (are ∙ (ap (map (pair_in m)) same ∙ ap (λ (x : Module). map (pair_in x) d.pairs) at))

@@ -1,11 +1,7 @@
-pub mod Assembling
 pub mod Bodies
-pub mod Ends
-pub mod Forming
-pub mod Graphs
+pub mod FirstFaults
 pub mod Held
-pub mod Resolving
+pub mod Naming
+pub mod Pairs
 pub mod Rows
-pub mod Rules
 pub mod Tables
-pub mod Wiring

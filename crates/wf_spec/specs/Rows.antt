@@ -1,12 +1,8 @@
--- Rows of bits for sets of pairs, and how they are made.
-use Rattle.std.specs.Prelude.{◌≡◌, ℕ, ◌<◌, ◌≤◌, Bool, false, not, cond, ◌&&◌, ◌==◌, List, [], map, length, get_or, Vec}
-use Rattle.std.specs.declared.alloc.Global.{Global}
+-- Rows of bits for sets of pairs.
+use Rattle.std.specs.Prelude.{◌≡◌, ℕ, ◌<◌, ◌≤◌, Bool, cond, ◌&&◌, ◌==◌, List, length, get_or}
 use Rattle.std.specs.Int.{bit_at}
-use Rattle.wf_model.specs.declared.parts.PairPart.{PairPart}
-use Rattle.wf_model.specs.Lists.{IsIn, some}
-use Rattle.wf_model.specs.Grammar.{Module, Given}
-use Rattle.wf_spec.specs.declared.given.Pair.{Pair}
-use Rattle.wf_spec.specs.Forming.{place_of, module_in}
+use Rattle.wf_model.specs.Lists.{some}
+use Rattle.wf_model.specs.Grammar.{Module}
 
 -- the bit of a pair in rows
 abbrev pub bit_in : List ℕ → ℕ → ℕ → ℕ
@@ -18,14 +14,6 @@ pub record AreAlike (m : Module) (all : Bool) (rows : List ℕ) : Type 0 where
   pub bits : (i o : ℕ) → i < length m.inputs → o < length m.outputs → bit_in rows i o ≡ cond {A = ℕ} all 1 0
   pub no_more : (i o : ℕ) → length m.outputs ≤ o → bit_in rows i o ≡ 0
 
--- a pair, as it is held
-abbrev pub pair_of : Pair → ℕ × ℕ
-pair_of e = (e.input.0, e.output.0)
-
--- a pair of names, by numbers
-abbrev pub pair_in : Module → PairPart → ℕ × ℕ
-pair_in m e = (place_of m.inputs e.input, place_of m.outputs e.output)
-
 -- pairs hold a pair
 abbrev pub has_pair : List (ℕ × ℕ) → ℕ → ℕ → Bool
 has_pair pairs i o = some (λ (e : ℕ × ℕ). (e.0 == i) && (e.1 == o)) pairs
@@ -33,45 +21,3 @@ has_pair pairs i o = some (λ (e : ℕ × ℕ). (e.0 == i) && (e.1 == o)) pairs
 -- the bits of pairs are set, and the others are as before
 abbrev pub AreAdded : List (ℕ × ℕ) → List ℕ → List ℕ → Type 0
 AreAdded pairs before after = (i o : ℕ) → bit_in after i o ≡ cond {A = ℕ} (has_pair pairs i o) 1 (bit_in before i o)
-
--- a table of rows, as it is held
-abbrev pub table_of : List (Vec ℕ Global) → List (List ℕ)
-table_of = map (λ v. v.items)
-
--- the rows of a module in a table
-abbrev pub rows_in : List (List ℕ) → ℕ → List ℕ
-rows_in table m = get_or table m []
-
--- parts give a pair to a module
-abbrev pub gives : List Given → ℕ → ℕ → ℕ → Bool
-gives given m i o = some (λ (d : Given). (d.module_no == m) && has_pair d.pairs i o) given
-
--- a part names a module
-abbrev pub names_it : List Given → ℕ → Bool
-names_it given m = some (λ (d : Given). d.module_no == m) given
-
--- the bits of what parts give are set, and the others are as before
-pub record AreAllAdded (given : List Given) (before after : List (List ℕ)) : Type 0 where
-  pub as_many : (m : ℕ) → length (rows_in after m) ≡ length (rows_in before m)
-  pub bits : (m i o : ℕ) → bit_in (rows_in after m) i o ≡ cond {A = ℕ} (gives given m i o) 1 (bit_in (rows_in before m) i o)
-
--- what parts give has a place in a table
-pub record HavePlaces (given : List Given) (table : List (List ℕ)) : Type 0 where
-  pub module_no : (d : Given) → IsIn d given → d.module_no < length table
-  pub inputs : (d : Given) (e : ℕ × ℕ) → IsIn d given → IsIn e d.pairs → e.0 < length (rows_in table d.module_no)
-  pub outputs : (d : Given) (e : ℕ × ℕ) → IsIn d given → IsIn e d.pairs → e.1 < 64
-
--- a flag for each of so many modules, that a part names it
-pub record AreNamed (given : List Given) (modules : ℕ) (flags : List Bool) : Type 0 where
-  pub one_each : length flags ≡ modules
-  pub each : (m : ℕ) → m < modules → get_or flags m false ≡ names_it given m
-
--- the rows of the first n modules, before pairs are added: none where a part names the module, and else all
-pub record AreFirst (modules : List Module) (flags : List Bool) (n : ℕ) (table : List (List ℕ)) : Type 0 where
-  pub one_each : length table ≡ n
-  pub each : (m : ℕ) → m < n → AreAlike (module_in modules m) (not (get_or flags m false)) (rows_in table m)
-
--- the pairs of parts are ports of modules
-pub record AreGivenIn (modules : List Module) (given : List Given) : Type 0 where
-  pub module_no : (d : Given) → IsIn d given → d.module_no < length modules
-  pub pairs : (d : Given) (e : ℕ × ℕ) → IsIn d given → IsIn e d.pairs → (e.0 < length (module_in modules d.module_no).inputs) × (e.1 < length (module_in modules d.module_no).outputs)

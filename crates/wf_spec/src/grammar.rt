@@ -1,8 +1,10 @@
 // Workflow grammars.
-ghost use Rattle.std.specs.Prelude.{◌≡◌, ◌<◌, [], map, length, option_map, position, bytes_eq, IfSome};
-ghost use Rattle.wf_model.specs.Grammar.{IsAtomic, alternative_of, production_at};
+ghost use Rattle.std.specs.Prelude.{◌≡◌, ◌<◌, ◌≤◌, ◌↔◌, [], map, length, option_map, position, bytes_eq, IfSome, IsTrue};
+ghost use Rattle.wf_model.specs.Composite.{is_composite};
+ghost use Rattle.wf_model.specs.Grammar.{IsAtomic, IsComposite, alternative_of, inputs_of, outputs_of, production_at};
 ghost use Rattle.wf_model.specs.Lists.{numbers_from};
 ghost use Rattle.wf_model.specs.WellFormed.{IsWellFormed};
+ghost use Rattle.wf_spec.specs.Held.{core_of};
 ghost use Rattle.wf_spec.specs.Tables.{AreRowsOf, IsKept, numbers_in, productions_of};
 
 use crate::given::Given;
@@ -26,18 +28,19 @@ pub struct Grammar {
 
 impl Model for Grammar {
     ghost use Rattle.std.specs.Prelude.{map};
-    ghost use Rattle.wf_spec.specs.Held.{HeldGrammar};
+    ghost use Rattle.wf_spec.specs.Held.{HeldGrammar, core_of};
     ghost use Rattle.wf_spec.specs.Tables.{IsKept, numbers_in};
 
     ghost Value = { HeldGrammar };
 
-    ghost view = { λ g. record { core = record { start = g.start.0; modules = g.modules; productions = map (λ p. p.core) g.productions; given = g.given } } };
+    ghost view = { λ g. record { core = core_of g.start.0 g.modules g.productions g.given } };
 
-    ghost invariant = { λ g. IsKept (record { start = g.start.0; modules = g.modules; productions = map (λ p. p.core) g.productions; given = g.given }) g.names (numbers_in g.by_head.items) (map (λ v. v.items) g.rows.items) (map (λ p. p.alternative) g.productions) };
+    ghost invariant = { λ g. IsKept (core_of g.start.0 g.modules g.productions g.given) g.names (numbers_in g.by_head.items) (map (λ v. v.items) g.rows.items) (map (λ p. p.alternative) g.productions) };
 }
 
 impl Grammar {
-    pub(crate) fn of_tables(
+    /// A grammar of its lists and its tables: the names of its modules, the productions of each, and the rows of pairs.
+    pub fn of_tables(
         start: ModNo,
         modules: Seq<Module>,
         productions: Seq<Production>,
@@ -46,8 +49,8 @@ impl Grammar {
         by_head: Vec<Vec<ProdNo>>,
         rows: Vec<Vec<u64>>,
     ) -> Grammar
-        requires { IsKept (record { start = start.0; modules = modules; productions = map (λ p. p.core) productions; given = given }) names (numbers_in by_head.items) (map (λ v. v.items) rows.items) (map (λ p. p.alternative) productions) }
-        ensures { result.core ≡ record { start = start.0; modules = modules; productions = map (λ p. p.core) productions; given = given } }
+        requires { IsKept (core_of start.0 modules productions given) names (numbers_in by_head.items) (map (λ v. v.items) rows.items) (map (λ p. p.alternative) productions) }
+        ensures { result.core ≡ core_of start.0 modules productions given }
     {
         Grammar {
             start,
@@ -121,5 +124,34 @@ impl Grammar {
         ensures { AreRowsOf self.now.core m.0 result.now }
     {
         self.rows[m.0 as usize].as_slice()
+    }
+
+    /// Whether a module is the head of a production.
+    pub fn is_composite(&self, m: ModNo) -> bool
+        requires { m.0 < length self.now.core.modules }
+        ensures test { result ≡ is_composite self.now.core m.0 }
+        ensures composite { IsTrue result ↔ IsComposite self.now.core m.0 }
+    {
+        !self.alternatives(m).is_empty()
+    }
+
+    /// How many inputs a module has.
+    pub fn input_count(&self, m: ModNo) -> u8
+        requires { m.0 < length self.now.core.modules }
+        ensures count { result ≡ inputs_of self.now.core m.0 }
+        ensures few { result ≤ 64 }
+        ensures formed { IsWellFormed self.now.core }
+    {
+        self.modules()[m.0 as usize].inputs().len() as u8
+    }
+
+    /// How many outputs a module has.
+    pub fn output_count(&self, m: ModNo) -> u8
+        requires { m.0 < length self.now.core.modules }
+        ensures count { result ≡ outputs_of self.now.core m.0 }
+        ensures few { result ≤ 64 }
+        ensures formed { IsWellFormed self.now.core }
+    {
+        self.modules()[m.0 as usize].outputs().len() as u8
     }
 }

@@ -1,26 +1,21 @@
-//! Workflow grammars: the parts that a specification names, put together and tested.
+//! Workflow grammars: their modules and productions, and what their readers ask of them.
 #![tactic(auto)]
 
-mod assemble;
-mod build;
-mod checks;
 mod deps;
-mod fault;
 mod given;
 mod grammar;
-mod law;
-mod links;
+mod making;
 mod module;
 mod production;
 mod rule;
-mod wiring;
 
 pub use deps::Deps;
-pub use fault::{FormFault, Spot};
+pub use given::{Given, Pair};
 pub use grammar::Grammar;
-pub use law::forming_law;
+pub use making::{making_graph, modules_made};
 pub use module::Module;
 pub use production::Production;
+pub use rule::Rule;
 pub use wf_model::{
     DepsPart, Edge, EdgeNo, EdgePart, EntryPart, Event, ExitPart, Inner, ModNo, ModulePart, Name,
     PairPart, Parts, PortNo, PortPart, PosNo, PosPart, Position, ProdNo, ProdPart, RunFault, Seq,

@@ -22,7 +22,8 @@ impl Model for Production {
 }
 
 impl Production {
-    pub(crate) fn of_rule(rule: Rule, alternative: u16) -> Production
+    /// A production, with its alternative number.
+    pub fn of_rule(rule: Rule, alternative: u16) -> Production
         ensures core { result.core ≡ rule }
         ensures alternative { result.alternative ≡ alternative }
     {

@@ -2,7 +2,8 @@
 use Rattle.std.proofs.Common.{◌≡◌, ℕ, ◌+◌, ◌<◌, true, false, List, [], ◌∷◌, ◌++◌, map, take, length, get_or, sym, ◌∙◌, subst}
 use Rattle.std.proofs.lemmas.List.{map-id}
 use Rattle.wf_model.specs.Faults.{is_one_of}
-use Rattle.wf_spec.specs.Rules.{IsNewAt, FailsFirstAt}
+use Rattle.wf_spec.specs.Naming.{IsNewAt}
+use Rattle.wf_spec.specs.FirstFaults.{FailsFirstAt}
 use Rattle.wf_spec.proofs.NewNames
 
 module _ (names : List (List ℕ)) (k : ℕ) (one : List ℕ) (was : one ≡ get_or names k one) (inside : k < length names) (taken : List (List ℕ)) (name : List ℕ) (is : taken ≡ take k names) (same : name ≡ one) (before : (j : ℕ) → j < k → IsNewAt names j) where

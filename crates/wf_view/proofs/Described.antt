@@ -8,19 +8,22 @@ use Rattle.wf_model.specs.Grammar.{Grammar, IsComposite, is_given}
 use Rattle.wf_model.specs.View.{expands, IsViewOf, IsShownByDefault}
 use Rattle.wf_model.specs.WellFormed.{IsWellFormed}
 use Rattle.wf_model.proofs.Lists.{some_from, some_gives, in_map, same_bytes, bytes_same, among_gives, among_from}
-use Rattle.wf_spec.specs.Rules.{HasKnownPairs}
+use Rattle.wf_spec.specs.Pairs.{HasKnownPairs}
 use Rattle.wf_view.specs.declared.fault.ViewSpot.TheVariants.{DepsAt}
 use Rattle.wf_view.specs.declared.fault.ViewFault.TheVariants.{UnknownModule, NotComposite, DepsOnExpanded, UnknownPort}
 use Rattle.wf_view.specs.Laws.{DescribedLaw, IsDescribed, ShowsPart}
 use Rattle.wf_view.specs.Rules.{listed, number_in, deps_names, IsCompositeName, IsModuleName, IsOnShown, IsViewed}
-use Rattle.wf_view.specs.Viewing.{name_of, input_name, output_name, is_about, is_among, is_composite, is_expanded, is_pair, is_shown, view_of}
-use Rattle.wf_view.proofs.First.{holds_of}
-use Rattle.wf_view.proofs.Heading.{composite_gives, composite_from, composite_below}
+use Rattle.wf_model.specs.Composite.{is_composite}
+use Rattle.wf_view.specs.Viewing.{name_of, input_name, output_name, is_about, is_among, is_expanded, is_pair, is_shown, view_of}
+use Rattle.wf_spec.proofs.FirstFaults.{holds_of}
+use Rattle.wf_model.proofs.Composites.{composite_gives, composite_is}
+use Rattle.wf_view.proofs.Heading.{composite_below}
 use Rattle.wf_view.proofs.Naming.{number_is}
 use Rattle.wf_view.proofs.Pairing.{composite_all}
-use Rattle.wf_view.proofs.Places.{new_differ, same_element}
+use Rattle.wf_view.proofs.Places.{same_element}
 use Rattle.wf_view.proofs.Showing.{shown_by}
 use Rattle.wf_view.proofs.Viewed.{expands_gives, expands_from, expands_is, shows_is, shows_gives}
+use Rattle.wf_spec.proofs.NewNames.{new_differ}
 
 module _ (g : Grammar) (parts : ViewParts) (formed : IsWellFormed g) (viewed : IsViewed g parts) where
   -- what the rules say of each element
@@ -56,7 +59,7 @@ module _ (g : Grammar) (parts : ViewParts) (formed : IsWellFormed g) (viewed : I
   all_expanded : parts.expand ≡ None → (m : ℕ) → IsTrue (expands (view_of g parts) m) ↔ IsComposite g m
   all_expanded none m = (
     λ h. (let r = expands_gives g parts m h in composite_gives g m (expanded_composite m r.0 r.1)),
-    λ d. (let c = composite_from g m d in expands_from g parts m (composite_below g formed m c) (ap (λ names. is_among g names m) none ∙ c)),
+    λ d. (let c = composite_is g m d in expands_from g parts m (composite_below g formed m c) (ap (λ names. is_among g names m) none ∙ c)),
   )
 
   named_expanded : (names : List (List ℕ)) → parts.expand ≡ Some names → (m : ℕ) → m < length g.modules → IsTrue (expands (view_of g parts) m) ↔ IsIn (name_of g m) names
@@ -81,7 +84,7 @@ module _ (g : Grammar) (parts : ViewParts) (formed : IsWellFormed g) (viewed : I
       let closed = sym (expands_is g parts m below) ∙ shut in
       record {
         atomic = λ a i o hi ho. shows_is g parts m i o below closed hi ho ∙ untold m never i o;
-        composite = λ c i o hi ho. shows_is g parts m i o below closed hi ho ∙ (untold m never i o ∙ composite_all g formed m (composite_from g m c) i o);
+        composite = λ c i o hi ho. shows_is g parts m i o below closed hi ho ∙ (untold m never i o ∙ composite_all g formed m (composite_is g m c) i o);
       }
 
   -- one that a part is about shows the pairs that it names

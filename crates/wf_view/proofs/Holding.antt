@@ -1,5 +1,5 @@
 -- A view that is kept in tables is the one that its parts describe.
-use Rattle.std.proofs.Common.{◌≡◌, ℕ, ◌+◌, ◌*◌, ◌-◌, ◌/◌, ◌%◌, ◌<◌, ◌≤◌, ◌^◌, ◌==◌, Bool, true, false, cond, List, [], ◌∷◌, ◌++◌, map, length, get_or, flat_map, refl, sym, ap, ◌∙◌, subst, inl, inr, arith}
+use Rattle.std.proofs.Common.{◌≡◌, ℕ, ◌+◌, ◌*◌, ◌-◌, ◌/◌, ◌%◌, ◌<◌, ◌≤◌, ◌^◌, ◌==◌, Bool, true, false, cond, List, [], ◌∷◌, ◌++◌, map, length, get_or, flat_map, refl, sym, ap, ◌∙◌, subst, arith}
 use Rattle.std.specs.Int.{bit_at}
 use Rattle.std.specs.List.{filter}
 use Rattle.std.proofs.Math.Nat.{mod-lt}
@@ -8,12 +8,12 @@ use Rattle.std.proofs.lemmas.List.Elements.{All-from_get_or}
 use Rattle.std.proofs.lemmas.Nat.{div-add-mod', pow_pos}
 use Rattle.std.proofs.lemmas.Nat.Bits.{bit_at-zero, bit_at_cat_high, same_from_bits}
 use Rattle.wf_model.specs.declared.parts.ViewParts.{ViewParts}
-use Rattle.wf_model.specs.Lists.{IsIn, IsAt, numbers_from}
+use Rattle.wf_model.specs.Lists.{IsAt, numbers_from}
 use Rattle.wf_model.specs.Grammar.{Grammar, inputs_of, outputs_of}
 use Rattle.wf_model.specs.View.{View, expands, IsViewOf}
 use Rattle.wf_model.specs.WellFormed.{IsWellFormed}
 use Rattle.wf_model.proofs.Lists.{filter_same, at_below}
-use Rattle.wf_spec.proofs.Lawful.{number_below}
+use Rattle.wf_spec.proofs.Finding.{number_below}
 use Rattle.wf_view.specs.declared.view.Shown.{Shown}
 use Rattle.wf_view.specs.Held.{IsHeldFor, AreShownRows, flagged, pairs_in}
 use Rattle.wf_view.specs.Marks.{AreMarks}
@@ -22,12 +22,10 @@ use Rattle.wf_view.specs.Tables.{AreRowsBy, IsKept, AreKept, AreSeen, AreSound, 
 use Rattle.wf_view.specs.Viewing.{is_expanded, is_shown, pairs_by, shown_pairs, view_of}
 use Rattle.wf_view.proofs.Described.{known_parts, on_shown, known_pairs, view_is}
 use Rattle.wf_view.proofs.Flagged.{flagged_is}
-use Rattle.wf_view.proofs.Places.{map_places, get_mapped, one_there_at}
+use Rattle.wf_view.proofs.Places.{map_places, get_mapped}
 use Rattle.wf_view.proofs.Viewed.{below_all, expands_is, shows_is}
-
-pub flat_map_same : {A B : Type 0} (f h : A → List B) (xs : List A) → ((x : A) → IsIn x xs → f x ≡ h x) → flat_map f xs ≡ flat_map h xs
-flat_map_same f h [] same = refl
-flat_map_same f h (x ∷ xs) same = ap (λ ys. ys ++ flat_map f xs) (same x (inl refl)) ∙ ap (λ ys. h x ++ ys) (flat_map_same f h xs (λ y i. same y (inr i)))
+use Rattle.wf_model.proofs.Positions.{at_there}
+use Rattle.wf_model.proofs.Mapping.{flat_map_same}
 
 -- the pairs whose bits are set are those that pass the test
 pairs_same : (g : Grammar) (m : ℕ) (test : ℕ → ℕ → Bool) (outputs : ℕ) (rows : List ℕ) → outputs ≡ outputs_of g m → AreRowsBy (inputs_of g m) (outputs_of g m) test rows → pairs_in outputs rows ≡ pairs_by g m test
@@ -83,7 +81,7 @@ module _ (g : Grammar) (parts : ViewParts) (marks : List Bool) (table : List Sho
   rows_are seen m below shut =
       let inside : m < length table = subst (λ n. m < n) (sym kept.one_each) below in
       let closed : is_expanded g parts m ≡ false = sym (expands_is g parts m below) ∙ shut in
-      let there = one_there_at m table inside in
+      let there = at_there m table inside in
       let s = there.0 in
       let by = (kept.each m s there.1).rows (are.each m below ∙ closed) in
       subst (AreShownRows g (view_of g parts) m) (sym (get_mapped (λ (k : Shown). k.rows.items) s m table [] there.1)) (record {

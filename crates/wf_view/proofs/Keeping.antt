@@ -7,13 +7,14 @@ use Rattle.wf_model.specs.Lists.{IsIn, IsAt}
 use Rattle.wf_model.specs.Grammar.{Grammar, module_at, inputs_of, outputs_of}
 use Rattle.wf_model.specs.WellFormed.{IsWellFormed}
 use Rattle.wf_model.proofs.Lists.{at_below, is_at}
+use Rattle.wf_model.proofs.Positions.{at_push}
 use Rattle.wf_view.specs.declared.view.Shown.{Shown}
 use Rattle.wf_view.specs.Rules.{deps_names, number_in, IsModuleName}
 use Rattle.wf_view.specs.Tables.{names_pair, AreRowsBy, IsKept, AreKept, IsTakenIn}
 use Rattle.wf_view.specs.Viewing.{is_about, is_shown}
 use Rattle.wf_view.proofs.Naming.{named_is}
 use Rattle.wf_view.proofs.Pairing.{by_same}
-use Rattle.wf_view.proofs.Places.{at_push, at_set}
+use Rattle.wf_view.proofs.Places.{at_set}
 use Rattle.wf_view.proofs.Showing.{shown_last, shown_other}
 
 -- one module more is kept

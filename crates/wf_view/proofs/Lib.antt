@@ -1,6 +1,5 @@
 pub mod Again
 pub mod Described
-pub mod First
 pub mod Flagged
 pub mod Heading
 pub mod Holding

@@ -5,9 +5,8 @@ use Rattle.wf_model.specs.declared.numbers.ModNo.{ModNo}
 use Rattle.wf_model.specs.Faults.{is_one_of}
 use Rattle.wf_model.specs.Lists.{IsIn}
 use Rattle.wf_model.proofs.Lists.{among_gives, among_from}
-use Rattle.wf_spec.specs.Forming.{place_of}
-use Rattle.wf_spec.proofs.Finding.{absent}
-use Rattle.wf_spec.proofs.Numbering.{not_found, found_there}
+use Rattle.wf_spec.specs.Naming.{place_of}
+use Rattle.wf_spec.proofs.Finding.{absent, not_found, found_there}
 
 module _ (names : List (List ℕ)) (name : List ℕ) (answer : Option ModNo) (is : option_map (λ (m : ModNo). m.0) answer ≡ position (bytes_eq name) names) where
   -- a name that is not found is not there

@@ -5,26 +5,20 @@ use Rattle.std.proofs.lemmas.List.{get_or-map, length-map}
 use Rattle.wf_model.specs.Lists.{IsIn, AllDiffer}
 use Rattle.wf_model.specs.Grammar.{Grammar, Module, module_at}
 use Rattle.wf_model.specs.WellFormed.{IsWellFormed, IsWellFormedModule}
-use Rattle.wf_model.proofs.Lists.{at_in, at_is, is_at, differ_at, same_bytes, bytes_same}
-use Rattle.wf_spec.specs.Forming.{names_of, place_of}
-use Rattle.wf_spec.proofs.Picking.{at_place}
-use Rattle.wf_spec.proofs.Sides.{module_read}
+use Rattle.wf_model.proofs.Lists.{at_is, same_bytes, bytes_same}
+use Rattle.wf_spec.specs.Naming.{names_of, place_of}
+use Rattle.wf_spec.proofs.Finding.{at_place, place_at}
+use Rattle.wf_spec.proofs.Reading.{module_read}
 use Rattle.wf_spec.proofs.Tables.{get_in}
 use Rattle.wf_view.specs.Rules.{number_in, IsModuleName}
 use Rattle.wf_view.specs.Viewing.{name_of}
-use Rattle.wf_view.proofs.Flagged.{same_tests}
-
--- among names that differ, each has its place
-pub place_is : (names : List (List ℕ)) → AllDiffer names → (k : ℕ) → k < length names → place_of names (get_or names k []) ≡ k
-place_is names differ k below =
-    let here = is_at k names [] below in
-    differ_at (get_or names k []) (place_of names (get_or names k [])) k names differ (at_place names (get_or names k []) (at_in (get_or names k []) k names here)) here
+use Rattle.std.specs.Cmp.Derive.{one_truth}
 
 -- so the name at a place is a name that is there exactly if it is the place of this name
 pub named_at : (names : List (List ℕ)) → AllDiffer names → (name : List ℕ) → IsIn name names → (k : ℕ) → k < length names → bytes_eq (get_or names k []) name ≡ (place_of names name == k)
 named_at names differ name known k below =
-    same_tests (bytes_eq (get_or names k []) name) (place_of names name == k)
-    (λ e. eq-eqb (place_of names name) k (ap (place_of names) (sym (same_bytes (get_or names k []) name e)) ∙ place_is names differ k below))
+    one_truth (bytes_eq (get_or names k []) name) (place_of names name == k)
+    (λ e. eq-eqb (place_of names name) k (ap (place_of names) (sym (same_bytes (get_or names k []) name e)) ∙ place_at names k differ below))
     (λ e. bytes_same (get_or names k []) name (ap (λ j. get_or names j []) (sym (eqb-true (place_of names name) k e)) ∙ at_is name (place_of names name) names [] (at_place names name known)))
 
 -- the name of a module, among those of all
@@ -39,7 +33,7 @@ name_there g m below = subst (IsModuleName g) (name_at g m below) (get_in m (nam
 
 -- the module of this name has this number
 pub number_is : (g : Grammar) → IsWellFormed g → (m : ℕ) → m < length g.modules → number_in g (name_of g m) ≡ m
-number_is g w m below = ap (number_in g) (sym (name_at g m below)) ∙ place_is (names_of g.modules) w.names_differ m (below_names g m below)
+number_is g w m below = ap (number_in g) (sym (name_at g m below)) ∙ place_at (names_of g.modules) m w.names_differ (below_names g m below)
 
 -- so a module has a name exactly if it has its number
 pub named_is : (g : Grammar) → IsWellFormed g → (name : List ℕ) → IsModuleName g name → (m : ℕ) → m < length g.modules → bytes_eq (name_of g m) name ≡ (number_in g name == m)

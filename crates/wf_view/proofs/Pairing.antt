@@ -9,17 +9,18 @@ use Rattle.wf_model.specs.Lists.{IsIn, some, AllDiffer}
 use Rattle.wf_model.specs.Grammar.{Grammar, Module, Given, is_given, inputs_of, outputs_of, IsAtomic}
 use Rattle.wf_model.specs.WellFormed.{IsWellFormed, IsWellFormedModule}
 use Rattle.wf_model.proofs.Lists.{some_gives}
-use Rattle.wf_spec.specs.Forming.{place_of}
-use Rattle.wf_spec.specs.Rows.{bit_in, pair_in, has_pair, AreAdded}
+use Rattle.wf_spec.specs.Naming.{place_of}
+use Rattle.wf_spec.specs.Rows.{bit_in, has_pair, AreAdded}
+use Rattle.wf_spec.specs.Pairs.{pair_in}
 use Rattle.wf_spec.specs.Tables.{AreRowsOf}
 use Rattle.wf_spec.proofs.Finding.{place_within}
-use Rattle.wf_spec.proofs.Lawful.{differ_left, differ_right}
 use Rattle.wf_spec.proofs.Rows.{alike_from, pair_added}
 use Rattle.wf_view.specs.Tables.{names_pair, AreRowsBy}
-use Rattle.wf_view.specs.Viewing.{is_composite}
-use Rattle.wf_view.proofs.Heading.{composite_gives, composite_from}
+use Rattle.wf_model.specs.Composite.{is_composite}
+use Rattle.wf_model.proofs.Composites.{composite_gives, composite_is}
 use Rattle.wf_view.proofs.Naming.{named_at}
-use Rattle.wf_view.proofs.Passing.{some_more}
+use Rattle.wf_model.proofs.Tests.{some_more}
+use Rattle.wf_model.proofs.ItemNames.{differ_right, differ_left}
 
 -- rows that pass one test pass an equal one
 pub by_same : (inputs outputs : ℕ) (s t : ℕ → ℕ → Bool) (rows : List ℕ) → ((i o : ℕ) → i < inputs → o < outputs → s i o ≡ t i o) → AreRowsBy inputs outputs s rows → AreRowsBy inputs outputs t rows
@@ -34,7 +35,7 @@ all_made m rows ins outs row inputs outputs are is =
 
 -- an atomic module is the head of no production
 pub atomic_from : (g : Grammar) (m : ℕ) → is_composite g m ≡ false → IsAtomic g m
-atomic_from g m e p below head = true≢false (sym (composite_from g m (p, (below, head))) ∙ e)
+atomic_from g m e p below head = true≢false (sym (composite_is g m (p, (below, head))) ∙ e)
 
 -- a composite module is given all pairs, since none are given to it
 pub composite_all : (g : Grammar) → IsWellFormed g → (m : ℕ) → is_composite g m ≡ true → (i o : ℕ) → is_given g.given m i o ≡ true

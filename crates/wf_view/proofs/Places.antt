@@ -2,15 +2,8 @@
 use Rattle.std.proofs.Common.{◌≡◌, ◌≢◌, ◌⊎◌, ℕ, zero, suc, ◌+◌, ◌<◌, List, [], ◌∷◌, ◌++◌, length, get_or, map, set, take, refl, sym, ap, ◌∙◌, subst, inl, inr, ⊎_elim, arith}
 use Rattle.std.proofs.lemmas.List.{get_or-map, take-map}
 use Rattle.wf_model.specs.Lists.{IsIn, IsAt, AllDiffer, numbers_from}
-use Rattle.wf_model.proofs.Lists.{in_map, in_at, at_is, at_below}
-use Rattle.wf_spec.specs.Rules.{IsNewAt}
-
--- an element of a list and one more is at its place, or is the last
-pub at_push : {A : Type 0} (x : A) (j : ℕ) (old : List A) (a : A) → IsAt x j (old ++ a ∷ []) → IsAt x j old ⊎ ((j ≡ length old) × (x ≡ a))
-at_push x zero [] a at = inr (refl, at)
-at_push x (suc j) [] a at = absurd at
-at_push x zero (y ∷ old) a at = inl at
-at_push x (suc j) (y ∷ old) a at = ⊎_elim inl (λ d. inr (ap suc d.0, d.1)) (at_push x j old a at)
+use Rattle.wf_model.proofs.Lists.{in_map}
+use Rattle.wf_spec.specs.Naming.{IsNewAt}
 
 -- an element of a list in which one is set is that one, or was there before
 pub at_set : {A : Type 0} (x : A) (j : ℕ) (xs : List A) (k : ℕ) (y : A) → IsAt x j (set xs k y) → ((j ≡ k) × (x ≡ y)) ⊎ ((j ≢ k) × IsAt x j xs)
@@ -27,28 +20,11 @@ map_places f h (x ∷ xs) k each =
     ap (λ y. y ∷ map f xs) (each 0 x refl ∙ ap h (let e : k + 0 ≡ k = omega arith in e))
     ∙ ap (λ ys. h k ∷ ys) (map_places f h xs (suc k) (λ j y at. each (suc j) y at ∙ ap h (let e : k + suc j ≡ suc k + j = omega arith in e)))
 
--- there is an element at each place
-pub one_there_at : {A : Type 0} (k : ℕ) (xs : List A) → k < length xs → (x : A) × IsAt x k xs
-one_there_at k [] h = absurd (omega arith)
-one_there_at zero (x ∷ xs) h = (x, refl)
-one_there_at (suc k) (x ∷ xs) h = let l : k < length xs = omega arith in one_there_at k xs l
-
 -- and what a function makes of it is there in what it makes of all
 pub get_mapped : {A B : Type 0} (f : A → B) (x : A) (k : ℕ) (xs : List A) (d : B) → IsAt x k xs → get_or (map f xs) k d ≡ f x
 get_mapped f x k [] d at = absurd at
 get_mapped f x zero (y ∷ xs) d at = ap f (sym at)
 get_mapped f x (suc k) (y ∷ xs) d at = get_mapped f x k xs d at
-
--- names that are new at each place differ
-pub new_differ : (names : List (List ℕ)) → ((k : ℕ) → k < length names → IsNewAt names k) → AllDiffer names
-new_differ [] new = tt
-new_differ (n ∷ names) new = (
-  λ i.
-      let r = in_at n names i in
-      let inside : suc r.0 < suc (length names) = (let a = at_below n r.0 names r.1 in omega arith) in
-      new (suc r.0) inside (inl (at_is n r.0 names [] r.1)),
-  new_differ names (λ k inside i. new (suc k) (omega arith) (inr i)),
-)
 
 -- so two elements that have one name are one
 pub same_element : {A : Type 0} (f : A → List ℕ) (xs : List A) → AllDiffer (map f xs) → (x y : A) → IsIn x xs → IsIn y xs → f x ≡ f y → x ≡ y

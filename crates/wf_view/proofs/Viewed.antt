@@ -3,15 +3,15 @@ use Rattle.std.proofs.Common.{◌≡◌, ℕ, ◌+◌, ◌<◌, ◌≤◌, ◌==
 use Rattle.std.specs.List.{filter}
 use Rattle.std.proofs.lemmas.Bool.{and_parts, and_from, eqb-true, eq-eqb, ltb-true, ltb-false}
 use Rattle.std.proofs.lemmas.List.{get_or-map, get_or_past, length-map}
+use Rattle.std.specs.Cmp.Derive.{one_truth}
 use Rattle.wf_model.specs.declared.parts.ViewParts.{ViewParts}
 use Rattle.wf_model.specs.Lists.{IsIn, some, numbers_from}
 use Rattle.wf_model.specs.Grammar.{Grammar, inputs_of, outputs_of}
 use Rattle.wf_model.specs.View.{expands, shows}
 use Rattle.wf_model.proofs.Level.{in_numbers, numbers_in}
 use Rattle.wf_model.proofs.Lists.{some_from, some_gives, in_filter, in_filter_from, in_flat_map, in_flat_map_from}
-use Rattle.wf_spec.proofs.Tables.{length-numbers, number_at}
+use Rattle.wf_model.proofs.NumberLists.{length-numbers, number_at}
 use Rattle.wf_view.specs.Viewing.{is_expanded, is_shown, pairs_by, shown_pairs, view_of}
-use Rattle.wf_view.proofs.Flagged.{same_tests}
 
 -- a number of the first n is below n
 pub below_all : (i n : ℕ) → IsIn i (numbers_from 0 n) → i < n
@@ -31,7 +31,7 @@ expands_from g parts m below h =
     (in_filter (is_expanded g parts) m (numbers_from 0 (length g.modules)) (numbers_in m 0 (length g.modules) (omega arith) (omega arith)) h) (eq-eqb m m refl)
 
 pub expands_is : (g : Grammar) (parts : ViewParts) (m : ℕ) → m < length g.modules → expands (view_of g parts) m ≡ is_expanded g parts m
-expands_is g parts m below = same_tests (expands (view_of g parts) m) (is_expanded g parts m) (λ h. (expands_gives g parts m h).1) (expands_from g parts m below)
+expands_is g parts m below = one_truth (expands (view_of g parts) m) (is_expanded g parts m) (λ h. (expands_gives g parts m h).1) (expands_from g parts m below)
 
 -- a pair is one of a list of pairs, as a test
 abbrev pub is_it : ℕ → ℕ → ℕ × ℕ → Bool
@@ -70,7 +70,7 @@ module _ (g : Grammar) (m : ℕ) (test : ℕ → ℕ → Bool) where
       (and_from (i == i) (o == o) (eq-eqb i i refl) (eq-eqb o o refl))
 
   pub pairs_are : (i o : ℕ) → i < inputs_of g m → o < outputs_of g m → some (is_it i o) (pairs_by g m test) ≡ test i o
-  pairs_are i o hi ho = same_tests (some (is_it i o) (pairs_by g m test)) (test i o) (λ h. (in_pairs i o h).1.1) (pairs_in i o hi ho)
+  pairs_are i o hi ho = one_truth (some (is_it i o) (pairs_by g m test)) (test i o) (λ h. (in_pairs i o h).1.1) (pairs_in i o hi ho)
 
 -- the pairs that are shown of a module, as the view holds them
 pub shown_at : (g : Grammar) (parts : ViewParts) (m : ℕ) → m < length g.modules → get_or (view_of g parts).shown m [] ≡ shown_pairs g parts m

@@ -1,11 +1,10 @@
 -- What contracts see of a view, and when it is one of a grammar.
-use Rattle.std.specs.Prelude.{◌≡◌, ◌↔◌, ◌<◌, ◌^◌, ℕ, Bool, false, cond, IsTrue, List, [], ◌∷◌, length, get_or}
+use Rattle.std.specs.Prelude.{◌≡◌, ◌↔◌, ◌<◌, ◌^◌, ℕ, Bool, false, cond, IsTrue, List, [], ◌∷◌, length, get_or, ◌==◌}
 use Rattle.std.specs.List.{All, filter, flat_map}
 use Rattle.wf_model.specs.Lists.{numbers_from}
 use Rattle.wf_model.specs.Grammar.{Grammar, inputs_of, outputs_of}
 use Rattle.wf_model.specs.View.{View, expands, shows, IsSeenModule, IsViewOf}
 use Rattle.std.specs.Int.{bit_at}
-use Rattle.std.specs.Prelude.{◌==◌}
 
 -- a view, with a flag for each module that tells whether it is seen, and the rows of the pairs that are shown of each
 pub record HeldView : Type 0 where

@@ -1,15 +1,17 @@
 -- The rules that the parts of a view keep, in the order in which they are tried, and the fault that is told where one is broken.
-use Rattle.std.specs.Prelude.{◌≡◌, ◌⊎◌, ℕ, ◌<◌, false, List, [], ◌∷◌, map, length, Option, Some, None, MatchOption, IsTrue}
+use Rattle.std.specs.Prelude.{◌≡◌, ℕ, false, List, [], ◌∷◌, map, length, Option, Some, None, IsTrue}
 use Rattle.wf_model.specs.declared.parts.ViewParts.{ViewParts}
 use Rattle.wf_model.specs.declared.parts.DepsPart.{DepsPart}
-use Rattle.wf_model.specs.Lists.{IsIn, IsAt}
+use Rattle.wf_model.specs.Lists.{IsIn}
 use Rattle.wf_model.specs.Grammar.{Grammar}
-use Rattle.wf_spec.specs.Forming.{place_of, names_of}
-use Rattle.wf_spec.specs.Rules.{FailsFirstAt, IsNewAt, HasKnownPairs}
+use Rattle.wf_spec.specs.Naming.{place_of, names_of, IsNewAt}
+use Rattle.wf_spec.specs.FirstFaults.{Rule, each, AllHold, IsFirstFault}
+use Rattle.wf_spec.specs.Pairs.{HasKnownPairs}
 use Rattle.wf_view.specs.declared.fault.ViewSpot.TheVariants.{ExpandAt, DepsAt}
 use Rattle.wf_view.specs.declared.fault.ViewFault.{ViewFault}
 use Rattle.wf_view.specs.declared.fault.ViewFault.TheVariants.{UnknownModule, NotComposite, DepsOnExpanded, UnknownPort, ModuleTwice}
-use Rattle.wf_view.specs.Viewing.{is_composite, is_expanded}
+use Rattle.wf_model.specs.Composite.{is_composite}
+use Rattle.wf_view.specs.Viewing.{is_expanded}
 
 -- the names that are to be expanded; none where there is no list
 abbrev pub listed : Option (List (List ℕ)) → List (List ℕ)
@@ -36,22 +38,12 @@ IsOnShown g parts d = is_expanded g parts (number_in g d.«module») ≡ false
 abbrev pub deps_names : List DepsPart → List (List ℕ)
 deps_names = map (λ (d : DepsPart). d.«module»)
 
--- a rule: what it asks at each of its places, in order, and the fault that is told where this does not hold
-pub record Rule : Type 1 where
-  pub places : ℕ
-  pub holds : ℕ → Type 0
-  pub fault : ℕ → ViewFault
-
--- a rule that is asked of each element of a list
-abbrev pub each : {A : Type 0} → List A → (A → Type 0) → (ℕ → ViewFault) → Rule
-each list Holds told = record { places = length list; holds = λ k. (x : _) → IsAt x k list → Holds x; fault = told }
-
 -- ModuleTwice: no name stands a second time in a list
-abbrev pub new_names : List (List ℕ) → (ℕ → ViewFault) → Rule
+abbrev pub new_names : List (List ℕ) → (ℕ → ViewFault) → Rule ViewFault
 new_names names told = record { places = length names; holds = IsNewAt names; fault = told }
 
 -- The rules on the parts of a view of a grammar
-abbrev pub rules_of : Grammar → ViewParts → List Rule
+abbrev pub rules_of : Grammar → ViewParts → List (Rule ViewFault)
 rules_of g parts =
     let names = listed parts.expand in
     each names (IsModuleName g) (λ k. UnknownModule (ExpandAt k)) ∷
@@ -61,26 +53,6 @@ rules_of g parts =
     each parts.deps (HasKnownPairs g.modules) UnknownPort ∷
     new_names names (λ k. ModuleTwice (ExpandAt k)) ∷
     new_names (deps_names parts.deps) (λ k. ModuleTwice (DepsAt k)) ∷ []
-
--- a rule holds at each of its places
-abbrev pub HoldsThroughout : Rule → Type 0
-HoldsThroughout r = (k : ℕ) → k < r.places → r.holds k
-
--- the answer of a search for the first place at which a rule does not hold
-abbrev pub IsFirstFailing : Rule → Option ℕ → Type 0
-IsFirstFailing r answer = MatchOption answer (HoldsThroughout r) (FailsFirstAt r.places r.holds)
-
--- all rules hold
-abbrev pub AllHold : List Rule → Type 0
-AllHold [] = Unit {0}
-AllHold (r ∷ rs) = HoldsThroughout r × AllHold rs
-
--- the first place at which one of the rules does not hold has this fault
-abbrev pub IsFirstFault : List Rule → ViewFault → Type 0
-IsFirstFault [] f = ⊥
-IsFirstFault (r ∷ rs) f =
-    ((k : ℕ) × FailsFirstAt r.places r.holds k × (f ≡ r.fault k)) ⊎
-    (HoldsThroughout r × IsFirstFault rs f)
 
 -- the parts are those of a view of the grammar: they keep all rules
 abbrev pub IsViewed : Grammar → ViewParts → Type 0

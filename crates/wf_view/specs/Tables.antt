@@ -6,7 +6,8 @@ use Rattle.wf_model.specs.declared.parts.PairPart.{PairPart}
 use Rattle.wf_model.specs.Lists.{IsIn, IsAt, some}
 use Rattle.wf_model.specs.Grammar.{Grammar, Module, inputs_of, outputs_of}
 use Rattle.wf_model.specs.View.{View, expands, IsSeenModule}
-use Rattle.wf_spec.specs.Rules.{HasKnownPairs, IsNewAt}
+use Rattle.wf_spec.specs.Pairs.{HasKnownPairs}
+use Rattle.wf_spec.specs.Naming.{IsNewAt}
 use Rattle.wf_view.specs.declared.view.Shown.{Shown}
 use Rattle.wf_view.specs.Held.{HeldView, flagged, pairs_in}
 use Rattle.wf_view.specs.Rules.{deps_names, number_in, IsModuleName}

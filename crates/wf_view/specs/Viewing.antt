@@ -1,16 +1,13 @@
 -- The view that parts describe: which modules it expands, and the pairs that it shows of the others.
-use Rattle.std.specs.Prelude.{ℕ, Bool, cond, ◌&&◌, ◌==◌, List, [], ◌∷◌, map, length, get_or, Option, Some, None, bytes_eq}
+use Rattle.std.specs.Prelude.{ℕ, Bool, cond, ◌&&◌, List, [], ◌∷◌, map, length, get_or, Option, Some, None, bytes_eq}
 use Rattle.std.specs.List.{filter, flat_map}
 use Rattle.wf_model.specs.declared.parts.ViewParts.{ViewParts}
 use Rattle.wf_model.specs.declared.parts.DepsPart.{DepsPart}
 use Rattle.wf_model.specs.declared.parts.PairPart.{PairPart}
 use Rattle.wf_model.specs.Lists.{some, numbers_from}
-use Rattle.wf_model.specs.Grammar.{Grammar, Production, module_at, inputs_of, outputs_of, is_given}
+use Rattle.wf_model.specs.Composite.{is_composite}
+use Rattle.wf_model.specs.Grammar.{Grammar, module_at, inputs_of, outputs_of, is_given}
 use Rattle.wf_model.specs.View.{View}
-
--- a module is the head of a production
-abbrev pub is_composite : Grammar → ℕ → Bool
-is_composite g m = some (λ (r : Production). r.head == m) g.productions
 
 -- the name of a module, and those of its ports
 abbrev pub name_of : Grammar → ℕ → List ℕ

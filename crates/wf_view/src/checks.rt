@@ -1,7 +1,8 @@
 // The rules on the parts of a view.
 ghost use Rattle.std.specs.Prelude.{◌≡◌, ◌⊎◌, drop, take, IfErr, OnOk};
 ghost use Rattle.wf_view.specs.Marks.{AreMarks};
-ghost use Rattle.wf_view.specs.Rules.{listed, rules_of, AllHold, IsFirstFault};
+ghost use Rattle.wf_spec.specs.FirstFaults.{AllHold, IsFirstFault};
+ghost use Rattle.wf_view.specs.Rules.{listed, rules_of};
 ghost use Rattle.wf_view.specs.declared.fault.ViewFault.TheVariants.{NoMemory};
 
 mod composite;

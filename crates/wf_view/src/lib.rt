@@ -4,7 +4,6 @@
 mod assemble;
 mod build;
 mod checks;
-mod composite;
 mod fault;
 mod law;
 mod marks;

@@ -3,7 +3,6 @@ ghost use Rattle.std.specs.Prelude.{◌≡◌, ◌<◌, ◌||◌, ℕ, Some, Non
 ghost use Rattle.wf_view.specs.Marks.{AreMarks, AreMarksOf};
 ghost use Rattle.wf_view.specs.Viewing.{name_of};
 
-use crate::composite::is_composite;
 use std::alloc::{AllocError, Global};
 use wf_spec::{Grammar, ModNo, Name, ViewParts};
 
@@ -35,7 +34,7 @@ fn composite_marks(alloc: Global, g: &Grammar) -> Result<Vec<bool>, AllocError>
 {
     let mut marks = Vec::new(alloc);
     for m in 0..g.modules().len() {
-        marks.push(is_composite(g, ModNo(m as u16)))?;
+        marks.push(g.is_composite(ModNo(m as u16)))?;
     }
     Ok(marks)
 }

@@ -1,25 +1,12 @@
 // The graph of unit productions.
 ghost use Rattle.std.specs.Prelude.{◌≡◌, ◌<◌, ◌↔◌, ℕ, length, IfOk, IsTrue, MatchOption};
-ghost use Rattle.wf_graph.specs.Graph.{HasEdge};
 ghost use Rattle.wf_check.specs.UnitRules.{AreBelow};
 ghost use Rattle.wf_check.specs.UnitPaths.{IsGraphOf, IsOnCycle, IsLeastOnCycle};
 
 use crate::unit::rule::UnitRule;
 use std::alloc::{AllocError, Global};
-use wf_graph::reached;
+use wf_graph::{no_edges, reached};
 use wf_spec::ModNo;
-
-/// So many vertices, and no edge.
-fn no_edges(alloc: Global, count: usize) -> Result<Vec<Vec<u32>>, AllocError>
-    ensures count { IfOk result (λ graph. length graph.items ≡ count) }
-    ensures none { IfOk result (λ graph. (a b : ℕ) → HasEdge graph.items a b → ⊥) }
-{
-    let mut graph = Vec::new(alloc);
-    for k in 0..count {
-        graph.push(Vec::new(alloc))?;
-    }
-    Ok(graph)
-}
 
 /// The graph whose edges are unit productions, with a vertex for each of so many modules.
 fn unit_graph(

@@ -11,7 +11,7 @@ ghost use Rattle.wf_body.specs.Matrices.{HaveRows};
 ghost use Rattle.wf_safe.specs.BodyGraph.{vertex_of};
 
 use crate::check::graph::body_graph;
-use crate::check::ports::{input_count, input_port, output_count, output_port, vertex};
+use crate::check::ports::{input_port, output_port, vertex};
 use bool_mat::single;
 use std::alloc::{AllocError, Global};
 use wf_graph::reached;
@@ -65,9 +65,9 @@ pub fn joined_rows(
 {
     let graph = body_graph(alloc, g, p, deps)?;
     let head = g.production(p).head();
-    let outputs = output_count(g, head);
+    let outputs = g.output_count(head);
     let mut rows = Vec::new(alloc);
-    for i in 0..input_count(g, head) {
+    for i in 0..g.input_count(head) {
         let row = joined_row(alloc, &graph, PortNo(i), outputs)?;
         rows.push(row)?;
     }

@@ -1,28 +1,16 @@
 // The graph of one body.
-ghost use Rattle.std.specs.Prelude.{◌≡◌, ◌+◌, ◌*◌, ◌<◌, ◌≤◌, ℕ, Some, cond, [], ◌∷◌, length, map, IfOk, OnOk};
+ghost use Rattle.std.specs.Prelude.{◌≡◌, ◌+◌, ◌*◌, ◌<◌, ◌≤◌, Some, cond, [], ◌∷◌, length, map, IfOk, OnOk};
 ghost use Rattle.wf_model.specs.Grammar.{body_of, production_at};
 ghost use Rattle.wf_model.specs.Links.{body_links, edge_link, entry_links, exit_links, pair_links, place_links};
 ghost use Rattle.wf_model.specs.Meaning.{pairs_of};
-ghost use Rattle.wf_graph.specs.Graph.{HasEdge};
 ghost use Rattle.wf_body.specs.Matrices.{HasRows, HaveRows};
 ghost use Rattle.wf_safe.specs.BodyGraph.{AddsLinks, IsGraphOf, link_of, matrix_links, port_of, row_links, vertex_of, vertices_of};
 
-use crate::check::ports::{Port, input_port, output_count, output_port, vertex};
+use crate::check::ports::{Port, input_port, output_port, vertex};
 use bool_mat::has_column;
 use std::alloc::{AllocError, Global};
+use wf_graph::no_edges;
 use wf_spec::{Deps, Grammar, ModNo, PortNo, PosNo, ProdNo};
-
-/// So many vertices, and no edge.
-fn no_edges(alloc: Global, count: usize) -> Result<Vec<Vec<u32>>, AllocError>
-    ensures count { IfOk result (λ graph. length graph.items ≡ count) }
-    ensures none { IfOk result (λ graph. (a b : ℕ) → HasEdge graph.items a b → ⊥) }
-{
-    let mut graph = Vec::new(alloc);
-    for k in 0..count {
-        graph.push(Vec::new(alloc))?;
-    }
-    Ok(graph)
-}
 
 /// Adds a link.
 fn add_link(graph: &mut Vec<Vec<u32>>, from: Port, to: Port) -> Result<(), AllocError>
@@ -142,7 +130,7 @@ fn add_pairs(
     requires vertices { (k.0 + 2) * 128 ≤ length graph.old.items }
     ensures { OnOk result (AddsLinks (pair_links g.now.core (pairs_of deps.now) m.0 (Some k.0)) graph.old.items graph.new.items) }
 {
-    let outputs = output_count(g, m);
+    let outputs = g.output_count(m);
     if let Some(rows) = deps.rows(m) {
         add_rows(graph, k, rows, outputs)?;
     }

@@ -1,10 +1,8 @@
 // The ports of one body.
-ghost use Rattle.std.specs.Prelude.{◌≡◌, ◌<◌, ◌≤◌, length};
-ghost use Rattle.wf_model.specs.Grammar.{inputs_of, outputs_of};
-ghost use Rattle.wf_model.specs.WellFormed.{IsWellFormed};
+ghost use Rattle.std.specs.Prelude.{◌≡◌, ◌<◌};
 ghost use Rattle.wf_safe.specs.BodyGraph.{port_of, vertex_of};
 
-use wf_spec::{Grammar, ModNo, PortNo, PosNo, Side};
+use wf_spec::{PortNo, PosNo, Side};
 
 /// A port of the head of a body, or of a position.
 #[derive(Clone, Copy)]
@@ -50,24 +48,4 @@ pub fn vertex(x: Port) -> u32
         Side::Output => 1,
     };
     owner * 128 + side * 64 + u32::from(x.port.0)
-}
-
-/// How many inputs a module has.
-pub fn input_count(g: &Grammar, m: ModNo) -> u8
-    requires { m.0 < length g.now.core.modules }
-    ensures count { result ≡ inputs_of g.now.core m.0 }
-    ensures few { result ≤ 64 }
-    ensures formed { IsWellFormed g.now.core }
-{
-    g.modules()[m.0 as usize].inputs().len() as u8
-}
-
-/// How many outputs a module has.
-pub fn output_count(g: &Grammar, m: ModNo) -> u8
-    requires { m.0 < length g.now.core.modules }
-    ensures count { result ≡ outputs_of g.now.core m.0 }
-    ensures few { result ≤ 64 }
-    ensures formed { IsWellFormed g.now.core }
-{
-    g.modules()[m.0 as usize].outputs().len() as u8
 }

@@ -3,11 +3,11 @@ ghost use Rattle.std.specs.Prelude.{◌≡◌, ◌<◌, ◌≤◌, ◌-◌, ◌^
 ghost use Rattle.wf_model.specs.Grammar.{inputs_of, is_given, outputs_of};
 ghost use Rattle.wf_model.specs.Lists.{IsIn};
 ghost use Rattle.wf_model.specs.WellFormed.{IsWellFormedModule};
-ghost use Rattle.wf_spec.specs.Forming.{place_of};
-ghost use Rattle.wf_spec.specs.Rows.{pair_in, AreAdded};
+ghost use Rattle.wf_spec.specs.Naming.{place_of};
+ghost use Rattle.wf_spec.specs.Pairs.{pair_in};
+ghost use Rattle.wf_spec.specs.Rows.{AreAdded};
 ghost use Rattle.wf_view.specs.Tables.{names_pair, AreRowsBy};
 
-use crate::composite::is_composite;
 use std::alloc::{AllocError, Global};
 use wf_spec::{Grammar, ModNo, Module, Name, PairPart};
 
@@ -47,7 +47,7 @@ pub fn default_rows(alloc: Global, g: &Grammar, m: ModNo) -> Result<Vec<u64>, Al
     ensures { IfOk result (λ rows. AreRowsBy (inputs_of g.now.core m.0) (outputs_of g.now.core m.0) (is_given g.now.core.given m.0) rows.items) }
 {
     let one = &g.modules()[m.0 as usize];
-    if is_composite(g, m) {
+    if g.is_composite(m) {
         return all_rows(alloc, one);
     }
     Vec::from_slice(alloc, g.rows(m))

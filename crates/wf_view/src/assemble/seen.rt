@@ -1,36 +1,13 @@
 // The modules that a view lets a reader see.
-ghost use Rattle.std.specs.Prelude.{◌≡◌, ◌<◌, ◌↔◌, ◌++◌, ℕ, IfOk, OnOk, false, get_or, length, true};
+ghost use Rattle.std.specs.Prelude.{◌≡◌, ◌<◌, ◌↔◌, ℕ, IfOk, false, get_or, length, true};
 ghost use Rattle.wf_graph.specs.Graph.{HasEdge};
 ghost use Rattle.wf_model.specs.Lists.{IsIn};
 ghost use Rattle.wf_model.specs.Proper.{Makes};
-ghost use Rattle.wf_spec.specs.Bodies.{modules_at};
 ghost use Rattle.wf_view.specs.Tables.{AreSeen};
 
 use std::alloc::{AllocError, Global};
 use wf_graph::reached;
-use wf_spec::{Grammar, ModNo, Production};
-
-/// Adds the modules of a body.
-fn add_body(list: &mut Vec<u32>, rule: &Production) -> Result<(), AllocError>
-    ensures { OnOk result (list.new.items ≡ list.old.items ++ modules_at rule.now.core.positions) }
-{
-    for q in rule.positions() {
-        list.push(u32::from(q.module.0))?;
-    }
-    Ok(())
-}
-
-/// The modules of all bodies of a module.
-fn made_from(alloc: Global, g: &Grammar, m: ModNo) -> Result<Vec<u32>, AllocError>
-    requires { m.0 < length g.now.core.modules }
-    ensures { IfOk result (λ list. (k : ℕ) → IsIn k list.items ↔ Makes g.now.core m.0 k) }
-{
-    let mut list = Vec::new(alloc);
-    for p in g.alternatives(m) {
-        add_body(&mut list, g.production(*p))?;
-    }
-    Ok(list)
-}
+use wf_spec::{Grammar, ModNo, modules_made};
 
 /// The modules of all bodies of a module that is expanded, and none of one that is not.
 fn opened_from(alloc: Global, g: &Grammar, m: ModNo, expanded: bool) -> Result<Vec<u32>, AllocError>
@@ -40,7 +17,7 @@ fn opened_from(alloc: Global, g: &Grammar, m: ModNo, expanded: bool) -> Result<V
     if !expanded {
         return Ok(Vec::new(alloc));
     }
-    made_from(alloc, g, m)
+    modules_made(alloc, g, m)
 }
 
 /// A graph in which each expanded module leads to the modules of its bodies.

@@ -1,7 +1,7 @@
 // The rows of the pairs that a view shows of each module.
 ghost use Rattle.std.specs.Prelude.{◌≡◌, ◌<◌, [], IfOk, OnOk, MatchBool, length};
 ghost use Rattle.wf_model.specs.Grammar.{inputs_of, is_given, outputs_of};
-ghost use Rattle.wf_spec.specs.Rules.{HasKnownPairs};
+ghost use Rattle.wf_spec.specs.Pairs.{HasKnownPairs};
 ghost use Rattle.wf_view.specs.Rules.{number_in, IsModuleName};
 ghost use Rattle.wf_view.specs.Tables.{AreKept, AreRowsBy, AreSound, IsKept, IsTakenIn};
 

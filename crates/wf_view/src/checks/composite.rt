@@ -1,10 +1,10 @@
 // Names that have to be those of composite modules.
 ghost use Rattle.std.specs.Prelude.{◌≡◌};
-ghost use Rattle.wf_view.specs.Rules.{each, number_in, IsCompositeName, IsFirstFailing};
-ghost use Rattle.wf_view.specs.Viewing.{is_composite};
+ghost use Rattle.wf_spec.specs.FirstFaults.{each, IsFirstFailing};
+ghost use Rattle.wf_view.specs.Rules.{number_in, IsCompositeName};
+ghost use Rattle.wf_model.specs.Composite.{is_composite};
 ghost use Rattle.wf_view.specs.declared.fault.ViewFault.TheVariants.{NotComposite};
 
-use crate::composite::is_composite;
 use wf_spec::{Grammar, Name};
 
 /// Whether a name is that of a composite module.
@@ -13,7 +13,7 @@ fn is_composite_name(g: &Grammar, name: &[u8]) -> bool
 {
     let _formed = g.start();
     match g.find(name) {
-        Some(m) => is_composite(g, m),
+        Some(m) => g.is_composite(m),
         None => false,
     }
 }

@@ -1,8 +1,9 @@
 // Names that have to be those of modules.
 ghost use Rattle.std.specs.Prelude.{◌≡◌};
 ghost use Rattle.wf_model.specs.Faults.{is_one_of};
-ghost use Rattle.wf_spec.specs.Forming.{names_of};
-ghost use Rattle.wf_view.specs.Rules.{each, IsFirstFailing, IsModuleName};
+ghost use Rattle.wf_spec.specs.Naming.{names_of};
+ghost use Rattle.wf_spec.specs.FirstFaults.{each, IsFirstFailing};
+ghost use Rattle.wf_view.specs.Rules.{IsModuleName};
 ghost use Rattle.wf_view.specs.declared.fault.ViewSpot.TheVariants.{DepsAt, ExpandAt};
 ghost use Rattle.wf_view.specs.declared.fault.ViewFault.TheVariants.{UnknownModule};
 

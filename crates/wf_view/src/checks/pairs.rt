@@ -2,8 +2,9 @@
 ghost use Rattle.std.specs.Prelude.{◌≡◌, ◌&&◌, bytes_eq};
 ghost use Rattle.std.specs.List.{list_all, list_any};
 ghost use Rattle.wf_model.specs.Grammar.{module_at};
-ghost use Rattle.wf_spec.specs.Rules.{HasKnownPairs};
-ghost use Rattle.wf_view.specs.Rules.{each, number_in, IsFirstFailing};
+ghost use Rattle.wf_spec.specs.Pairs.{HasKnownPairs};
+ghost use Rattle.wf_spec.specs.FirstFaults.{each, IsFirstFailing};
+ghost use Rattle.wf_view.specs.Rules.{number_in};
 ghost use Rattle.wf_view.specs.declared.fault.ViewFault.TheVariants.{UnknownPort};
 
 use wf_spec::{DepsPart, Grammar, Module, Name, PairPart};

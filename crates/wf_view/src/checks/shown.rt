@@ -2,7 +2,8 @@
 ghost use Rattle.std.specs.Prelude.{◌≡◌, false, get_or, length};
 ghost use Rattle.wf_model.specs.Lists.{IsIn};
 ghost use Rattle.wf_view.specs.Marks.{AreMarks};
-ghost use Rattle.wf_view.specs.Rules.{each, number_in, IsFirstFailing, IsModuleName, IsOnShown};
+ghost use Rattle.wf_spec.specs.FirstFaults.{each, IsFirstFailing};
+ghost use Rattle.wf_view.specs.Rules.{number_in, IsModuleName, IsOnShown};
 ghost use Rattle.wf_view.specs.declared.fault.ViewFault.TheVariants.{DepsOnExpanded};
 
 use crate::view::is_flagged;

@@ -1,6 +1,7 @@
 // Names that stand a second time in a list, found by hashing.
 ghost use Rattle.std.specs.Prelude.{IfOk};
-ghost use Rattle.wf_view.specs.Rules.{deps_names, new_names, IsFirstFailing};
+ghost use Rattle.wf_spec.specs.FirstFaults.{IsFirstFailing};
+ghost use Rattle.wf_view.specs.Rules.{deps_names, new_names};
 ghost use Rattle.wf_view.specs.declared.fault.ViewSpot.TheVariants.{DepsAt, ExpandAt};
 ghost use Rattle.wf_view.specs.declared.fault.ViewFault.TheVariants.{ModuleTwice};
 

@@ -1,8 +1,9 @@
 use Rattle.std.proofs.Common.{◌≡◌, sym, ◌∙◌, true, arith}
 use Rattle.wf_model.proofs.Taking.{short_gives, short_from}
 use Rattle.wf_model.specs.Faults.{is_short_name}
+use Rattle.wf_model.proofs.ItemNames.{dotted_at}
 use Rattle.name_text.proofs.Cuts.{stands}
-use Rattle.name_text.proofs.Names.{one_name, dotted_at}
+use Rattle.name_text.proofs.Names.{one_name}
 use Rattle.name_text.proofs.item.split_item.Goals as goal
 
 pub returns-in_default-clause-none : goal.returns-in_default-clause-none

@@ -1,6 +1,6 @@
 use Rattle.std.proofs.Common.{◌∙◌, List, ap, get_or}
 use Rattle.wf_model.specs.Grammar.{Module}
-use Rattle.wf_body.proofs.Rowing.{few_ports}
+use Rattle.wf_spec.proofs.FewPorts.{few_ports}
 use Rattle.wf_body.proofs.standing.output_count.Goals as goal
 
 pub returns-clause-few : goal.returns-clause-few

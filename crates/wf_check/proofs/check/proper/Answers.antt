@@ -1,6 +1,6 @@
 use Rattle.std.proofs.Common.{ap, is_some}
+use Rattle.wf_model.proofs.Options.{match_none}
 use Rattle.wf_check.proofs.Loops.{no_loop}
-use Rattle.wf_check.proofs.Options.{match_none}
 use Rattle.wf_check.proofs.check.proper.Goals as goal
 
 pub returns-clause-proper : goal.returns-clause-proper

@@ -2,8 +2,8 @@ use Rattle.std.proofs.Common.{◌<◌, ◌+◌, ◌∙◌, ℕ, List, ap, sym, s
 use Rattle.std.proofs.lemmas.List.{length_push, map_push, length-map}
 use Rattle.wf_model.specs.declared.numbers.ProdNo.{ProdNo}
 use Rattle.wf_check.proofs.Choosing.{IsChosen}
-use Rattle.wf_check.proofs.Heads.{composite_below}
-use Rattle.wf_check.proofs.Lists.{each_more}
+use Rattle.wf_model.proofs.Composites.{composite_below}
+use Rattle.wf_model.proofs.Positions.{each_more}
 use Rattle.wf_check.proofs.choices.choices.Goals as goal
 
 pub loop-m-preserved : goal.loop-m-preserved

@@ -2,7 +2,7 @@ use Rattle.std.proofs.Common.{◌<◌, ◌∙◌, below_more, sym, subst, true�
 use Rattle.wf_model.specs.Grammar.{Production}
 use Rattle.wf_model.specs.Lists.{IsIn}
 use Rattle.wf_spec.specs.Bodies.{modules_at}
-use Rattle.wf_check.proofs.Heads.{headed_at}
+use Rattle.wf_spec.proofs.Heads.{headed_at}
 use Rattle.wf_check.proofs.Lower.{lower_told, none_found, least_found}
 use Rattle.wf_check.proofs.ranks.least_lower.Goals as goal
 

@@ -1,5 +1,5 @@
 use Rattle.std.proofs.Common.{◌∙◌, sym, ap, not}
-use Rattle.wf_check.proofs.Options.{match_some, match_none}
+use Rattle.wf_model.proofs.Options.{match_some, match_none}
 use Rattle.wf_check.proofs.Rounds.{round_old, round_none, round_some}
 use Rattle.wf_check.proofs.ranks.try_module.Goals as goal
 use Rattle.wf_check.proofs.ranks.try_module.Goals.{then-is_some-via-then-is_some, then-is_some-via-else-is_some+then-is_none}

@@ -1,9 +1,10 @@
 use Rattle.std.proofs.Common.{◌≡◌, ◌<◌, ◌↔◌, ◌∙◌, ℕ, Bool, List, Vec, true, false, length, get_or, ap, sym, subst}
 use Rattle.std.specs.declared.alloc.Global.{Global}
 use Rattle.wf_model.specs.Proper.{Derives}
+use Rattle.wf_model.proofs.Going.{made_below}
 use Rattle.wf_graph.specs.Graph.{HasEdge, IsReached}
 use Rattle.wf_check.proofs.Least.{least_same}
-use Rattle.wf_check.proofs.Reaching.{made_below, derived_reached}
+use Rattle.wf_graph.proofs.Deriving.{derived_reached}
 use Rattle.wf_check.proofs.reach.unreached.Goals as goal
 
 pub reached-requires-clause-in_range : goal.reached-requires-clause-in_range

@@ -2,9 +2,10 @@ use Rattle.std.proofs.Common.{◌<◌, ◌+◌, ◌∙◌, [], ℕ, List, Vec, l
 use Rattle.std.specs.Prelude.{Bool}
 use Rattle.std.specs.declared.alloc.Global.{Global}
 use Rattle.std.proofs.lemmas.List.{length_push, map_push}
+use Rattle.wf_model.proofs.Going.{made_below}
 use Rattle.wf_graph.specs.Graph.{HasEdge}
 use Rattle.wf_recur.specs.Reaching.{IsRow, rows_in}
-use Rattle.wf_recur.proofs.Reaching.{made_below, row_more}
+use Rattle.wf_recur.proofs.Reaching.{row_more}
 use Rattle.wf_recur.proofs.reach.derived.Goals as goal
 
 pub reached-requires-clause-in_range : goal.reached-requires-clause-in_range

@@ -3,10 +3,11 @@ use Rattle.std.proofs.lemmas.List.{length-map, map_push}
 use Rattle.std.specs.Prelude.{Vec, map}
 use Rattle.std.specs.declared.alloc.Global.{Global}
 use Rattle.wf_model.specs.declared.numbers.ModNo.{ModNo}
+use Rattle.wf_model.proofs.Options.{match_some, match_none}
 use Rattle.wf_recur.specs.Cycles.{step_of}
 use Rattle.wf_recur.specs.Rounds.{ArePlaced, AreRoundsBelow, numbers_of, rounds_in, stands_in}
 use Rattle.wf_recur.proofs.Numbering.{rounds_same, rounds_more}
-use Rattle.wf_recur.proofs.Opening.{match_none, match_some, met_told}
+use Rattle.wf_recur.proofs.Opening.{met_told}
 use Rattle.wf_recur.proofs.Telling.{step_told, steps_linear}
 use Rattle.wf_recur.proofs.rounds.add_round.Goals as goal
 

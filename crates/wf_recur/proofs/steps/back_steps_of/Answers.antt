@@ -1,4 +1,4 @@
-use Rattle.wf_recur.proofs.Heads.{headed_at}
+use Rattle.wf_spec.proofs.Heads.{headed_at}
 use Rattle.wf_recur.proofs.steps.back_steps_of.Goals as goal
 
 pub add_steps-requires-clause-production : goal.add_steps-requires-clause-production

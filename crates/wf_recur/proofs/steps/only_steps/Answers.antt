@@ -1,9 +1,9 @@
 use Rattle.std.proofs.Common.{◌<◌, ◌+◌, ◌∙◌, ℕ, List, Option, None, ap, sym, subst, length, get_or, arith}
 use Rattle.std.proofs.lemmas.List.{length_push}
 use Rattle.wf_model.specs.declared.body.Step.{Step as StepHeld}
+use Rattle.wf_model.proofs.Positions.{each_more}
 use Rattle.wf_recur.specs.Steps.{TellsStep}
 use Rattle.std.proofs.lemmas.Result.{err_from_is_err_and}
-use Rattle.wf_recur.proofs.Lists.{each_more}
 use Rattle.wf_recur.proofs.Telling.{fault_first, steps_linear}
 use Rattle.wf_recur.proofs.steps.only_steps.Goals as goal
 

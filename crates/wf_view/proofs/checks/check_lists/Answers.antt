@@ -2,22 +2,24 @@ use Rattle.std.proofs.Common.{◌≡◌, ℕ, List, [], ◌∷◌, drop, refl, s
 use Rattle.wf_model.specs.declared.parts.DepsPart.{DepsPart}
 use Rattle.wf_model.specs.declared.parts.ViewParts.{ViewParts}
 use Rattle.wf_model.specs.Grammar.{Grammar}
-use Rattle.wf_spec.specs.Rules.{HasKnownPairs}
-use Rattle.wf_view.specs.Rules.{Rule, each, new_names, deps_names, listed, rules_of, AllHold, IsFirstFault, IsModuleName, IsOnShown}
+use Rattle.wf_spec.specs.Pairs.{HasKnownPairs}
+use Rattle.wf_spec.specs.FirstFaults.{Rule, each, AllHold, IsFirstFault}
+use Rattle.wf_view.specs.Rules.{new_names, deps_names, listed, rules_of, IsModuleName, IsOnShown}
 use Rattle.wf_view.specs.declared.fault.ViewSpot.TheVariants.{ExpandAt, DepsAt}
+use Rattle.wf_view.specs.declared.fault.ViewFault.{ViewFault}
 use Rattle.wf_view.specs.declared.fault.ViewFault.TheVariants.{UnknownModule, DepsOnExpanded, UnknownPort, ModuleTwice}
-use Rattle.wf_view.proofs.First.{holds_of, told_some, told_none}
+use Rattle.wf_spec.proofs.FirstFaults.{holds_of, told_some, told_none}
 use Rattle.wf_view.proofs.checks.check_lists.Goals as goal
 
 -- the rules of lists as they are read
-abbrev rules_from : Grammar → ViewParts → List (List ℕ) → List DepsPart → List Rule
+abbrev rules_from : Grammar → ViewParts → List (List ℕ) → List DepsPart → List (Rule ViewFault)
 rules_from g parts names deps =
     each parts.deps (IsOnShown g parts) DepsOnExpanded ∷
     each deps (HasKnownPairs g.modules) UnknownPort ∷
     new_names names (λ k. ModuleTwice (ExpandAt k)) ∷
     new_names (deps_names deps) (λ k. ModuleTwice (DepsAt k)) ∷ []
 
-at_parts : (P : List Rule → Type 0) (g : Grammar) (parts : ViewParts) (names : List (List ℕ)) (deps : List DepsPart) → names ≡ listed parts.expand → deps ≡ parts.deps
+at_parts : (P : List (Rule ViewFault) → Type 0) (g : Grammar) (parts : ViewParts) (names : List (List ℕ)) (deps : List DepsPart) → names ≡ listed parts.expand → deps ≡ parts.deps
     → P (rules_from g parts names deps) → P (drop 3 (rules_of g parts))
 at_parts P g parts names deps n d h =
     subst (λ ds. P (rules_from g parts (listed parts.expand) ds)) d (subst (λ ns. P (rules_from g parts ns deps)) n h)

@@ -1,5 +1,5 @@
 use Rattle.std.proofs.Common.{◌≡◌, ◌<◌, ℕ, false, length, get_or}
-use Rattle.wf_view.specs.Viewing.{is_composite}
+use Rattle.wf_model.specs.Composite.{is_composite}
 use Rattle.wf_view.proofs.marks.composite_marks.Given as goal
 
 abbrev pub invariant-loop-m : goal.invariant-loop-m

@@ -1,9 +1,9 @@
 use Rattle.std.proofs.Common.{◌<◌, ◌==◌, ◌||◌, false, get_or, sym, ap, ◌∙◌, subst}
-use Rattle.wf_spec.specs.Forming.{names_of}
+use Rattle.wf_spec.specs.Naming.{names_of}
 use Rattle.wf_view.proofs.Looked.{none_there, one_there}
 use Rattle.wf_view.proofs.Marking.{set_is}
 use Rattle.wf_view.proofs.Naming.{named_is, named_not}
-use Rattle.wf_view.proofs.Passing.{or_false}
+use Rattle.wf_model.proofs.Tests.{or_nothing}
 use Rattle.wf_view.proofs.marks.mark.Goals as goal
 
 pub returns-in-Some : goal.returns-in-Some
@@ -19,5 +19,5 @@ pub returns-in_default : goal.returns-in_default
 returns-in_default c = λ m below.
     let g = c.args.g.now.core in
     let name = c.args.name.now in
-    or_false (get_or c.args.marks.now m false)
+    or_nothing (get_or c.args.marks.now m false)
     ∙ ap (λ b. get_or c.args.marks.now m false || b) (sym (named_not g name (none_there (names_of g.modules) name c.find.result c.find.ensures.place c.in_default.is) m below))

@@ -1,6 +1,6 @@
 use Rattle.std.proofs.Common.{◌∙◌, ◌<◌, [], ◌∷◌, ◌++◌, ap, sym, subst, arith, length, get_or, set, take}
 use Rattle.std.proofs.lemmas.List.{take_more, take_all, length-set}
-use Rattle.wf_spec.proofs.Graphs.{edge_more}
+use Rattle.wf_graph.proofs.Edges.{edge_more}
 use Rattle.wf_spec.proofs.Tables.{get_in}
 use Rattle.wf_check.specs.UnitPaths.{IsGraphOf}
 use Rattle.wf_check.proofs.UnitRules.{no_rule}

@@ -3,9 +3,10 @@ use Rattle.wf_model.specs.Grammar.{Production}
 use Rattle.wf_model.specs.Links.{edge_link}
 use Rattle.wf_model.specs.Lists.{IsIn}
 use Rattle.wf_model.specs.Meaning.{edge_of}
+use Rattle.wf_model.proofs.Absent.{no_edge}
 use Rattle.wf_spec.proofs.Graphs.{edge_there}
 use Rattle.wf_safe.specs.BodyGraph.{AddsLinks, link_of}
-use Rattle.wf_safe.proofs.BodyLinks.{no_edge, edges_step}
+use Rattle.wf_safe.proofs.BodyLinks.{edges_step}
 use Rattle.wf_safe.proofs.LinkGraphs.{completes_more}
 use Rattle.wf_safe.proofs.Vertices.{inner_output}
 use Rattle.wf_safe.proofs.check.graph.add_edges.Goals as goal

@@ -1,9 +1,10 @@
 use Rattle.std.proofs.Common.{◌≡◌, ◌∙◌, [], ◌∷◌, ap, subst, refl, get_or, Option, Some, None, ℕ, arith}
 use Rattle.wf_model.specs.Grammar.{Production}
 use Rattle.wf_model.specs.Links.{Link, input}
+use Rattle.wf_model.proofs.Absent.{no_inner}
 use Rattle.wf_body.proofs.Entering.{few_entries}
 use Rattle.wf_safe.specs.BodyGraph.{AddsLinks, link_of}
-use Rattle.wf_safe.proofs.BodyLinks.{no_inner, entries_step}
+use Rattle.wf_safe.proofs.BodyLinks.{entries_step}
 use Rattle.wf_safe.proofs.LinkGraphs.{completes_more}
 use Rattle.wf_safe.proofs.check.graph.add_entries.Goals as goal
 

@@ -3,10 +3,11 @@ use Rattle.wf_model.specs.Grammar.{Production, production_at}
 use Rattle.wf_model.specs.Links.{Link, output}
 use Rattle.wf_model.specs.Meaning.{inner_of}
 use Rattle.wf_model.proofs.Lists.{at_in}
+use Rattle.wf_model.proofs.Absent.{no_inner}
 use Rattle.wf_body.proofs.Entering.{held_at}
 use Rattle.wf_body.proofs.Meaning.{few_exits}
 use Rattle.wf_safe.specs.BodyGraph.{AddsLinks, link_of}
-use Rattle.wf_safe.proofs.BodyLinks.{no_inner, exits_step}
+use Rattle.wf_safe.proofs.BodyLinks.{exits_step}
 use Rattle.wf_safe.proofs.LinkGraphs.{completes_more}
 use Rattle.wf_safe.proofs.Vertices.{inner_output}
 use Rattle.wf_safe.proofs.check.graph.add_exits.Goals as goal

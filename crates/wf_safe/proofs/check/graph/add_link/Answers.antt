@@ -1,6 +1,6 @@
 use Rattle.std.proofs.Common.{◌∙◌, ◌<◌, [], ◌∷◌, ◌++◌, ap, sym, subst, length, set, length-set}
-use Rattle.wf_spec.specs.Graphs.{HasOneMore}
-use Rattle.wf_spec.proofs.Graphs.{edge_more}
+use Rattle.wf_graph.specs.OneMore.{HasOneMore}
+use Rattle.wf_graph.proofs.Edges.{edge_more}
 use Rattle.wf_safe.specs.BodyGraph.{link_of, port_of, vertex_of}
 use Rattle.wf_safe.proofs.LinkGraphs.{adds_one}
 use Rattle.wf_safe.proofs.check.graph.add_link.Goals as goal

@@ -19,5 +19,5 @@ returns-then-is_composite c =
     let one = c.index-modules-m.result in
     let is = module_is g c.modules.result.now m one c.modules.ensures.modules c.requires c.index-modules-m.is in
     IfOk-weaker c.all_rows.result _ _
-    (λ rows h. by_same (inputs_of g m) (outputs_of g m) (λ i o. true) (is_given g.given m) rows.items (λ i o a b. sym (composite_all g c.modules.ensures.formed m (sym c.is_composite.ensures ∙ c.if-is_composite.true) i o))
+    (λ rows h. by_same (inputs_of g m) (outputs_of g m) (λ i o. true) (is_given g.given m) rows.items (λ i o a b. sym (composite_all g c.modules.ensures.formed m (sym c.is_composite.ensures.test ∙ c.if-is_composite.true) i o))
     (subst (λ (k : Module). AreRowsBy (length k.inputs) (length k.outputs) (λ i o. true) rows.items) is h)) c.all_rows.ensures

@@ -1,6 +1,7 @@
 use Rattle.std.proofs.Common.{◌≡◌, ◌∙◌, ℕ, List, length, map, replicate, ap, sym, subst}
 use Rattle.std.proofs.lemmas.List.{with_items_is, length-replicate}
-use Rattle.wf_spec.specs.Rows.{pair_in, AreAdded}
+use Rattle.wf_spec.specs.Pairs.{pair_in}
+use Rattle.wf_spec.specs.Rows.{AreAdded}
 use Rattle.wf_view.specs.Tables.{names_pair, AreRowsBy}
 use Rattle.wf_view.proofs.Pairing.{pairs_made}
 use Rattle.wf_view.proofs.assemble.rows.named_rows.Goals as goal

@@ -1,4 +1,4 @@
-use Rattle.wf_spec.proofs.Numbering.{is_found}
+use Rattle.wf_spec.proofs.Finding.{is_found}
 use Rattle.wf_view.proofs.assemble.rows.port_place.Goals as goal
 
 pub unwrap-requires : goal.unwrap-requires

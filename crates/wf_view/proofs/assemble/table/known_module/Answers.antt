@@ -1,4 +1,4 @@
-use Rattle.wf_spec.specs.Forming.{names_of}
+use Rattle.wf_spec.specs.Naming.{names_of}
 use Rattle.wf_view.proofs.Looked.{is_some_there}
 use Rattle.wf_view.proofs.assemble.table.known_module.Goals as goal
 

@@ -2,9 +2,9 @@ use Rattle.std.proofs.Common.{rules, tests}
 use Rattle.std.proofs.lemmas.Iterator.{YieldsList-from_slice}
 use Rattle.std.proofs.lemmas.Iterator.Search.{position_from_yields_List}
 use Rattle.wf_view.specs.Rules.{number_in, IsCompositeName}
-use Rattle.wf_view.specs.Viewing.{is_composite}
+use Rattle.wf_model.specs.Composite.{is_composite}
 use Rattle.wf_view.specs.declared.fault.ViewFault.TheVariants.{NotComposite}
-use Rattle.wf_view.proofs.First.{first_that_is_not}
+use Rattle.wf_spec.proofs.FirstFaults.{first_that_is_not}
 use Rattle.wf_view.proofs.checks.composite.first_atomic_name.Goals as goal
 
 pub returns : goal.returns

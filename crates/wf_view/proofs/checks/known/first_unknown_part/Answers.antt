@@ -4,11 +4,11 @@ use Rattle.std.proofs.lemmas.Iterator.Search.{position_from_yields_List}
 use Rattle.wf_model.specs.declared.parts.DepsPart.{DepsPart}
 use Rattle.wf_model.specs.Faults.{is_one_of}
 use Rattle.wf_model.proofs.Lists.{among_gives, among_from}
-use Rattle.wf_spec.specs.Forming.{names_of}
+use Rattle.wf_spec.specs.Naming.{names_of}
 use Rattle.wf_view.specs.Rules.{IsModuleName}
 use Rattle.wf_view.specs.declared.fault.ViewSpot.TheVariants.{DepsAt}
 use Rattle.wf_view.specs.declared.fault.ViewFault.TheVariants.{UnknownModule}
-use Rattle.wf_view.proofs.First.{first_that_is_not}
+use Rattle.wf_spec.proofs.FirstFaults.{first_that_is_not}
 use Rattle.wf_view.proofs.checks.known.first_unknown_part.Goals as goal
 
 pub returns : goal.returns

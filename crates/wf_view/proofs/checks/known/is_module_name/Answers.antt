@@ -1,5 +1,5 @@
 use Rattle.std.proofs.Common.{◌∙◌}
-use Rattle.wf_spec.specs.Forming.{names_of}
+use Rattle.wf_spec.specs.Naming.{names_of}
 use Rattle.wf_view.proofs.Looked.{tells}
 use Rattle.wf_view.proofs.checks.known.is_module_name.Goals as goal
 

@@ -1,9 +1,9 @@
 use Rattle.std.proofs.Common.{rules, tests}
 use Rattle.std.proofs.lemmas.Iterator.{YieldsList-from_slice}
 use Rattle.std.proofs.lemmas.Iterator.Search.{position_from_yields_List}
-use Rattle.wf_spec.specs.Rules.{HasKnownPairs}
+use Rattle.wf_spec.specs.Pairs.{HasKnownPairs}
 use Rattle.wf_view.specs.declared.fault.ViewFault.TheVariants.{UnknownPort}
-use Rattle.wf_view.proofs.First.{first_that_is_not}
+use Rattle.wf_spec.proofs.FirstFaults.{first_that_is_not}
 use Rattle.wf_view.proofs.Ports.{are_known, known_gives, known_from}
 use Rattle.wf_view.proofs.checks.pairs.first_unknown_pair.Goals as goal
 

@@ -1,7 +1,7 @@
 use Rattle.std.proofs.Common.{◌≤◌, ◌==◌, length, ap, ◌∙◌, subst}
 use Rattle.std.proofs.lemmas.List.{length-map}
 use Rattle.wf_model.specs.Grammar.{Module}
-use Rattle.wf_spec.specs.Forming.{names_of, place_of}
+use Rattle.wf_spec.specs.Naming.{names_of, place_of}
 use Rattle.wf_view.specs.Rules.{number_in}
 use Rattle.wf_view.proofs.Looked.{none_place}
 use Rattle.wf_view.proofs.Ports.{none_past}

@@ -3,11 +3,12 @@ use Rattle.std.proofs.lemmas.Iterator.{YieldsList-from_slice}
 use Rattle.std.proofs.lemmas.Iterator.Search.{position_from_yields_List}
 use Rattle.wf_model.specs.declared.parts.DepsPart.{DepsPart}
 use Rattle.wf_model.specs.Lists.{IsIn}
-use Rattle.wf_spec.proofs.Lawful.{number_below}
-use Rattle.wf_view.specs.Rules.{each, number_in, IsFirstFailing, IsOnShown}
+use Rattle.wf_spec.proofs.Finding.{number_below}
+use Rattle.wf_spec.specs.FirstFaults.{each, IsFirstFailing}
+use Rattle.wf_view.specs.Rules.{number_in, IsOnShown}
 use Rattle.wf_view.specs.Viewing.{is_expanded}
 use Rattle.wf_view.specs.declared.fault.ViewFault.TheVariants.{DepsOnExpanded}
-use Rattle.wf_view.proofs.First.{position_is_first}
+use Rattle.wf_spec.proofs.FirstFaults.{position_is_first}
 use Rattle.wf_view.proofs.checks.shown.first_on_expanded.Goals as goal
 
 pub returns : goal.returns

@@ -1,7 +1,8 @@
 use Rattle.std.proofs.Common.{◌∙◌, sym, subst}
 use Rattle.std.proofs.lemmas.List.{length-map}
 use Rattle.wf_model.specs.declared.parts.DepsPart.{DepsPart}
-use Rattle.wf_spec.specs.Rules.{IsNewAt, FailsFirstAt}
+use Rattle.wf_spec.specs.Naming.{IsNewAt}
+use Rattle.wf_spec.specs.FirstFaults.{FailsFirstAt}
 use Rattle.wf_spec.proofs.NewNames.{first_not_new, new_more, names_more}
 use Rattle.wf_view.specs.Rules.{deps_names}
 use Rattle.wf_view.proofs.checks.twice.first_part_twice.Goals as goal

@@ -1,5 +1,5 @@
 use Rattle.std.proofs.Common.{◌≡◌, ℕ, ◌<◌, take}
-use Rattle.wf_spec.specs.Rules.{IsNewAt}
+use Rattle.wf_spec.specs.Naming.{IsNewAt}
 use Rattle.wf_view.specs.Rules.{deps_names}
 use Rattle.wf_view.proofs.checks.twice.first_part_twice.Given as goal
 

@@ -1,0 +1,32 @@
+-- The fault of parts, by the group of rules in which it is found.
+use Rattle.std.proofs.Common.{◌≡◌, ◌⊎◌, List, ℕ, sym, ap, ◌∙◌, inl, inr, ⊎_elim}
+use Rattle.wf_model.specs.declared.parts.Parts.{Parts}
+use Rattle.wf_model.specs.Grammar.{Module}
+use Rattle.wf_form.specs.declared.fault.FormFault.{FormFault}
+use Rattle.wf_form.specs.declared.fault.FormFault.TheVariants.{NoMemory}
+use Rattle.wf_spec.specs.Naming.{names_of}
+use Rattle.wf_form.specs.Forming.{modules_of, IsFormed}
+use Rattle.wf_form.specs.Rules.{module_names, first_rules, body_rules, link_rules, IsFaultOf, AreKept}
+use Rattle.wf_spec.specs.FirstFaults.{AllHold, IsFirstFault}
+use Rattle.wf_form.proofs.Kept.{kept_gives}
+use Rattle.wf_form.proofs.Lawful.{same_names, kept_formed}
+
+-- a fault that is found among the first rules
+pub first_fault : (parts : Parts) (f : FormFault) → (f ≡ NoMemory) ⊎ IsFirstFault (first_rules parts) f → (f ≡ NoMemory) ⊎ IsFaultOf parts f
+first_fault parts f h = ⊎_elim (λ e. inl e) (λ b. inr (inl b)) h
+
+-- one that is found among those on bodies, where the first hold
+pub body_fault : (parts : Parts) (f : FormFault) → AllHold (first_rules parts) → (f ≡ NoMemory) ⊎ IsFirstFault (body_rules parts) f → (f ≡ NoMemory) ⊎ IsFaultOf parts f
+body_fault parts f first h = ⊎_elim (λ e. inl e) (λ b. inr (inr (first, inl b))) h
+
+-- one that is found among those on links, where the others hold
+pub link_fault : (parts : Parts) (f : FormFault) → AllHold (first_rules parts) → AllHold (body_rules parts) → (f ≡ NoMemory) ⊎ IsFirstFault (link_rules parts) f → (f ≡ NoMemory) ⊎ IsFaultOf parts f
+link_fault parts f first bodies h = ⊎_elim (λ e. inl e) (λ b. inr (inr (first, inr (bodies, b)))) h
+
+-- the names of modules, as they are read
+pub names_read : (parts : Parts) (modules : List Module) (names : List (List ℕ)) → modules ≡ modules_of parts → names ≡ module_names parts.modules → names ≡ names_of modules
+names_read parts modules names are is = is ∙ sym (ap names_of are ∙ same_names parts)
+
+-- parts that keep all rules form a grammar
+pub form : (parts : Parts) → AreKept parts → IsFormed parts
+form parts kept = kept_formed parts (kept_gives parts kept)

@@ -1,0 +1,16 @@
+use Rattle.std.proofs.Common.{ap, ◌∙◌, length}
+use Rattle.wf_model.specs.Grammar.{Module}
+use Rattle.wf_form.specs.Bodies.{outputs_in}
+use Rattle.wf_spec.proofs.Reading.{module_there, module_read}
+use Rattle.wf_form.proofs.Sides.{counts_more}
+use Rattle.wf_form.proofs.links.counts.output_counts.Goals as goal
+
+pub bounds-modules-q : goal.bounds-modules-q
+bounds-modules-q c = c.requires c.q-item.result.module.0 (module_there c.args.positions.now c.loop-q.q-index c.q-item.result c.loop-q-test.true c.q-item.is)
+
+pub loop-q-preserved : goal.loop-q-preserved
+loop-q-preserved c =
+    let low = c.requires c.q-item.result.module.0 (module_there c.args.positions.now c.loop-q.q-index c.q-item.result c.loop-q-test.true c.q-item.is) in
+    let read = module_read c.args.modules.now c.q-item.result.module.0 c.index-modules-q.result low c.index-modules-q.is in
+    counts_more (outputs_in c.args.modules.now) c.args.positions.now c.loop-q.q-index c.q-item.result _ _ _ c.loop-q-test.true c.q-item.is c.loop-q.invariant c.in_ok-push.ensures.items
+    (ap length c.outputs.ensures ∙ ap (λ (m : Module). length m.outputs) read)

@@ -1,0 +1,21 @@
+use Rattle.std.proofs.Common.{map}
+use Rattle.wf_model.specs.Meaning.{position_of}
+use Rattle.wf_form.specs.Wiring.{exit_of, exit_link, IsExitIn}
+use Rattle.wf_spec.proofs.Listing.{made_more, all_take_more, read_in}
+use Rattle.wf_form.proofs.Numbering.{all_read}
+use Rattle.wf_form.proofs.links.numbers.exit_numbers.Goals as goal
+
+pub returns-in_default-clause-unknown : goal.returns-in_default-clause-unknown
+returns-in_default-clause-unknown c = λ all. c.in_default.ensures (all c.part-item.result (read_in c.args.parts.now c.loop-part.part-index c.part-item.result c.part-item.is c.loop-part-test.true))
+
+pub loop-part-preserved : goal.loop-part-preserved
+loop-part-preserved c = record {
+  numbered = made_more exit_of (exit_link c.args.modules.now (map position_of c.args.body.now) c.args.head.now) c.loop-part.list.items c.push.new.self.items c.in-Some.exit
+      c.args.parts.now c.loop-part.part-index c.part-item.result c.loop-part.invariant.numbered c.in-Some.ensures.0 c.part-item.is c.loop-part-test.true c.in_ok-push.ensures.items;
+  all = all_take_more (IsExitIn c.args.modules.now (map position_of c.args.body.now) c.args.head.now) c.args.parts.now c.loop-part.part-index c.part-item.result c.loop-part.invariant.all
+      c.in-Some.ensures.1 c.part-item.is c.loop-part-test.true;
+}
+
+pub returns-clause-known : goal.returns-clause-known
+returns-clause-known c =
+    all_read (IsExitIn c.args.modules.now (map position_of c.args.body.now) c.args.head.now) c.args.parts.now c.loop-part.part-index c.loop-part.invariant.all c.loop-part-test.false

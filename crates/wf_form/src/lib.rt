@@ -1,0 +1,14 @@
+//! Grammars from the parts that a specification names: resolved, tested and put together.
+#![tactic(auto)]
+
+mod assemble;
+mod checks;
+mod fault;
+mod forming;
+mod law;
+mod links;
+mod wiring;
+
+pub use fault::{FormFault, Spot};
+pub use forming::build;
+pub use law::forming_law;

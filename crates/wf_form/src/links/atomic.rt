@@ -1,0 +1,54 @@
+// Deps parts on composite modules.
+ghost use Rattle.std.specs.Prelude.{◌≡◌, ◌↔◌, ◌⊎◌, List, ℕ, map, position, IfOk, OnOk};
+ghost use Rattle.wf_model.specs.Faults.{is_one_of};
+ghost use Rattle.wf_model.specs.Lists.{IsIn};
+ghost use Rattle.wf_spec.specs.FirstFaults.{each, IsFirstFailing};
+ghost use Rattle.wf_form.specs.Rules.{IsOfAtomic};
+ghost use Rattle.wf_form.specs.declared.fault.FormFault.TheVariants.{DepsOnComposite};
+
+use std::alloc::{AllocError, Global};
+use wf_model::{DepsPart, ProdPart};
+use wf_names::Names;
+
+/// Takes a name, if it is new.
+fn take(names: &mut Names, name: &[u8]) -> Result<(), AllocError>
+    ensures { OnOk result ((n : List ℕ) → IsIn n names.new ↔ (IsIn n names.old ⊎ (n ≡ name.now))) }
+{
+    if names.holds(name) {
+        return Ok(());
+    }
+    names.add(name)?;
+    Ok(())
+}
+
+/// The names of the heads.
+fn heads(alloc: Global, productions: &[ProdPart]) -> Result<Names, AllocError>
+    ensures { IfOk result (λ names. (n : List ℕ) → IsIn n names ↔ IsIn n (map (λ p. p.head) productions.now)) }
+{
+    let mut names = Names::new(alloc);
+    for rule in productions {
+        take(&mut names, rule.head.bytes())?;
+    }
+    Ok(names)
+}
+
+/// The first deps part whose module is one of these.
+fn first_of(names: &Names, deps: &[DepsPart]) -> Option<usize>
+    ensures { result ≡ position (λ d. is_one_of names.now d.«module») deps.now }
+{
+    deps.iter().position(|d| names.holds(d.module.bytes()))
+}
+
+/// The first deps part whose module is a head.
+///
+/// Cost: for each production and each deps part one look-up by hashing, and a copy of the name of each head.
+pub fn first_on_composite(
+    alloc: Global,
+    productions: &[ProdPart],
+    deps: &[DepsPart],
+) -> Result<Option<usize>, AllocError>
+    ensures { IfOk result (λ answer. IsFirstFailing (each deps.now (IsOfAtomic productions.now) DepsOnComposite) answer) }
+{
+    let heads = heads(alloc, productions)?;
+    Ok(first_of(&heads, deps))
+}

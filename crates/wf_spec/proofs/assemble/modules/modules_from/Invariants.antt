@@ -1,6 +1,0 @@
-use Rattle.std.proofs.Common.{◌≡◌, map, take}
-use Rattle.wf_spec.specs.Forming.{module_of}
-use Rattle.wf_spec.proofs.assemble.modules.modules_from.Given as goal
-
-abbrev pub invariant-loop-part : goal.invariant-loop-part
-invariant-loop-part l = l.list.items ≡ map module_of (take l.part-index l.parts)

@@ -1,8 +1,0 @@
-use Rattle.std.proofs.Common.{ℕ, ◌<◌}
-use Rattle.wf_model.specs.Lists.{IsAt}
-use Rattle.wf_spec.specs.declared.wiring.Wiring.{Wiring}
-use Rattle.wf_spec.specs.Wiring.{IsWiredAtMostOnce}
-use Rattle.wf_spec.proofs.links.wirings.first_linked_twice.Given as goal
-
-abbrev pub invariant-loop-k : goal.invariant-loop-k
-invariant-loop-k l = (j : ℕ) → j < l.k → (w : Wiring) → IsAt w j l.wirings → IsWiredAtMostOnce w

@@ -1,7 +1,0 @@
-// The law of forming.
-ghost use Rattle.wf_spec.specs.Rules.{FormingLaw};
-
-/// Parts keep all rules exactly if they form a well-formed grammar.
-pub fn forming_law()
-    ensures { FormingLaw }
-{}
