@@ -9,7 +9,7 @@ use Rattle.bool_mat.proofs.Rows.{has_gives, has_from}
 use Rattle.bool_mat.proofs.Relations.{Same, same_refl, same_sym, same_trans, then_same, then_assoc, power_add, power_one}
 
 -- rows with the same columns are equal
-row_same : (a b : ℕ) → ((j : ℕ) → IsTrue (has a j) ↔ IsTrue (has b j)) → a ≡ b
+pub row_same : (a b : ℕ) → ((j : ℕ) → IsTrue (has a j) ↔ IsTrue (has b j)) → a ≡ b
 row_same a b h = same_from_bits a b bit
   where
     bit : (j : ℕ) → bit_at a j ≡ bit_at b j

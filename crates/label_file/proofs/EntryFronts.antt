@@ -1,15 +1,12 @@
 -- An entry at the front of bytes, part by part.
-use Rattle.std.proofs.Common.{◌≡◌, ◌≢◌, ℕ, ◌+◌, ◌*◌, ◌/◌, ◌%◌, ◌≤◌, ◌<◌, List, [], ◌∷◌, ◌++◌, length, take, drop, get_or, Option, Some, None, sym, ap, ◌∙◌, arith, append_assoc}
+use Rattle.std.proofs.Common.{◌≡◌, ◌≢◌, ℕ, ◌+◌, ◌*◌, ◌/◌, ◌%◌, ◌≤◌, ◌<◌, List, [], ◌∷◌, ◌++◌, length, take, drop, get_or, Option, Some, None, sym, ap, ◌∙◌, arith}
 use Rattle.std.proofs.lemmas.List.{take-append-drop}
 use Rattle.std.specs.Borrow.{Bor}
 use Rattle.std.specs.List.{IsSplitAt}
 use Rattle.std.specs.Option.{IfSome, MatchOption}
 use Rattle.bit_pack.proofs.Fronts.{same_front}
-use Rattle.label_model.specs.Files.{Entry, entry_bytes, IsFront}
-
--- an entry part by part, and what follows it
-entry_spread : (e : Entry) (r : List ℕ) → entry_bytes e ++ r ≡ length e.name ∷ (e.name ++ (length e.label / 256 ∷ (length e.label % 256 ∷ (e.label ++ r))))
-entry_spread e r = simp append_assoc
+use Rattle.label_model.specs.Files.{Entry, IsFront}
+use Rattle.label_model.proofs.FileReadings.{entry_spread}
 
 -- two bytes that are a number, the higher first, then so many bytes, and what follows them
 label_whole : (s two behind label rest : List ℕ) (n : ℕ) → 2 ≤ length s → ((i : ℕ) → get_or s i 0 < 256) → two ≡ take 2 s → behind ≡ drop 2 s → n ≡ get_or two 0 0 * 256 + get_or two 1 0 → IsSplitAt behind n label rest →

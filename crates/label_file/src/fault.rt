@@ -3,31 +3,23 @@ ghost use Rattle.std.specs.Prelude.{◌≡◌};
 ghost use Rattle.label_file.specs.declared.fault.StoreFault.TheVariants.{NoMemory};
 
 use std::alloc::AllocError;
-use thiserror::Error;
 
 /// Why bytes are refused as a label file, in the order of trial: the head first, and then entry by entry. Want of memory may come at any place.
-#[derive(Clone, Copy, Debug, PartialEq, Eq, Error)]
+#[derive(Clone, Copy, Debug, PartialEq, Eq)]
 pub enum StoreFault {
     /// There are fewer than 36 bytes, or they do not begin with `WFL1`.
-    #[error("the bytes are no label file")]
     NotLabels,
     /// The digest is not that of the grammar.
-    #[error("the labels are of another specification")]
     OtherSpec,
     /// The entry at this offset is not whole.
-    #[error("the entry at {offset} is not whole")]
     Truncated { offset: u64 },
     /// The name of the entry of this number, from 0, is not that of an item.
-    #[error("entry {entry} has no item's name")]
     BadName { entry: u32 },
     /// An entry before the entry of this number has its name.
-    #[error("entry {entry} has a name that is taken")]
     NameTwice { entry: u32 },
     /// The label of the entry of this number is none of the grammar.
-    #[error("entry {entry} has no label of the grammar")]
     BadLabel { entry: u32 },
     /// Memory was refused.
-    #[error("no memory")]
     NoMemory,
 }
 

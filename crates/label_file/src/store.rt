@@ -1,5 +1,5 @@
 // The entries of a label file, found by name.
-ghost use Rattle.std.specs.Prelude.{◌≡◌, ◌↔◌, ◌<◌, ◌≤◌, ◌+◌, ◌^◌, ◌∷◌, ◌++◌, [], length, get_or, IsTrue, OnOk, OnErr, IfOk, IfErr, IfSome, IfNone};
+ghost use Rattle.std.specs.Prelude.{◌≡◌, ◌↔◌, ◌<◌, ◌≤◌, ◌+◌, ◌^◌, ◌∷◌, ◌++◌, [], true, false, length, get_or, IsTrue, OnOk, IfOk, IfErr, IfSome, IfNone};
 ghost use Rattle.wf_model.specs.Lists.{IsIn};
 ghost use Rattle.wf_model.specs.Linear.{IsLinear};
 ghost use Rattle.wf_recur.specs.Cycles.{AreCyclesOf};
@@ -24,18 +24,22 @@ fn holds(entries: &IndexMap<&[u8], LabelRef>, name: &[u8]) -> bool
     entries.contains_key(name)
 }
 
-/// Adds an entry with a new name behind the others. The only error is that memory is refused, and then nothing is added.
+/// Adds an entry behind the others, if its name is new, and tells whether it is. Where it is not, the entry of this name has the label now. The only error is that memory is refused.
+///
+/// The name is hashed once. An `Entry` of the map would leave the label before in its place, but no clause tells what a map with borrowed keys holds after an `Entry` of it is dropped.
 fn put<'a>(
     entries: &mut IndexMap<&'a [u8], LabelRef<'a>>,
     name: &'a [u8],
     label: LabelRef<'a>,
-) -> Result<(), AllocError>
-    requires new_name { IsIn name.now (names_held (held entries.old.entries)) → ⊥ }
-    ensures added { OnOk result (held entries.new.entries ≡ held entries.old.entries ++ record { name = name.now; bits = label.entry } ∷ []) }
-    ensures err { OnErr result (entries.new.entries ≡ entries.old.entries) }
+) -> Result<bool, AllocError>
+    ensures free { IfOk result (λ is_new. is_new ≡ true → IsIn name.now (names_held (held entries.old.entries)) → ⊥) }
+    ensures added { IfOk result (λ is_new. is_new ≡ true → held entries.new.entries ≡ held entries.old.entries ++ record { name = name.now; bits = label.entry } ∷ []) }
+    ensures taken { IfOk result (λ is_new. is_new ≡ false → IsIn name.now (names_held (held entries.old.entries))) }
+    ensures few { length entries.new.entries ≤ length entries.old.entries + 1 }
 {
     match entries.insert(name, label) {
-        Ok(_) => Ok(()),
+        Ok(None) => Ok(true),
+        Ok(Some(_)) => Ok(false),
         Err(_) => Err(AllocError),
     }
 }
@@ -92,7 +96,7 @@ impl<'a> Store<'a> {
         Ok(store)
     }
 
-    /// Adds an entry behind the others, if its name is that of an item, no entry before has the name, and its label is one of the grammar. This is tried in this order, and after an error nothing is added.
+    /// Adds an entry behind the others, if its name is that of an item, no entry before has the name, and its label is one of the grammar. The first of these that is wrong is told in this order. After an error the entries are good for nothing.
     fn add(
         &mut self,
         g: &Grammar,
@@ -105,19 +109,20 @@ impl<'a> Store<'a> {
         requires room { length self.old + 1 < 2 ^ 32 }
         ensures added { OnOk result (IsAdded g.now.core self.old (record { name = name.now; label = label.now }) self.new) }
         ensures refused { IfErr result (λ f. IsRefused g.now.core self.old (record { name = name.now; label = label.now }) f) }
-        ensures err { OnErr result (self.new ≡ self.old) }
     {
         let entry = self.length();
         if split_item(name).is_none() {
             return Err(StoreFault::BadName { entry });
         }
-        if holds(&self.entries, name) {
-            return Err(StoreFault::NameTwice { entry });
-        }
         let Ok(label) = LabelRef::check(g, cycles, label) else {
+            if holds(&self.entries, name) {
+                return Err(StoreFault::NameTwice { entry });
+            }
             return Err(StoreFault::BadLabel { entry });
         };
-        put(&mut self.entries, name, label)?;
+        if !put(&mut self.entries, name, label)? {
+            return Err(StoreFault::NameTwice { entry });
+        }
         Ok(())
     }
 

@@ -6,7 +6,8 @@ ghost use Rattle.wf_model.specs.Run.{IsRun, made, names_of};
 ghost use Rattle.wf_model.specs.Faults.{fault_of};
 ghost use Rattle.run_faults.specs.Standing.{IsFound};
 
-use crate::names::{Taken, are_short, repeats};
+use crate::names::{Taken, repeats};
+use name_text::are_short;
 use wf_spec::{Grammar, ModNo, Name, ProdNo, RunFault};
 
 /// An instance that is there: its module, and whether it is expanded.

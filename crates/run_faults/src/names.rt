@@ -1,9 +1,7 @@
 // Names of instances: their form, and whether they are taken.
 ghost use Rattle.std.specs.Prelude.{◌≡◌, ℕ, List};
-ghost use Rattle.std.specs.List.{list_all};
-ghost use Rattle.wf_model.specs.Faults.{is_short_name, is_one_of, some_twice};
+ghost use Rattle.wf_model.specs.Faults.{is_one_of, some_twice};
 
-use name_text::is_short;
 use wf_model::Name;
 use wf_names::Names;
 
@@ -23,18 +21,6 @@ impl Taken for Names {
     fn holds(&self, name: &[u8]) -> bool {
         Names::holds(self, name)
     }
-}
-
-/// Whether all are names of 1 to 64 letters, digits, `_` or `-`.
-pub(crate) fn are_short(names: &[Name]) -> bool
-    ensures { result ≡ list_all is_short_name names.now }
-{
-    for name in names {
-        if !is_short(name.bytes()) {
-            return false;
-        }
-    }
-    true
 }
 
 fn is_among(names: &[Name], name: &[u8]) -> bool

@@ -8,8 +8,8 @@ use Rattle.wf_model.specs.Linear.{IsLinear}
 use Rattle.label_model.specs.Continuing.{next_by, after}
 use Rattle.label_model.proofs.ContinuingSteps.{continuing_law}
 use Rattle.decode_model.specs.Rounds.{AreContinuing}
-use Rattle.decode_model.specs.Matrices.{IsOpenStep, IsOpenRoute}
-use Rattle.decode_model.proofs.SeenLegs.{step_seen}
+use Rattle.wf_model.specs.OpenRoutes.{IsOpenStep, IsOpenRoute}
+use Rattle.wf_model.proofs.OpenRoutes.{step_seen}
 
 module _ (g : Grammar) (wf : IsWellFormed g) (lin : IsLinear g) where
   -- continuing steps are open where they lead to expanded modules, the last of which may not be

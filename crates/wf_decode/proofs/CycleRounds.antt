@@ -16,10 +16,11 @@ use Rattle.wf_recur.proofs.Going.{by_more, by_same}
 use Rattle.wf_recur.proofs.Places.{place_told, place_back_least}
 use Rattle.wf_decode.proofs.ChainSteps.{length-round}
 use Rattle.wf_decode.proofs.HeldRounds.{gone_round}
-use Rattle.decode_model.specs.Matrices.{IsOpenStep, IsOpenRoute, IsOnceRound}
+use Rattle.wf_model.specs.OpenRoutes.{IsOpenStep, IsOpenRoute}
+use Rattle.decode_model.specs.Matrices.{IsOnceRound}
 use Rattle.decode_model.specs.Rounds.{AreContinuing}
 use Rattle.decode_model.proofs.Rounds.{continuing_take, along_after}
-use Rattle.decode_model.proofs.SeenLegs.{step_seen}
+use Rattle.wf_model.proofs.OpenRoutes.{step_seen}
 use Rattle.wf_decode.specs.HeldLegs.{step_by, step_on, module_on, round_from}
 
 -- the modules follow one another by their continuing steps, from m, and the last leads to k

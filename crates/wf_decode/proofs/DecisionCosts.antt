@@ -4,7 +4,7 @@ use Rattle.wf_model.specs.View.{View}
 use Rattle.wf_model.specs.Reach.{Step}
 use Rattle.wf_recur.specs.Cycles.{round_at}
 use Rattle.label_model.specs.Bound.{components, cycles}
-use Rattle.decode_model.specs.Matrices.{IsOpenRoute}
+use Rattle.wf_model.specs.OpenRoutes.{IsOpenRoute}
 use Rattle.decode_model.specs.Legs.{Leg, way_up, way_down, crossing}
 use Rattle.decode_model.specs.Costs.{AreShort, IsLeft, all}
 use Rattle.decode_model.specs.Counts.{IsLegsOfPlace, most_products}

@@ -13,25 +13,20 @@ use Rattle.verdict_model.specs.Verdicts.{IsHidden, AreShown, AreClashing, NeverD
 use Rattle.verdict_model.specs.Laws.{IsAnswered}
 use Rattle.verdict_model.proofs.Naming.{input_unnamed, output_unnamed}
 use Rattle.verdict_model.proofs.Hiding.{input_shown, output_shown}
-use Rattle.verdict_model.proofs.Clashing.{child_of, parting_or_agree, agree_not_parting, clash_parting, parting_clash}
-use Rattle.verdict_model.proofs.Answering.{answer_law}
+use Rattle.verdict_model.proofs.Clashing.{child_of, parting_or_agree, agree_not_parting, clash_parting, parting_clash, agreed_at}
+use Rattle.verdict_model.proofs.Answering.{answer_induced}
 use Rattle.wf_vlabel.specs.Seen.{ViewLabelSeen, IsLabelOfView, IsViewLabel, matrices_of, full_in}
 use Rattle.wf_decode.specs.Parting.{AreClashingSteps}
 use Rattle.wf_decode.specs.declared.leg.Leg.{Leg as LegHeld}
 use Rattle.wf_decode.specs.declared.decision.ends.End.{End}
 use Rattle.wf_decode.specs.declared.decision.ends.End.TheVariants.{Hidden, Nowhere, At}
 use Rattle.wf_decode.specs.Ends.{IsProducingEnd}
-use Rattle.wf_decode.specs.Answers.{IsAnswer, IsDecision}
+use Rattle.wf_decode.specs.Answers.{IsAnswerOfAddresses, IsDecision}
 
 -- the empty address clashes with none
 not_empty : (common rest : List Step) (s : Step) → [] ≡ common ++ s ∷ rest → ⊥
 not_empty [] rest s e = cc
 not_empty (t ∷ common) rest s e = cc
-
--- addresses that agree do not clash
-agreed_at : (c : List Step) (s t : Step) (a b : List Step) → Agree (c ++ s ∷ a) (c ++ t ∷ b) → s.production ≡ t.production
-agreed_at [] s t a b h = h.0
-agreed_at (w ∷ c) s t a b h = agreed_at c s t a b (h.1 refl)
 
 agree_not_clash : (a b : List Step) → Agree a b → AreClashingSteps a b → ⊥
 agree_not_clash a b h x =
@@ -61,13 +56,13 @@ labels_clash g wf (OfEdge q) (OfEdge r) a b i o c p h = ⊎_elim
 
 module _ (l : ViewLabelSeen) (is : IsViewLabel l) (u : View) (of : IsLabelOfView l u) (x y : Label) (lx : IsLabel l.grammar x) (ly : IsLabel l.grammar y) where
   answered : AreShown l.grammar u x y → (AreClashing l.grammar x y → ⊥) → IsAnswered l.grammar u (full_in (matrices_of l)) x y
-  answered = answer_law l.grammar u (full_in (matrices_of l)) is.formed is.proper of.is_view.expanded of.induced x y lx ly
+  answered = answer_induced l.grammar u (full_in (matrices_of l)) is.formed is.proper of.is_view.expanded of.induced x y lx ly
 
   decision_no : AreShown l.grammar u x y → (AreClashing l.grammar x y → ⊥) → NeverDepends l.grammar u x y × (AlwaysDepends l.grammar u x y → ⊥) → IsDecision l.grammar u x y No
   decision_no shown apart n = record { verdict = (shown, apart, n.1); never = λ e. n.0 }
 
   -- the answer of the ports where the first item is consumed and the second is produced
-  pub decided : (a b : List Step) (i o : ℕ) (v : Verdict) → ConsumedAt l.grammar x a i → ProducedAt l.grammar y b o → AreShown l.grammar u x y → IsAnswer l.grammar (full_in (matrices_of l)) a b i o v → IsDecision l.grammar u x y v
+  pub decided : (a b : List Step) (i o : ℕ) (v : Verdict) → ConsumedAt l.grammar x a i → ProducedAt l.grammar y b o → AreShown l.grammar u x y → IsAnswerOfAddresses l.grammar (full_in (matrices_of l)) a b i o v → IsDecision l.grammar u x y v
   decided a b i o Hidden1 c p shown h = absurd h
   decided a b i o Hidden2 c p shown h = absurd h
   decided a b i o Clash c p shown h = record { verdict = (shown, labels_clash l.grammar is.formed x y a b i o c p h); never = λ e. absurd (cc) }

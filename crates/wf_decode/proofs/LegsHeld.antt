@@ -3,18 +3,18 @@ use Rattle.std.proofs.Common.{◌≡◌, ℕ, ◌^◌, ◌<◌, ◌≤◌, IsTru
 use Rattle.std.proofs.lemmas.Bool.{cases_Bool, cases_lt}
 use Rattle.std.proofs.lemmas.List.{length-take-le}
 use Rattle.wf_model.specs.Lists.{IsIn, some}
-use Rattle.wf_model.specs.Grammar.{Grammar}
 use Rattle.wf_model.specs.View.{View, expands, IsSeenModule}
-use Rattle.wf_model.specs.Reach.{Step, target_of, module_along}
+use Rattle.wf_model.specs.Reach.{target_of, module_along}
 use Rattle.wf_model.proofs.Lists.{some_from, some_gives}
 use Rattle.wf_recur.specs.Cycles.{round_at, step_of}
-use Rattle.decode_model.specs.Matrices.{IsOpenRoute, IsOnceRound}
+use Rattle.wf_model.specs.OpenRoutes.{IsOpenRoute}
+use Rattle.decode_model.specs.Matrices.{IsOnceRound}
 use Rattle.decode_model.specs.Rounds.{IsRound}
 use Rattle.decode_model.specs.Legs.{Leg, Part, leg_steps, IsLeg, AreLegs}
 use Rattle.decode_model.specs.Costs.{IsShortLeg, AreShort}
 use Rattle.decode_model.proofs.Rounds.{continuing_take, continuing_same}
 use Rattle.decode_model.proofs.ChainLegs.{chain_leg_law}
-use Rattle.decode_model.proofs.SeenLegs.{open_take, step_seen, route_seen}
+use Rattle.wf_model.proofs.OpenRoutes.{open_take, step_seen, route_seen, open_split}
 use Rattle.wf_recur.specs.declared.table.CycleNo.{CycleNo}
 use Rattle.wf_vlabel.specs.Seen.{ViewLabelSeen, IsLabelOfView, IsViewLabel, is_expanded}
 use Rattle.wf_decode.specs.declared.leg.Leg.{Leg as LegHeld}
@@ -24,13 +24,8 @@ use Rattle.wf_decode.proofs.CycleRounds.{whole_round, round_whole}
 use Rattle.wf_decode.proofs.ChainSteps.{length-round}
 use Rattle.wf_decode.proofs.HeldRounds.{gone_round}
 
--- steps that are open can be cut in two
-pub open_split : (g : Grammar) (u : View) (m : ℕ) (a b : List Step) → IsOpenRoute g u m (a ++ b) → IsOpenRoute g u m a × IsOpenRoute g u (module_along g m a) b
-open_split g u m [] b o = (tt, o)
-open_split g u m (s ∷ a) b o = let r = open_split g u (target_of g s) a b o.2 in ((o.0, o.1, r.0), r.1)
-
 -- a chain that is gone step by step has the steps of the chain
-either_steps : (b : Bool) (m : ℕ) (x : Leg) → leg_steps (cond b x (Part m (leg_steps x))) ≡ leg_steps x
+pub either_steps : (b : Bool) (m : ℕ) (x : Leg) → leg_steps (cond b x (Part m (leg_steps x))) ≡ leg_steps x
 either_steps true m x = refl
 either_steps false m x = refl
 

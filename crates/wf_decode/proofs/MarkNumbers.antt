@@ -7,9 +7,9 @@ use Rattle.wf_model.specs.WellFormed.{IsWellFormed}
 use Rattle.wf_model.specs.View.{View}
 use Rattle.wf_model.specs.Reach.{target_of}
 use Rattle.wf_model.specs.Linear.{IsLinear}
-use Rattle.label_model.specs.Continuing.{continuing, is_composite, is_least}
+use Rattle.wf_model.proofs.NumberLists.{length-numbers}
+use Rattle.label_model.specs.Continuing.{continuing, is_least}
 use Rattle.label_model.specs.Labels.{PlaceStep, Label, Input, Output, OfEdge, IsLabel}
-use Rattle.label_model.proofs.Deriving.{length-numbers}
 use Rattle.label_model.proofs.Visits.{count_cons, one_visit_law}
 use Rattle.verdict_model.proofs.LabelsTold.{telling_law}
 use Rattle.wf_label.specs.Marks.{Mark, Into, chain_marks, step_at, place_marks, marks_of}
@@ -17,6 +17,7 @@ use Rattle.wf_vlabel.specs.Seen.{ViewLabelSeen, IsViewLabel}
 use Rattle.wf_decode.specs.Reading.{most_legs}
 use Rattle.wf_decode.specs.Marking.{AreLeftOf, IsReading}
 use Rattle.wf_decode.proofs.AddressMarks.{address_marks}
+use Rattle.wf_model.specs.Composite.{is_composite}
 
 -- one mark for a number of continuing steps, if it is there
 length-chain_marks : (c : Option ℕ) (ms : List Mark) → length (chain_marks c ++ ms) ≡ cond (is_some c) 1 0 + length ms

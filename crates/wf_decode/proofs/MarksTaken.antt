@@ -1,8 +1,8 @@
 -- Marks of a label that are taken, one after another.
-use Rattle.std.proofs.Common.{◌≡◌, ℕ, ◌^◌, ◌<◌, Bool, true, false, cond, List, [], ◌∷◌, ◌++◌, length, take, drop, refl, sym, ap, ◌∙◌, subst, inl, inr, arith, append_assoc, append-nil, length-take}
+use Rattle.std.proofs.Common.{◌≡◌, ℕ, ◌^◌, ◌<◌, true, false, List, [], ◌∷◌, ◌++◌, length, take, drop, refl, sym, ap, ◌∙◌, subst, inl, inr, arith, append_assoc, append-nil, length-take}
 use Rattle.std.proofs.lemmas.List.{take-append-drop}
 use Rattle.wf_model.specs.declared.body.Step.{Step as StepHeld}
-use Rattle.wf_model.specs.Grammar.{Grammar, head_of, body_of}
+use Rattle.wf_model.specs.Grammar.{head_of, body_of}
 use Rattle.wf_model.specs.View.{View, expands, IsSeenModule, at_start}
 use Rattle.wf_model.specs.Reach.{Step, target_of, module_along}
 use Rattle.wf_model.specs.Linear.{IsStepOf}
@@ -10,10 +10,10 @@ use Rattle.label_model.specs.Continuing.{after}
 use Rattle.label_model.specs.Labels.{Label}
 use Rattle.wf_recur.specs.Cycles.{step_of}
 use Rattle.wf_label.specs.Marks.{Mark, Chain, Into, End}
-use Rattle.decode_model.specs.Matrices.{IsOpenStep, IsOpenRoute}
-use Rattle.decode_model.specs.Legs.{Leg, Part, leg_steps}
+use Rattle.wf_model.specs.OpenRoutes.{IsOpenStep, IsOpenRoute}
+use Rattle.decode_model.specs.Legs.{leg_steps}
 use Rattle.decode_model.proofs.Rounds.{along_after, continuing_take, module_along-append}
-use Rattle.decode_model.proofs.SeenLegs.{route_seen, open_append}
+use Rattle.wf_model.proofs.OpenRoutes.{route_seen, open_append}
 use Rattle.verdict_model.specs.Telling.{Tells}
 use Rattle.verdict_model.specs.Verdicts.{IsHidden}
 use Rattle.verdict_model.proofs.Naming.{Passes, names_passed}
@@ -26,6 +26,7 @@ use Rattle.wf_decode.specs.Reading.{IsEdgeTold}
 use Rattle.wf_decode.specs.Marking.{AreMarksTo, IsReadTo, IsCutWithin, IsChainHeld}
 use Rattle.wf_decode.proofs.Chains.{open_chain}
 use Rattle.wf_decode.proofs.HeldRounds.{chain_steps}
+use Rattle.wf_decode.proofs.LegsHeld.{either_steps}
 
 -- a way passes each of its beginnings
 passes : (front back : List Step) (p : ℕ) → (r : ℕ) × Passes (front ++ back) p front r
@@ -36,16 +37,6 @@ passes front (s ∷ back) p = (s.production, inr (s, back, refl, refl))
 held_more : (l : ViewLabelSeen) (legs : List LegHeld) (leg : LegHeld) → held_steps l (legs ++ leg ∷ []) ≡ held_steps l legs ++ leg_steps (leg_of l leg)
 held_more l [] leg = append-nil (leg_steps (leg_of l leg))
 held_more l (first ∷ legs) leg = ap (λ z. leg_steps (leg_of l first) ++ z) (held_more l legs leg) ∙ sym (append_assoc (leg_steps (leg_of l first)) (held_steps l legs) (leg_steps (leg_of l leg)))
-
--- continuing steps are the same as a chain and one by one
-part_steps : (b : Bool) (m : ℕ) (leg : Leg) → leg_steps (cond b leg (Part m (leg_steps leg))) ≡ leg_steps leg
-part_steps true m leg = refl
-part_steps false m leg = refl
-
--- where open steps lead to an expanded module, all on their way is expanded
-all_expanded : (g : Grammar) (u : View) (m : ℕ) (a : List Step) → IsOpenRoute g u m a → expands u (module_along g m a) ≡ true → AllExpanded g u m a
-all_expanded g u m [] h e = e
-all_expanded g u m (s ∷ a) h e = (ap (expands u) (sym h.1) ∙ h.0.expanded, all_expanded g u (target_of g s) a h.2 e)
 
 split_at : (front chain rest : List Step) (n : ℕ) → front ++ (chain ++ rest) ≡ (front ++ take n chain) ++ (drop n chain ++ rest)
 split_at front chain rest n =
@@ -106,7 +97,7 @@ module _ (l : ViewLabelSeen) (u : View) (label : IsViewLabel l) (of_view : IsLab
           open_route = open_append g u g.start r.gone chain r.open_route (subst (λ z. IsOpenRoute g u z chain) (sym r.at) open_steps);
           held = λ more w. subst (AreHeld l g.start false) (sym (append_assoc legs (leg ∷ []) more))
               (r.held (leg ∷ more) (r.ahead.0, h.0, few, subst (λ z. AreHeld l z true more) (sym to ∙ ap (module_along g m) same) w));
-          steps = held_more l legs leg ∙ (ap (λ z. z ++ leg_steps (leg_of l leg)) r.steps ∙ ap (λ z. r.gone ++ z) (part_steps (is_whole l o.0) (module_on l.cycles o.0 j) (chain_from l.cycles o.0 j n) ∙ sym same));
+          steps = held_more l legs leg ∙ (ap (λ z. z ++ leg_steps (leg_of l leg)) r.steps ∙ ap (λ z. r.gone ++ z) (either_steps (is_whole l o.0) (module_on l.cycles o.0 j) (chain_from l.cycles o.0 j n) ∙ sym same));
         }
 
     -- a step of the module is open where the module is expanded
@@ -154,7 +145,7 @@ module _ (l : ViewLabelSeen) (u : View) (label : IsViewLabel l) (of_view : IsLab
         let told : IsEdgeTold l u x n r.production r.edge all = record {
           address = r.address;
           tells = r.tells;
-          shown = expanded_shown g label.formed u x r.address r.production r.edge r.tells (subst (AllExpanded g u g.start) (sym whole) (all_expanded g u g.start r.gone r.open_route last));
+          shown = expanded_shown g label.formed u x r.address r.production r.edge r.tells (subst (AllExpanded g u g.start) (sym whole) (r.open_route, last));
           room = low;
           legs_to = λ s by_it position.
               let t = step_of s in

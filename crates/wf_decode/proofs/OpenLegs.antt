@@ -5,9 +5,10 @@ use Rattle.std.proofs.lemmas.List.{get_or-map, length-map}
 use Rattle.wf_model.specs.Grammar.{Grammar}
 use Rattle.wf_model.specs.View.{View}
 use Rattle.wf_model.specs.Reach.{Step, target_of, module_along}
-use Rattle.decode_model.specs.Matrices.{IsOpenStep, IsOpenRoute, IsOnceRound}
+use Rattle.wf_model.specs.OpenRoutes.{IsOpenStep, IsOpenRoute}
+use Rattle.decode_model.specs.Matrices.{IsOnceRound}
 use Rattle.decode_model.specs.Legs.{Leg, Part, leg_steps, IsLeg, AreLegs}
-use Rattle.decode_model.proofs.SeenLegs.{open_take}
+use Rattle.wf_model.proofs.OpenRoutes.{open_take}
 use Rattle.wf_recur.specs.declared.table.CycleNo.{CycleNo}
 use Rattle.wf_recur.specs.Cycles.{round_at, step_of}
 use Rattle.wf_vlabel.specs.Seen.{ViewLabelSeen, IsLabelOfView, Opens, OpensRound}

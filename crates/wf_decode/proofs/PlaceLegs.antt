@@ -6,8 +6,9 @@ use Rattle.wf_model.specs.Proper.{Derives}
 use Rattle.wf_model.specs.Reach.{Step, target_of, module_along}
 use Rattle.wf_model.specs.Linear.{IsStepOf, Continues, IsOnCycle}
 use Rattle.wf_model.proofs.Walks.{walk-append}
+use Rattle.wf_model.proofs.Going.{step_makes}
 use Rattle.label_model.specs.Continuing.{continuing}
-use Rattle.label_model.proofs.ContinuingSteps.{continuing_law, target_made}
+use Rattle.label_model.proofs.ContinuingSteps.{continuing_law}
 use Rattle.wf_recur.specs.Cycles.{step_of}
 use Rattle.decode_model.specs.Rounds.{AreContinuing}
 use Rattle.decode_model.specs.Legs.{Leg, One, Chain, Part, leg_steps}
@@ -25,7 +26,7 @@ derives_along : (g : Grammar) (m : ℕ) (a : List Step) → AreContinuing g m a 
 derives_along g m [] x = (here, here)
 derives_along g m (s ∷ a) x =
     let r = derives_along g (target_of g s) a x.1 in
-    (onward (target_made g m s x.0.0) r.0, walk-append r.1 x.0.1)
+    (onward (step_makes g m s x.0.0) r.0, walk-append r.1 x.0.1)
 
 module _ (g : Grammar) (m from n : ℕ) (e : from ≡ m) (on : IsOnCycle g m) (there : Derives g m n) (back : Derives g n m) (round steps : List Step) (c : ℕ) (s : Step) (st : IsStepOf g n s) where
   -- a chain, and a last step after it

@@ -8,7 +8,7 @@ use Rattle.decode_model.specs.Matrices.{ViewMatrices}
 use Rattle.decode_model.specs.Legs.{Leg, squares, each_up, leg_down, leg_up, way_down, way_up}
 use Rattle.decode_model.proofs.RowProducts.{progress_law}
 
-through_append : (a b : List Matrix) (row next last : ℕ) → Through a row next → Through b next last → Through (a ++ b) row last
+pub through_append : (a b : List Matrix) (row next last : ℕ) → Through a row next → Through b next last → Through (a ++ b) row last
 through_append [] b row next last x y = subst (λ z. Through b z last) (sym x) y
 through_append (m ∷ a) b row next last x y = (x.0, x.1, through_append a b x.0 next last x.2 y)
 

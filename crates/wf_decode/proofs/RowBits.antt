@@ -1,23 +1,9 @@
 -- Row products one after another, and the bit that they end in.
-use Rattle.std.proofs.Common.{◌≡◌, ℕ, ◌+◌, ◌≤◌, Bool, List, [], ◌∷◌, ◌++◌, length, refl, sym, subst, arith, length-append}
+use Rattle.std.proofs.Common.{◌≡◌, ℕ, ◌+◌, ◌≤◌, Bool, List, [], ◌∷◌, ◌++◌, length, arith}
 use Rattle.bool_mat.specs.Matrix.{Matrix, IsUnion, has}
-use Rattle.decode_model.specs.Rows.{Through, Progress}
+use Rattle.decode_model.specs.Rows.{Progress}
 use Rattle.wf_decode.specs.Products.{IsBit}
-
-through_append : (a b : List Matrix) (first row last : ℕ) → Through a first row → Through b row last → Through (a ++ b) first last
-through_append [] b first row last p q = subst (λ z. Through b z last) (sym p) q
-through_append (m ∷ a) b first row last p q = (p.0, p.1, through_append a b p.0 row last p.2 q)
-
-progress_append : (a b : List Matrix) (first row last start now later : ℕ) → Progress a first row start now → Progress b row last now later → Progress (a ++ b) first last start later
-progress_append a b first row last start now later p q =
-    let l = length-append a b in
-    let x = p.counted in
-    let y = q.counted in
-    record { through = through_append a b first row last p.through q.through; counted = omega arith }
-
--- one product
-pub progress_one : (m : Matrix) (row next now later : ℕ) → IsUnion row m next → later ≡ now + 1 → Progress (m ∷ []) row next now later
-progress_one m row next now later u e = record { through = (next, u, refl); counted = omega arith }
+use Rattle.wf_decode.proofs.Progressing.{progress_append, progress_one}
 
 -- a bit after more products
 pub bit_after : (a b : List Matrix) (first row start now later o : ℕ) (answer : Bool) → Progress a first row start now → IsBit b row now later o answer → IsBit (a ++ b) first start later o answer

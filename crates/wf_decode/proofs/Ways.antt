@@ -5,9 +5,10 @@ use Rattle.std.proofs.lemmas.List.{length-drop}
 use Rattle.wf_model.specs.View.{View, IsSeenModule, at_start}
 use Rattle.wf_model.specs.Reach.{Step, target_of, module_along}
 use Rattle.wf_model.specs.Routes.{Agree}
-use Rattle.decode_model.specs.Matrices.{IsOpenStep, IsOpenRoute}
+use Rattle.wf_model.specs.OpenRoutes.{IsOpenStep, IsOpenRoute}
 use Rattle.decode_model.proofs.Rounds.{module_along-append}
-use Rattle.decode_model.proofs.SeenLegs.{route_seen, legs_seen}
+use Rattle.wf_model.proofs.OpenRoutes.{route_seen, open_split}
+use Rattle.decode_model.proofs.SeenLegs.{legs_seen}
 use Rattle.verdict_model.proofs.Clashing.{agree_nil}
 use Rattle.wf_vlabel.specs.Seen.{ViewLabelSeen, IsLabelOfView, IsViewLabel, Sees}
 use Rattle.wf_decode.specs.declared.leg.Leg.{Leg as LegHeld}
@@ -16,7 +17,7 @@ use Rattle.wf_decode.specs.Parting.{AreLeftFrom, AreAcross}
 use Rattle.wf_decode.specs.Ends.{AreLegsAt}
 use Rattle.wf_decode.specs.Products.{IsWay, AreWaysApart}
 use Rattle.wf_decode.specs.Answers.{AreEnds}
-use Rattle.wf_decode.proofs.LegsHeld.{open_split, legs_held}
+use Rattle.wf_decode.proofs.LegsHeld.{legs_held}
 
 -- the module to which a way leads is seen
 pub way_sees : (l : ViewLabelSeen) (u : View) (k : ℕ) (legs : List LegHeld) (m : ℕ) → IsLabelOfView l u → IsWay l u k legs m → Sees l m

@@ -21,12 +21,12 @@ pub record AreEnds (l : ViewLabelSeen) (u : View) (a b : List Step) (x : List Le
   pub output : o < outputs_of l.grammar n
 
 -- the addresses clash, or they agree and the pairs of the modules tell whether output o of the second is reached from input i of the first
-abbrev pub IsAnswer : Grammar → Assignment → List Step → List Step → ℕ → ℕ → Verdict → Type 0
-IsAnswer g d a b i o Hidden1 = ⊥
-IsAnswer g d a b i o Hidden2 = ⊥
-IsAnswer g d a b i o Clash = AreClashingSteps a b
-IsAnswer g d a b i o Yes = Agree a b × Reaches g d g.start a b i o
-IsAnswer g d a b i o No = Agree a b × (Reaches g d g.start a b i o → ⊥)
+abbrev pub IsAnswerOfAddresses : Grammar → Assignment → List Step → List Step → ℕ → ℕ → Verdict → Type 0
+IsAnswerOfAddresses g d a b i o Hidden1 = ⊥
+IsAnswerOfAddresses g d a b i o Hidden2 = ⊥
+IsAnswerOfAddresses g d a b i o Clash = AreClashingSteps a b
+IsAnswerOfAddresses g d a b i o Yes = Agree a b × Reaches g d g.start a b i o
+IsAnswerOfAddresses g d a b i o No = Agree a b × (Reaches g d g.start a b i o → ⊥)
 
 -- the verdict on two labels; where it is no, the second item never depends on the first
 pub record IsDecision (g : Grammar) (u : View) (x y : Label) (v : Verdict) : Type 0 where

@@ -1,10 +1,14 @@
 -- The ends of the item of a label under a view: where it is consumed, and where it is produced.
 use Rattle.std.specs.Prelude.{◌≡◌, ℕ, ◌<◌, ◌≤◌, false, List, length, take}
+use Rattle.wf_model.specs.declared.numbers.Side.{Side}
+use Rattle.wf_model.specs.declared.numbers.Side.TheVariants.{Input as InputSide, Output as OutputSide}
+use Rattle.wf_model.specs.declared.body.Inner.{Inner}
+use Rattle.wf_model.specs.declared.body.Edge.{Edge}
 use Rattle.wf_model.specs.Grammar.{inputs_of, outputs_of}
 use Rattle.wf_model.specs.View.{View}
 use Rattle.wf_model.specs.Reach.{Step, module_along}
 use Rattle.label_model.specs.Labels.{Label, Input, Output}
-use Rattle.decode_model.specs.Matrices.{IsOpenRoute}
+use Rattle.wf_model.specs.OpenRoutes.{IsOpenRoute}
 use Rattle.verdict_model.specs.Telling.{ConsumedAt, ProducedAt}
 use Rattle.verdict_model.specs.Verdicts.{IsHidden}
 use Rattle.wf_vlabel.specs.Seen.{ViewLabelSeen}
@@ -49,3 +53,13 @@ abbrev pub IsProducingEnd : ViewLabelSeen → View → Label → End → List Le
 IsProducingEnd l u x Hidden legs = IsHidden l.grammar u x
 IsProducingEnd l u x Nowhere legs = (p : ℕ) × (x ≡ Input p)
 IsProducingEnd l u x (At n o) legs = IsProducedTold l u x n o.module.0 o.port.0 legs
+
+-- where the item ends on a side: it is consumed on that of inputs, and produced on that of outputs
+abbrev pub IsEndOn : Side → ViewLabelSeen → View → Label → End → List LegHeld → Type 0
+IsEndOn InputSide l u x e legs = IsConsumingEnd l u x e legs
+IsEndOn OutputSide l u x e legs = IsProducingEnd l u x e legs
+
+-- the end of an edge on a side: where it leads, and where it comes from
+abbrev pub end_of_edge : Edge → Side → Inner
+end_of_edge e InputSide = e.to
+end_of_edge e OutputSide = e.from

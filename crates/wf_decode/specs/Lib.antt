@@ -1,4 +1,5 @@
 pub mod HeldLegs
+pub mod Ways
 pub mod LegsAfter
 pub mod OpenLegs
 pub mod Reading

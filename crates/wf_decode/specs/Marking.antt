@@ -8,7 +8,7 @@ use Rattle.label_model.specs.Continuing.{continuing, after}
 use Rattle.label_model.specs.Labels.{Label, Input, Output, OfEdge}
 use Rattle.wf_label.specs.Marks.{Mark, AtInput, AtOutput, Chain, Into, End, CursorSeen, AreLeft}
 use Rattle.decode_model.specs.Rounds.{AreContinuing}
-use Rattle.decode_model.specs.Matrices.{IsOpenRoute}
+use Rattle.wf_model.specs.OpenRoutes.{IsOpenRoute}
 use Rattle.verdict_model.specs.Telling.{Tells}
 use Rattle.wf_vlabel.specs.Seen.{ViewLabelSeen, is_expanded}
 use Rattle.wf_decode.specs.declared.leg.Leg.{Leg as LegHeld}

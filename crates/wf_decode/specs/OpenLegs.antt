@@ -3,7 +3,7 @@ use Rattle.std.specs.Prelude.{◌<◌, ℕ, List, length}
 use Rattle.wf_model.specs.View.{View}
 use Rattle.wf_model.specs.Reach.{Step}
 use Rattle.wf_recur.specs.Cycles.{round_at}
-use Rattle.decode_model.specs.Matrices.{IsOpenRoute}
+use Rattle.wf_model.specs.OpenRoutes.{IsOpenRoute}
 use Rattle.decode_model.specs.Legs.{IsLeg}
 use Rattle.wf_vlabel.specs.Seen.{ViewLabelSeen, IsLabelOfView}
 use Rattle.wf_decode.specs.declared.leg.Leg.{Leg as LegHeld}

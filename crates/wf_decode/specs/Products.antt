@@ -4,7 +4,7 @@ use Rattle.bool_mat.specs.Matrix.{Matrix, has}
 use Rattle.wf_model.specs.View.{View, IsSeenModule}
 use Rattle.wf_model.specs.Reach.{Step, target_of, module_along}
 use Rattle.decode_model.specs.Rows.{Progress}
-use Rattle.decode_model.specs.Matrices.{IsOpenStep}
+use Rattle.wf_model.specs.OpenRoutes.{IsOpenStep}
 use Rattle.decode_model.specs.Legs.{AreLegs}
 use Rattle.wf_vlabel.specs.Seen.{ViewLabelSeen}
 use Rattle.wf_decode.specs.declared.leg.Leg.{Leg as LegHeld}

@@ -6,7 +6,7 @@ use Rattle.wf_model.specs.View.{View}
 use Rattle.wf_model.specs.Reach.{Step}
 use Rattle.label_model.specs.Labels.{Label, Input, Output}
 use Rattle.wf_recur.specs.Cycles.{step_of}
-use Rattle.decode_model.specs.Matrices.{IsOpenRoute}
+use Rattle.wf_model.specs.OpenRoutes.{IsOpenRoute}
 use Rattle.verdict_model.specs.Telling.{Tells}
 use Rattle.verdict_model.specs.Verdicts.{IsHidden}
 use Rattle.wf_vlabel.specs.Seen.{ViewLabelSeen}

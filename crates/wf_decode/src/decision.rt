@@ -17,13 +17,14 @@ mod ends;
 mod products;
 
 use crate::decision::answers::answer;
-use crate::decision::ends::{End, consuming_end, producing_end};
+use crate::decision::ends::{End, end_on};
 use crate::leg::Leg;
 use crate::scratch::Scratch;
 use bool_mat::Steps;
 use std::sync::ledger::Ledger;
 use verdict_model::Verdict;
 use wf_label::LabelRef;
+use wf_spec::Side;
 use wf_vlabel::ViewLabel;
 
 /// Whether the item of the second label depends on the item of the first, from the two labels and the label of a view alone, however a run that has both is finished.
@@ -78,11 +79,11 @@ fn decide_in<L: Ledger>(
 {
     // The view label is one of a view.
     let _label = vl.cycles();
-    let from = consuming_end(vl, first, first_legs);
+    let from = end_on(vl, Side::Input, first, first_legs);
     if let End::Hidden = from {
         return Verdict::Hidden1;
     }
-    let to = producing_end(vl, second, second_legs);
+    let to = end_on(vl, Side::Output, second, second_legs);
     decide_ends(vl, from, first_legs, to, second_legs, steps)
 }
 

@@ -13,7 +13,7 @@ ghost use Rattle.wf_decode.specs.OpenLegs.{OpensLeg};
 
 use crate::leg::Leg;
 use crate::rows::continuing::{continuing_down, continuing_up};
-use crate::rows::rounds::{rounds_down, rounds_up};
+use crate::rows::rounds::{Way, whole_rounds};
 use bool_mat::{Steps, row_times};
 use std::sync::ledger::Ledger;
 use wf_recur::CycleNo;
@@ -70,7 +70,7 @@ fn down_chain<L: Ledger>(
         return continuing_down(vl, cycle, place, count, row, steps);
     }
     let length = cycles.length(cycle) as u32;
-    let row = rounds_down(vl, cycle, place, count / length, row, steps);
+    let row = whole_rounds(vl, Way::Down, cycle, place, count / length, row, steps);
     continuing_down(vl, cycle, place, count % length, row, steps)
 }
 
@@ -121,5 +121,5 @@ fn up_chain<L: Ledger>(
     }
     let length = cycles.length(cycle) as u32;
     let row = continuing_up(vl, cycle, place, count % length, row, steps);
-    rounds_up(vl, cycle, place, count / length, row, steps)
+    whole_rounds(vl, Way::Up, cycle, place, count / length, row, steps)
 }

@@ -1,5 +1,5 @@
 -- A name with a dot, split at its first dot.
-use Rattle.std.proofs.Common.{◌≡◌, ℕ, zero, suc, ◌+◌, ◌<◌, ◌≤◌, Bool, true, false, not, cond, List, [], ◌∷◌, ◌++◌, take, drop, get_or, length, Option, Some, None, refl, ap, sym, subst, ◌∙◌, arith, inl, inr, true≢false, append_assoc}
+use Rattle.std.proofs.Common.{◌≡◌, ℕ, zero, suc, ◌+◌, ◌<◌, ◌≤◌, Bool, true, false, not, cond, List, [], ◌∷◌, ◌++◌, take, drop, get_or, length, Option, Some, None, refl, ap, sym, subst, ◌∙◌, arith, inl, inr, true≢false}
 use Rattle.std.specs.Prelude.{position, nat_lt, ◌==◌}
 use Rattle.std.specs.List.{position_or_len}
 use Rattle.std.proofs.lemmas.Bool.Decides.{nat_tests}
@@ -8,6 +8,7 @@ use Rattle.std.proofs.lemmas.List.Sums.{prefix_len-le-length}
 use Rattle.wf_model.specs.Lists.{IsIn}
 use Rattle.wf_model.specs.Items.{dotted}
 use Rattle.wf_model.proofs.Lists.{in_append_right}
+use Rattle.wf_model.proofs.ItemNames.{dotted_at}
 
 -- where a test has no place, no element passes it
 pub none_passes : {A : Type 0} (p : A → Bool) (xs : List A) → position p xs ≡ None → (x : A) → IsIn x xs → p x ≡ true → ⊥
@@ -30,11 +31,8 @@ none_passes p xs e x h t = all_fail p xs (by (position_or_len p xs) (length xs) 
         go ih false q (inr i) = let f : position_or_len p (y ∷ xs) ≡ 1 + position_or_len p xs = grind arith in
             let g : position_or_len p xs ≡ length xs = omega arith in ih g x i t
 
-dotted_is : (a b : List ℕ) → dotted a b ≡ a ++ 46 ∷ b
-dotted_is a b = append_assoc a (46 ∷ []) b
-
 dot_in : (a b : List ℕ) → IsIn 46 (dotted a b)
-dot_in a b = subst (IsIn 46) (sym (dotted_is a b)) (in_append_right 46 a (46 ∷ b) (inl refl))
+dot_in a b = subst (IsIn 46) (sym (dotted_at a b)) (in_append_right 46 a (46 ∷ b) (inl refl))
 
 -- a name in which the dot has no place is not split by one
 pub not_dotted : (name a b : List ℕ) → position (λ (z : ℕ). z == 46) name ≡ None → dotted a b ≡ name → ⊥
@@ -58,7 +56,7 @@ split_at name k e =
     let p = position-Some (λ (z : ℕ). z == 46) name k 0 e in
     let q : get_or name k 0 == 46 ≡ true = p.1 in
     let n : suc k ≡ k + 1 = omega arith in
-    (parts name k p.0 (same (get_or name k 0) q) ∙ (sym (dotted_is (take k name) (drop (suc k) name)) ∙ ap (λ j. dotted (take k name) (drop j name)) n), none_before name k p.2)
+    (parts name k p.0 (same (get_or name k 0) q) ∙ (sym (dotted_at (take k name) (drop (suc k) name)) ∙ ap (λ j. dotted (take k name) (drop j name)) n), none_before name k p.2)
   where
     same : (n : ℕ) → n == 46 ≡ true → n ≡ 46
     same n q = grind (arith, nat_tests)

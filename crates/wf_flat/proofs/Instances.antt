@@ -3,18 +3,16 @@ use Rattle.std.proofs.Common.{◌≡◌, ℕ, zero, suc, ◌<◌, Bool, true, fa
 use Rattle.std.specs.Prelude.{position, bytes_eq, is_some, option_map}
 use Rattle.std.proofs.lemmas.List.{length-map, get_or-map, get_or_read}
 use Rattle.std.proofs.lemmas.List.Quantifiers.{position-Some}
+use Rattle.std.proofs.lemmas.Simd.{map-map}
 use Rattle.wf_model.specs.Lists.{IsAt, some}
 use Rattle.wf_model.specs.Grammar.{Grammar}
 use Rattle.wf_model.specs.Run.{Instance, made, names_of, expanded_by}
 use Rattle.wf_model.specs.Faults.{is_one_of, module_in}
 use Rattle.wf_model.proofs.Lists.{is_at, same_bytes, bytes_same, among_gives}
+use Rattle.wf_model.proofs.Mapping.{at_map}
 use Rattle.wf_flat.proofs.Dots.{none_passes}
 use Rattle.wf_flat.specs.declared.table.Inst.{Inst}
-use Rattle.wf_flat.specs.Table.{Table, IsRunOf, instance_of, names_in, no_instance, events_of, expansion_at}
-
-pub map-map : {A B C : Type 0} (f : B → C) (h : A → B) (xs : List A) → map f (map h xs) ≡ map (λ x. f (h x)) xs
-map-map f h [] = refl
-map-map f h (x ∷ xs) = ap (λ l. f (h x) ∷ l) (map-map f h xs)
+use Rattle.wf_flat.specs.Table.{Table, IsTableOf, instance_of, names_in, no_instance, events_of, expansion_at}
 
 pub placed : (n : List ℕ) (ns : List (List ℕ)) (k : ℕ) → k < length ns → bytes_eq n (get_or ns k []) ≡ true → some (bytes_eq n) ns ≡ true
 placed n [] k h e = absurd (omega arith)
@@ -29,16 +27,11 @@ module_placed n (x ∷ is) (suc k) i h e f =
     let z : 0 < suc k = omega arith in
     ap (λ b. cond b x.module_no (module_in is n)) (f 0 z) ∙ module_placed n is k i h e (λ j l. let s : suc j < suc k = omega arith in f (suc j) s)
 
-pub at_map : {A B : Type 0} (f : A → B) (x : A) (k : ℕ) (xs : List A) → IsAt x k xs → IsAt (f x) k (map f xs)
-at_map f x k [] h = absurd h
-at_map f x zero (y ∷ xs) h = ap f h
-at_map f x (suc k) (y ∷ xs) h = at_map f x k xs h
-
 is_some-map : {A B : Type 0} (f : A → B) (o : Option A) → is_some (option_map f o) ≡ is_some o
 is_some-map f None = refl
 is_some-map f (Some x) = refl
 
-module _ (g : Grammar) (t : Table) (run : IsRunOf g t) where
+module _ (g : Grammar) (t : Table) (run : IsTableOf g t) where
   pub same_names : names_of (made g g.start (events_of t)) ≡ names_in t.instances
   same_names = ap names_of (sym run.made) ∙ map-map (λ (i : Instance). i.name) instance_of t.instances
 

@@ -17,21 +17,19 @@ use Rattle.wf_model.proofs.Lists.{in_append_cases, in_append_left, in_append_rig
 use Rattle.wf_model.proofs.Runs.{named_at, names-named, name_in}
 use Rattle.wf_model.proofs.Differ.{one_of_name}
 use Rattle.wf_model.proofs.Taking.{run_differs}
-use Rattle.wf_model.proofs.ItemNames.{no_dot, dotted_same, extends_before, made_once, ports_differ}
+use Rattle.wf_model.proofs.ItemNames.{no_dot, dotted_same, extends_before, made_once, ports_differ, differ_right, name_made}
+use Rattle.wf_model.proofs.Mapping.{at_map}
+use Rattle.wf_model.proofs.Expanding.{expanded_from}
 use Rattle.wf_flat.specs.declared.table.Inst.{Inst}
 use Rattle.wf_flat.specs.declared.graph.Port.{Port as PortHeld}
 use Rattle.wf_flat.specs.declared.item.Item.{Item as ItemHeld}
-use Rattle.wf_flat.specs.Table.{Table, IsRunOf, IsParentAt, instance_of, names_in, events_of, events_by, no_instance}
+use Rattle.wf_flat.specs.Table.{Table, IsTableOf, IsParentAt, instance_of, names_in, events_of, events_by, no_instance}
 use Rattle.wf_flat.specs.Graph.{named_port}
 use Rattle.wf_flat.specs.Item.{named_item, IsItemWithin, IsItemOfEdge}
-use Rattle.wf_flat.proofs.Instances.{at_map, same_names}
+use Rattle.wf_flat.proofs.Instances.{same_names}
 use Rattle.wf_flat.proofs.OfInstance.{module_there, production_there}
 use Rattle.wf_flat.proofs.Dots.{none_passes, not_dotted, split_at}
-use Rattle.wf_flat.proofs.Givers.{given_made, made_name, expanding}
-
-differ_last : (xs ys : List (List ℕ)) → AllDiffer (xs ++ ys) → AllDiffer ys
-differ_last [] ys h = h
-differ_last (x ∷ xs) ys h = differ_last xs ys h.1
+use Rattle.wf_flat.proofs.Givers.{made_name}
 
 in_inputs : (t : Item) (r : List ℕ) (k : ℕ) (ns : List (List ℕ)) → IsIn t (input_items r k ns) → (n : List ℕ) × IsIn n ns × (t.name ≡ dotted r n)
 in_inputs t r k [] h = absurd h
@@ -112,7 +110,7 @@ item_name g a t wf x h =
   where
     go : (c : List Event) (v : Event) → IsIn v a → Extends g g.start c v → IsIn t (items_by g g.start v) → (owner port : List ℕ) × (t.name ≡ dotted owner port) × IsIn owner (names_of (made g g.start a))
     go c (Start r) i y k =
-        let o = given_made g g.start a (Start r) r i (inl refl) in
+        let o = name_made g g.start r (Start r) a i (inl refl) in
         ⊎_elim
         (λ s. let p = in_inputs t r 0 (module_at g g.start).inputs s in (r, p.0, p.2, o))
         (λ s. let p = in_outputs t r 0 (module_at g g.start).outputs s in (r, p.0, p.2, o))
@@ -123,17 +121,17 @@ item_name g a t wf x h =
         let out = (wf.bodies p y.in_range).edges_from q.0 q.1 in
         let l : f.position < length ns = subst (λ n. f.position < n) (sym y.one_each) (at_below out.0 f.position (body_of g p) out.1) in
         let n : IsIn (get_or ns f.position []) (names_of (named ns (body_of g p))) = subst (IsIn (get_or ns f.position [])) (sym (names-named ns (body_of g p) y.one_each)) (at_in (get_or ns f.position []) f.position ns (is_at f.position ns [] l)) in
-        (get_or ns f.position [], get_or (module_at g (get_or (body_of g p) f.position 0)).outputs f.port [], ap (λ (z : Item). z.name) q.2, given_made g g.start a (Expand i p ns) (get_or ns f.position []) v n)
+        (get_or ns f.position [], get_or (module_at g (get_or (body_of g p) f.position 0)).outputs f.port [], ap (λ (z : Item). z.name) q.2, name_made g g.start (get_or ns f.position []) (Expand i p ns) a v n)
 
 -- a name that is split at its first dot, where no instance has the name before it, names no item
-pub no_instance_named : (g : Grammar) (t : Table) (i : Item) (owner port : List ℕ) → IsRunOf g t → IsWellFormed g → position (bytes_eq owner) (names_in t.instances) ≡ None → (IsIn 46 owner → ⊥) → IsIn i (items g g.start (events_of t)) → i.name ≡ dotted owner port → ⊥
+pub no_instance_named : (g : Grammar) (t : Table) (i : Item) (owner port : List ℕ) → IsTableOf g t → IsWellFormed g → position (bytes_eq owner) (names_in t.instances) ≡ None → (IsIn 46 owner → ⊥) → IsIn i (items g g.start (events_of t)) → i.name ≡ dotted owner port → ⊥
 no_instance_named g t i owner port run wf w d h e =
     let r = item_name g (events_of t) i wf run.accepted.0 h in
     let s = dotted_same r.0 r.1 owner port (no_dot r.0 (made_name g g.start [] (events_of t) r.0 run.accepted.0 r.3)) d (sym r.2 ∙ e) in
     none_passes (bytes_eq owner) (names_in t.instances) w owner (subst (IsIn owner) (same_names g t run) (subst (λ n. IsIn n (names_of (made g g.start (events_of t)))) s.0 r.3)) (bytes_same owner owner refl)
 
 -- a name without a dot names no item
-pub no_dot_named : (g : Grammar) (t : Table) (i : Item) (name : List ℕ) → IsRunOf g t → IsWellFormed g → position (λ (z : ℕ). z == 46) name ≡ None → IsIn i (items g g.start (events_of t)) → i.name ≡ name → ⊥
+pub no_dot_named : (g : Grammar) (t : Table) (i : Item) (name : List ℕ) → IsTableOf g t → IsWellFormed g → position (λ (z : ℕ). z == 46) name ≡ None → IsIn i (items g g.start (events_of t)) → i.name ≡ name → ⊥
 no_dot_named g t i name run wf w h e = let r = item_name g (events_of t) i wf run.accepted.0 h in not_dotted name r.0 r.1 w (sym r.2 ∙ e)
 
 -- a name is that of an instance, a dot and the rest
@@ -144,15 +142,12 @@ split_found name names dot k e f =
     ap (dotted (get_or names k [])) (take_all (length name - (dot + 1)) (drop (dot + 1) name) l)
     ∙ (ap (λ n. dotted n (drop (dot + 1) name)) (sym (same_bytes (take dot name) (get_or names k []) p.1)) ∙ sym (split_at name dot e).0)
 
-module _ (g : Grammar) (t : Table) (run : IsRunOf g t) (wf : IsWellFormed g) (k : ℕ) (there : k < length t.instances) where
+module _ (g : Grammar) (t : Table) (run : IsTableOf g t) (wf : IsWellFormed g) (k : ℕ) (there : k < length t.instances) where
   abbrev x : Inst
   x = get_or t.instances k no_instance
 
   abbrev own : List ℕ
   own = get_or (names_in t.instances) k []
-
-  x_at : IsAt x k t.instances
-  x_at = is_at k t.instances no_instance there
 
   own_name : own ≡ x.name
   own_name = get_or-map (λ (y : Inst). y.name) t.instances k no_instance [] there
@@ -161,7 +156,7 @@ module _ (g : Grammar) (t : Table) (run : IsRunOf g t) (wf : IsWellFormed g) (k 
   differ = run_differs g g.start (events_of t) run.accepted.0
 
   x_made : IsIn (instance_of x) (made g g.start (events_of t))
-  x_made = subst (IsIn (instance_of x)) run.made (at_in (instance_of x) k (map instance_of t.instances) (at_map instance_of x k t.instances x_at))
+  x_made = subst (IsIn (instance_of x)) run.made (at_in (instance_of x) k (map instance_of t.instances) (at_map instance_of x k t.instances (is_at k t.instances no_instance there)))
 
   own_dotless : IsIn 46 own → ⊥
   own_dotless = no_dot own (made_name g g.start [] (events_of t) own run.accepted.0 (subst (λ n. IsIn n (names_of (made g g.start (events_of t)))) (sym own_name) (name_in (instance_of x) (made g g.start (events_of t)) x_made)))
@@ -187,7 +182,7 @@ module _ (g : Grammar) (t : Table) (run : IsRunOf g t) (wf : IsWellFormed g) (k 
   -- the root
   module _ (root : x.parent ≡ None) where
     starts : IsIn (Start own) (events_of t)
-    starts = let z : k ≡ 0 = MatchOption-at_none (k ≡ 0) (λ p. IsParentAt g t.instances p k) root (run.parents k x x_at) in first t.instances k z there
+    starts = let z : k ≡ 0 = MatchOption-at_none (k ≡ 0) (λ p. IsParentAt g t.instances p k) root (run.parents k x (is_at k t.instances no_instance there)) in first t.instances k z there
       where
         first : (xs : List Inst) (j : ℕ) → j ≡ 0 → j < length xs → IsIn (Start (get_or (names_in xs) j [])) (events_by (names_in xs) t.order)
         first [] j z h = absurd (omega arith)
@@ -219,7 +214,7 @@ module _ (g : Grammar) (t : Table) (run : IsRunOf g t) (wf : IsWellFormed g) (k 
     y = get_or t.instances p no_instance
 
     pub parent_at : IsParentAt g t.instances p k
-    parent_at = MatchOption-at_some (k ≡ 0) (λ p. IsParentAt g t.instances p k) p child (run.parents k x x_at)
+    parent_at = MatchOption-at_some (k ≡ 0) (λ p. IsParentAt g t.instances p k) p child (run.parents k x (is_at k t.instances no_instance there))
 
     pub parent_there : p < length t.instances
     parent_there = let b : p < k = parent_at.before in let h = there in omega arith
@@ -242,7 +237,7 @@ module _ (g : Grammar) (t : Table) (run : IsRunOf g t) (wf : IsWellFormed g) (k 
 
       gives : IsIn (Expand y.name q.0 given) (events_of t)
       gives =
-          expanding (events_of t) y.name (record { production = q.0; names = given })
+          expanded_from (events_of t) y.name (record { production = q.0; names = given })
           (run.expanded p y (is_at p t.instances no_instance parent_there) ∙ ap (option_map {U = Expanded} (λ (r : ProdNo). record { production = r.0; names = take (length (body_of g r.0)) (drop y.first_child (names_in t.instances)) })) opened)
 
       can : (c : List Event) × CanExpand g g.start c y.name q.0 given
@@ -351,7 +346,7 @@ module _ (g : Grammar) (t : Table) (run : IsRunOf g t) (wf : IsWellFormed g) (k 
           let r = child_edge port i h e in
           let v = position-Some (bytes_eq port) outputs o [] w in
           let at : IsAt port o outputs = subst (λ z. IsAt z o outputs) (sym (same_bytes port (get_or outputs o []) v.1)) (is_at o outputs [] v.0) in
-          let same : r.0.from.port ≡ o = differ_at port r.0.from.port o outputs (differ_last (module_at g x.module.0).inputs outputs (ports_differ g wf x.module.0)) r.3 at in
+          let same : r.0.from.port ≡ o = differ_at port r.0.from.port o outputs (differ_right (module_at g x.module.0).inputs outputs (ports_differ g wf x.module.0)) r.3 at in
           lacks r.0 r.1 (λ z. record { position = r.2 z; port = same z })
 
 -- what holds of a value that may be there, and what follows from it
@@ -360,7 +355,7 @@ if_some None P Q f h = h
 if_some (Some i) P Q f h = f i h
 
 -- the answer for an output of an instance below the root, where the parent was read from the table
-module _ (g : Grammar) (t : Table) (run : IsRunOf g t) (wf : IsWellFormed g) (k : ℕ) (there : k < length t.instances) (p : ℕ) (child : (get_or t.instances k no_instance).parent ≡ Some p) (y : Inst) (read : y ≡ get_or t.instances p no_instance) (q : ProdNo) (opened : y.production ≡ Some q) (o : ℕ) (port : List ℕ) (named_o : Some o ≡ position (bytes_eq port) (module_at g (get_or t.instances k no_instance).module.0).outputs) (r : Option ItemHeld) where
+module _ (g : Grammar) (t : Table) (run : IsTableOf g t) (wf : IsWellFormed g) (k : ℕ) (there : k < length t.instances) (p : ℕ) (child : (get_or t.instances k no_instance).parent ≡ Some p) (y : Inst) (read : y ≡ get_or t.instances p no_instance) (q : ProdNo) (opened : y.production ≡ Some q) (o : ℕ) (port : List ℕ) (named_o : Some o ≡ position (bytes_eq port) (module_at g (get_or t.instances k no_instance).module.0).outputs) (r : Option ItemHeld) where
   abbrev parent_opened : (get_or t.instances p no_instance).production ≡ Some q
   parent_opened = ap (λ (z : Inst). z.production) (sym read) ∙ opened
 

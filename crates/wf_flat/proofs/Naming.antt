@@ -14,17 +14,9 @@ use Rattle.wf_model.specs.WellFormed.{IsWellFormed}
 use Rattle.wf_model.proofs.Lists.{in_map, at_in, is_at}
 use Rattle.wf_model.specs.Links.{Port, Link, input, output, edge_link, entry_links, exit_links, pair_links, instance_at, move_link}
 use Rattle.wf_model.specs.Meaning.{inner_of, edge_of, pairs_of, bit_of}
+use Rattle.wf_model.proofs.Mapping.{map-flat_map, flat_map_same}
 use Rattle.wf_flat.specs.declared.graph.Link.{Link as LinkHeld}
 use Rattle.wf_flat.specs.Graph.{named_port, named_link, named_links, pair, row_links, matrix_links, child_port, edge_at, entries_at, exits_at, AreBelow, wiring_of}
-
--- a map over what is made for each number
-pub map-flat_map : {A B C : Type 0} (f : B → C) (h : A → List B) (xs : List A) → map f (flat_map h xs) ≡ flat_map (λ x. map f (h x)) xs
-map-flat_map f h [] = refl
-map-flat_map f h (x ∷ xs) = map-append f (h x) (flat_map h xs) ∙ ap (λ l. map f (h x) ++ l) (map-flat_map f h xs)
-
-pub flat_map_same : {A B : Type 0} (f h : A → List B) (xs : List A) → ((x : A) → f x ≡ h x) → flat_map f xs ≡ flat_map h xs
-flat_map_same f h [] e = refl
-flat_map_same f h (x ∷ xs) e = ap (λ l. l ++ flat_map f xs) (e x) ∙ ap (λ l. h x ++ l) (flat_map_same f h xs e)
 
 map_if : {A B : Type 0} (f : A → B) (b : Bool) (x : A) → map f (cond b (x ∷ []) []) ≡ cond b (f x ∷ []) []
 map_if f true x = refl
@@ -40,13 +32,13 @@ module _ (names : List (List ℕ)) (k : ℕ) where
   row_named : (i row o m : ℕ) → named_links names (row_links k i row o m) ≡ flat_map (λ j. cond (bit_at row j == 1) (by_name i j ∷ []) []) (numbers_from o m)
   row_named i row o m =
       map-flat_map (named_link names) (λ j. cond (bit_at row j == 1) (pair k i j ∷ []) []) (numbers_from o m)
-      ∙ flat_map_same (λ j. map (named_link names) (cond (bit_at row j == 1) (pair k i j ∷ []) [])) (λ j. cond (bit_at row j == 1) (by_name i j ∷ []) []) (numbers_from o m) (λ j. map_if (named_link names) (bit_at row j == 1) (pair k i j))
+      ∙ flat_map_same (λ j. map (named_link names) (cond (bit_at row j == 1) (pair k i j ∷ []) [])) (λ j. cond (bit_at row j == 1) (by_name i j ∷ []) []) (numbers_from o m) (λ j _. map_if (named_link names) (bit_at row j == 1) (pair k i j))
 
   pub matrix_named : (g : Grammar) (leaf : List (Option (List ℕ))) (m : ℕ) (rows : List ℕ) → get_or leaf m None ≡ Some rows → named_links names (matrix_links k rows (outputs_of g m) 0 (inputs_of g m)) ≡ pair_links g (pairs_of leaf) m n
   matrix_named g leaf m rows e =
       map-flat_map (named_link names) (λ j. row_links k j (get_or rows j 0) 0 (outputs_of g m)) (numbers_from 0 (inputs_of g m))
       ∙ flat_map_same (λ j. map (named_link names) (row_links k j (get_or rows j 0) 0 (outputs_of g m))) (λ i. flat_map (λ o. cond (pairs_of leaf m i o) (by_name i o ∷ []) []) (numbers_from 0 (outputs_of g m))) (numbers_from 0 (inputs_of g m))
-      (λ i. row_named i (get_or rows i 0) 0 (outputs_of g m) ∙ flat_map_same (λ j. cond (bit_at (get_or rows i 0) j == 1) (by_name i j ∷ []) []) (λ o. cond (pairs_of leaf m i o) (by_name i o ∷ []) []) (numbers_from 0 (outputs_of g m)) (λ o. ap (λ r. cond (bit_of r i o) (by_name i o ∷ []) []) (sym e)))
+      (λ i _. row_named i (get_or rows i 0) 0 (outputs_of g m) ∙ flat_map_same (λ j. cond (bit_at (get_or rows i 0) j == 1) (by_name i j ∷ []) []) (λ o. cond (pairs_of leaf m i o) (by_name i o ∷ []) []) (numbers_from 0 (outputs_of g m)) (λ o _. ap (λ r. cond (bit_of r i o) (by_name i o ∷ []) []) (sym e)))
 
   nothing : {A B : Type 0} (xs : List A) → flat_map {X = A} {A = B} (λ x. []) xs ≡ []
   nothing [] = refl
@@ -55,7 +47,7 @@ module _ (names : List (List ℕ)) (k : ℕ) where
   pub none_named : (g : Grammar) (leaf : List (Option (List ℕ))) (m : ℕ) → get_or leaf m None ≡ None → pair_links g (pairs_of leaf) m n ≡ []
   none_named g leaf m e =
       flat_map_same (λ i. flat_map (λ o. cond (pairs_of leaf m i o) (by_name i o ∷ []) []) (numbers_from 0 (outputs_of g m))) (λ i. []) (numbers_from 0 (inputs_of g m))
-      (λ i. flat_map_same (λ o. cond (pairs_of leaf m i o) (by_name i o ∷ []) []) (λ o. []) (numbers_from 0 (outputs_of g m)) (λ o. ap (λ r. cond (bit_of r i o) (by_name i o ∷ []) []) e) ∙ nothing (numbers_from 0 (outputs_of g m)))
+      (λ i _. flat_map_same (λ o. cond (pairs_of leaf m i o) (by_name i o ∷ []) []) (λ o. []) (numbers_from 0 (outputs_of g m)) (λ o _. ap (λ r. cond (bit_of r i o) (by_name i o ∷ []) []) e) ∙ nothing (numbers_from 0 (outputs_of g m)))
       ∙ nothing (numbers_from 0 (inputs_of g m))
 
   module _ (first count : ℕ) (room : first + count < 2 ^ 32) where

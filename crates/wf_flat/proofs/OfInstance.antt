@@ -5,7 +5,7 @@ use Rattle.std.proofs.lemmas.List.{get_or-map}
 use Rattle.wf_model.specs.declared.event.Event.{Event}
 use Rattle.wf_model.specs.declared.event.Event.TheVariants.{Start, Expand}
 use Rattle.wf_model.specs.declared.numbers.ProdNo.{ProdNo}
-use Rattle.wf_model.specs.Lists.{IsIn, IsAt}
+use Rattle.wf_model.specs.Lists.{IsIn}
 use Rattle.wf_model.specs.Grammar.{Grammar, Assignment, production_at, module_at, body_of, head_of}
 use Rattle.wf_model.specs.WellFormed.{IsWellFormed}
 use Rattle.wf_model.specs.View.{View, expands}
@@ -14,10 +14,10 @@ use Rattle.wf_model.specs.Links.{links_of, opened_links, pair_links, move_link, 
 use Rattle.wf_model.proofs.Lists.{in_append_cases, at_in, at_below, is_at}
 use Rattle.wf_model.proofs.Runs.{at_named}
 use Rattle.wf_model.proofs.Level.{opening}
+use Rattle.wf_model.proofs.Mapping.{at_map}
 use Rattle.wf_flat.specs.declared.table.Inst.{Inst}
-use Rattle.wf_flat.specs.Table.{Table, IsRunOf, instance_of, names_in, events_of, no_instance}
+use Rattle.wf_flat.specs.Table.{Table, IsTableOf, instance_of, names_in, events_of, no_instance}
 use Rattle.wf_flat.specs.Graph.{inst_at, AreBelow, wiring_of}
-use Rattle.wf_flat.proofs.Instances.{at_map}
 
 -- the modules of a run's instances are there
 made_in_range : (g : Grammar) → IsWellFormed g → (m : ℕ) → m < length g.modules → (b a : List Event) → AllExtend g m b a → (i : Instance) → IsIn i (made g m a) → i.module_no < length g.modules
@@ -27,15 +27,12 @@ made_in_range g wf m h b (Start r ∷ a) x i k =
 made_in_range g wf m h b (Expand n p names ∷ a) x i k =
     ⊎_elim (λ q. let r = at_named i names (body_of g p) q in (wf.bodies p x.0.in_range).modules i.module_no (at_in i.module_no r.0 (body_of g p) r.2)) (made_in_range g wf m h (b ++ Expand n p names ∷ []) a x.1 i) (in_append_cases i (named names (body_of g p)) (made g m a) k)
 
-module _ (g : Grammar) (t : Table) (run : IsRunOf g t) (wf : IsWellFormed g) (k : ℕ) (there : k < length t.instances) where
+module _ (g : Grammar) (t : Table) (run : IsTableOf g t) (wf : IsWellFormed g) (k : ℕ) (there : k < length t.instances) where
   abbrev x : Inst
   x = get_or t.instances k no_instance
 
-  x_at : IsAt x k t.instances
-  x_at = is_at k t.instances no_instance there
-
   pub module_there : x.module.0 < length g.modules
-  module_there = made_in_range g wf g.start wf.start [] (events_of t) run.accepted.0 (instance_of x) (subst (IsIn (instance_of x)) run.made (at_in (instance_of x) k (map instance_of t.instances) (at_map instance_of x k t.instances x_at)))
+  module_there = made_in_range g wf g.start wf.start [] (events_of t) run.accepted.0 (instance_of x) (subst (IsIn (instance_of x)) run.made (at_in (instance_of x) k (map instance_of t.instances) (at_map instance_of x k t.instances (is_at k t.instances no_instance there))))
 
   name_is : get_or (names_in t.instances) k [] ≡ x.name
   name_is = get_or-map (λ (y : Inst). y.name) t.instances k no_instance [] there
@@ -44,19 +41,19 @@ module _ (g : Grammar) (t : Table) (run : IsRunOf g t) (wf : IsWellFormed g) (k 
   pub production_there : (p : ProdNo) → x.production ≡ Some p → p.0 < length g.productions
   production_there p e =
       (opening g g.start [] (events_of t) x.name (record { production = p.0; names = take (length (body_of g p.0)) (drop x.first_child (names_in t.instances)) }) run.accepted.0
-      (run.expanded k x x_at ∙ ap (option_map {U = Expanded} (λ (r : ProdNo). record { production = r.0; names = take (length (body_of g r.0)) (drop x.first_child (names_in t.instances)) })) e)).in_range
+      (run.expanded k x (is_at k t.instances no_instance there) ∙ ap (option_map {U = Expanded} (λ (r : ProdNo). record { production = r.0; names = take (length (body_of g r.0)) (drop x.first_child (names_in t.instances)) })) e)).in_range
 
   pub links_opened : (u : View) (leaf : Assignment) (p : ProdNo) → expands u x.module.0 ≡ true → x.production ≡ Some p →
       links_of g u leaf (events_of t) (inst_at t.instances k) ≡ map (move_link (instance_at (get_or (names_in t.instances) k []) (take (length (body_of g p.0)) (drop x.first_child (names_in t.instances))))) (wiring_of (production_at g p.0))
   links_opened u leaf p m e =
       ap (λ b. cond b (opened_links g leaf (inst_at t.instances k) (expanded_by (events_of t) x.name)) (pair_links g leaf x.module.0 x.name)) m
-      ∙ (ap (opened_links g leaf (inst_at t.instances k)) (run.expanded k x x_at ∙ ap (option_map {U = Expanded} (λ (r : ProdNo). record { production = r.0; names = take (length (body_of g r.0)) (drop x.first_child (names_in t.instances)) })) e)
+      ∙ (ap (opened_links g leaf (inst_at t.instances k)) (run.expanded k x (is_at k t.instances no_instance there) ∙ ap (option_map {U = Expanded} (λ (r : ProdNo). record { production = r.0; names = take (length (body_of g r.0)) (drop x.first_child (names_in t.instances)) })) e)
       ∙ ap (λ n. map (move_link (instance_at n (take (length (body_of g p.0)) (drop x.first_child (names_in t.instances))))) (wiring_of (production_at g p.0))) (sym name_is))
 
   pub links_waiting : (u : View) (leaf : Assignment) → expands u x.module.0 ≡ true → x.production ≡ None → links_of g u leaf (events_of t) (inst_at t.instances k) ≡ pair_links g leaf x.module.0 (get_or (names_in t.instances) k [])
   links_waiting u leaf m e =
       ap (λ b. cond b (opened_links g leaf (inst_at t.instances k) (expanded_by (events_of t) x.name)) (pair_links g leaf x.module.0 x.name)) m
-      ∙ (ap (opened_links g leaf (inst_at t.instances k)) (run.expanded k x x_at ∙ ap (option_map {U = Expanded} (λ (r : ProdNo). record { production = r.0; names = take (length (body_of g r.0)) (drop x.first_child (names_in t.instances)) })) e)
+      ∙ (ap (opened_links g leaf (inst_at t.instances k)) (run.expanded k x (is_at k t.instances no_instance there) ∙ ap (option_map {U = Expanded} (λ (r : ProdNo). record { production = r.0; names = take (length (body_of g r.0)) (drop x.first_child (names_in t.instances)) })) e)
       ∙ ap (pair_links g leaf x.module.0) (sym name_is))
 
   pub links_closed : (u : View) (leaf : Assignment) → expands u x.module.0 ≡ false → links_of g u leaf (events_of t) (inst_at t.instances k) ≡ pair_links g leaf x.module.0 (get_or (names_in t.instances) k [])

@@ -3,16 +3,10 @@ use Rattle.std.proofs.Common.{◌≡◌, ℕ, zero, suc, ◌+◌, ◌<◌, List,
 use Rattle.std.specs.Prelude.{position}
 use Rattle.std.proofs.lemmas.List.Quantifiers.{position-Some}
 use Rattle.wf_model.specs.Lists.{IsIn}
-use Rattle.wf_model.specs.Links.{input, output}
-use Rattle.wf_model.specs.Items.{Item, dotted, input_items, output_items}
+use Rattle.wf_model.specs.Items.{input_items, output_items}
 use Rattle.wf_model.proofs.Lists.{in_append_cases, in_append_left, in_append_right, same_bytes, bytes_same}
+use Rattle.wf_model.proofs.ItemNames.{input_item, output_item}
 use Rattle.wf_flat.proofs.Dots.{none_passes}
-
-abbrev input_item : List ℕ → ℕ → List ℕ → Item
-input_item r k n = record { name = dotted r n; maker = None; produced = None; consumed = Some (input r k) }
-
-abbrev output_item : List ℕ → ℕ → List ℕ → Item
-output_item r k n = record { name = dotted r n; maker = None; produced = Some (output r k); consumed = None }
 
 input_there : (r : List ℕ) (k i : ℕ) (ns : List (List ℕ)) → i < length ns → IsIn (input_item r (k + i) (get_or ns i [])) (input_items r k ns)
 input_there r k i [] h = absurd (omega arith)

@@ -9,11 +9,13 @@ use Rattle.wf_model.specs.View.{View, expands}
 use Rattle.wf_model.specs.Run.{Instance, named, opens, newly_seen, see_all, seen_in}
 use Rattle.wf_model.proofs.Lists.{in_append_cases, at_in, is_at, differ_at, same_bytes, bytes_same}
 use Rattle.wf_model.proofs.Taking.{run_differs}
+use Rattle.wf_model.proofs.Level.{in_numbers}
+use Rattle.wf_model.proofs.Mapping.{at_map}
 use Rattle.wf_flat.specs.declared.table.Inst.{Inst}
 use Rattle.wf_flat.specs.declared.table.Opened.{Opened}
-use Rattle.wf_flat.specs.Table.{Table, IsRunOf, IsOpenedIn, instance_of, names_in, given_names, expansion_of, events_by, events_of, no_instance}
+use Rattle.wf_flat.specs.Table.{Table, IsTableOf, IsOpenedIn, instance_of, names_in, given_names, expansion_of, events_by, events_of, no_instance}
 use Rattle.wf_flat.specs.Graph.{flag_of, Marks, Agree, inst_at}
-use Rattle.wf_flat.proofs.Instances.{same_names, at_map}
+use Rattle.wf_flat.proofs.Instances.{same_names}
 
 some-append : {A : Type 0} (p : A → Bool) (xs ys : List A) → some p (xs ++ ys) ≡ some p xs || some p ys
 some-append p [] ys = refl
@@ -63,13 +65,8 @@ range_part f xs d a (suc n) h =
     drop_step f (x ∷ xs) d zero h = refl
     drop_step f (x ∷ xs) d (suc a) h = let r : a < length xs = omega arith in drop_step f xs d a r
 
-in_range_below : (c a n : ℕ) → IsIn c (numbers_from a n) → c < a + n
-in_range_below c a zero h = absurd h
-in_range_below c a (suc n) (inl e) = omega arith
-in_range_below c a (suc n) (inr h) = let r = in_range_below c (suc a) n h in omega arith
-
-module _ (g : Grammar) (t : Table) (run : IsRunOf g t) where
-  all_differ : AllDiffer (names_in t.instances)
+module _ (g : Grammar) (t : Table) (run : IsTableOf g t) where
+  pub all_differ : AllDiffer (names_in t.instances)
   all_differ = subst AllDiffer (same_names g t run) (run_differs g g.start (events_of t) run.accepted.0)
 
   -- two instances of one name are one
@@ -142,7 +139,7 @@ module _ (g : Grammar) (t : Table) (run : IsRunOf g t) where
   seen_below seen o b h l c i = ⊎_elim (λ a. l c a) (λ a. go b a) (in_append_cases c seen (cond b (numbers_from o.first o.count) []) i)
     where
       go : (b : Bool) → IsIn c (cond b (numbers_from o.first o.count) []) → c < length t.instances
-      go true a = let r = in_range_below c o.first o.count a in let q : o.first + o.count ≤ length t.instances = h.2 in omega arith
+      go true a = let r = in_numbers c o.first o.count a in let q : o.first + o.count ≤ length t.instances = h.2 in omega arith
       go false a = absurd a
 
   pub none_seen : (u : View) → length t.instances ≡ 0 → ((o : Opened) → IsIn o t.order → IsOpenedIn (length t.instances) o) → [] ≡ seen_in g u g.start (events_of t)

@@ -2,6 +2,7 @@
 use Rattle.std.proofs.Common.{◌≡◌, ℕ, zero, suc, ◌+◌, ◌<◌, ◌≤◌, ◌⊎◌, false, cond, List, [], ◌∷◌, ◌++◌, map, take, drop, set, get_or, length, Option, Some, None, refl, ap, sym, subst, ◌∙◌, arith, inl, inr, ⊎_elim, append_assoc}
 use Rattle.std.specs.Prelude.{option_map, MatchOption}
 use Rattle.std.proofs.lemmas.List.{length-map, map-append, take-append-le, drop-append-le, drop_at, take_all, get_or_append_left, get_or-set_same, get_or-set_other, length-set, length-drop}
+use Rattle.std.proofs.lemmas.Simd.{map-map}
 use Rattle.wf_model.specs.declared.event.Event.TheVariants.{Start, Expand}
 use Rattle.wf_model.specs.declared.numbers.ProdNo.{ProdNo}
 use Rattle.wf_model.specs.declared.numbers.ModNo.{ModNo}
@@ -14,15 +15,12 @@ use Rattle.wf_model.specs.Run.{Instance, Expanded, named, made, names_of, expand
 use Rattle.wf_model.proofs.Lists.{in_append_cases, at_below, at_in, at_is, is_at, differ_at, bytes_same}
 use Rattle.wf_model.proofs.Runs.{made_more, expansion_later, expansion_other, run_state, AllExtend-append}
 use Rattle.wf_model.proofs.Taking.{run_differs, length-named, twice_from, taking_law}
+use Rattle.wf_model.proofs.Mapping.{at_map, map_same}
 use Rattle.wf_flat.specs.declared.table.Inst.{Inst}
 use Rattle.wf_flat.specs.declared.table.Opened.{Opened}
-use Rattle.wf_flat.specs.Table.{Table, IsRunOf, IsParentAt, IsKept, IsOpenedIn, instance_of, names_in, given_names, expansion_of, events_by, events_of, expansion_at, children, expanded_by_no, no_instance, opened_table, root_instance, started_table}
-use Rattle.wf_flat.proofs.Tables.{names-with_children, instances-with_children, length-with_children}
-use Rattle.wf_flat.proofs.Instances.{at_map, map-map, same_names}
-
-map_same : {A B : Type 0} (f h : A → B) (xs : List A) → ((x : A) → IsIn x xs → f x ≡ h x) → map f xs ≡ map h xs
-map_same f h [] e = refl
-map_same f h (x ∷ xs) e = ap (λ y. y ∷ map f xs) (e x (inl refl)) ∙ ap (λ l. h x ∷ l) (map_same f h xs (λ y i. e y (inr i)))
+use Rattle.wf_flat.specs.Table.{Table, IsTableOf, IsParentAt, IsTableKept, IsOpenedIn, instance_of, names_in, given_names, expansion_of, events_by, events_of, expansion_at, children, expanded_by_no, no_instance, opened_table, root_instance, started_table}
+use Rattle.wf_flat.proofs.Tables.{names-with_children, instances-with_children, length-with_children, module_of}
+use Rattle.wf_flat.proofs.Instances.{same_names}
 
 -- a part of a list is the same where others follow
 pub part_kept : {A : Type 0} (a n : ℕ) (xs ys : List A) → a + n ≤ length xs → take n (drop a (xs ++ ys)) ≡ take n (drop a xs)
@@ -90,10 +88,7 @@ lifted (Some x) P R Q S f h m = h x m
 abbrev some_expanded : Expanded → Option Expanded
 some_expanded x = Some x
 
-abbrev module_of : Position → ℕ
-module_of q = q.module.0
-
-module _ (g : Grammar) (t : Table) (run : IsRunOf g t) (kept : (q : Opened) → IsIn q t.order → IsOpenedIn (length t.instances) q) (k : ℕ) (p : ProdNo) (new : List (List ℕ)) (body : List Position) (i : List ℕ) (there : k < length t.instances) (named_so : i ≡ (get_or t.instances k no_instance).name) (same_body : map module_of body ≡ body_of g p.0) (next : IsAccepted g t.most (events_of t ++ Expand i p.0 new ∷ [])) where
+module _ (g : Grammar) (t : Table) (run : IsTableOf g t) (kept : (q : Opened) → IsIn q t.order → IsOpenedIn (length t.instances) q) (k : ℕ) (p : ProdNo) (new : List (List ℕ)) (body : List Position) (i : List ℕ) (there : k < length t.instances) (named_so : i ≡ (get_or t.instances k no_instance).name) (same_body : map module_of body ≡ body_of g p.0) (next : IsAccepted g t.most (events_of t ++ Expand i p.0 new ∷ [])) where
   abbrev names : List (List ℕ)
   names = names_in t.instances
 
@@ -294,7 +289,7 @@ module _ (g : Grammar) (t : Table) (run : IsRunOf g t) (kept : (q : Opened) → 
           subst (λ (o : Option ℕ). MatchOption o (j ≡ 0) (λ q. IsParentAt g after.instances q j)) (sym a.0)
           (subst (IsParentAt g after.instances k) (sym e) (parent_new m a.1))
 
-  pub run_expanded : (events_of after ≡ events_of t ++ Expand i p.0 new ∷ []) × IsRunOf g after
+  pub run_expanded : (events_of after ≡ events_of t ++ Expand i p.0 new ∷ []) × IsTableOf g after
   run_expanded = (
     all_events,
     record {
@@ -308,7 +303,7 @@ module _ (g : Grammar) (t : Table) (run : IsRunOf g t) (kept : (q : Opened) → 
   )
 
 -- the start
-pub run_started : (g : Grammar) (most : ℕ) (m : ModNo) (name : List ℕ) → m.0 ≡ g.start → IsAccepted g most (Start name ∷ []) → IsRunOf g (started_table most m name)
+pub run_started : (g : Grammar) (most : ℕ) (m : ModNo) (name : List ℕ) → m.0 ≡ g.start → IsAccepted g most (Start name ∷ []) → IsTableOf g (started_table most m name)
 run_started g most m name e acc = record {
   accepted = acc;
   made = ap (λ n. one (record { name = name; module_no = n })) e;
@@ -333,10 +328,10 @@ run_started g most m name e acc = record {
     none zero x r h q = let d : None ≡ Some r = sym (ap (λ (y : Inst). y.production) h) ∙ q in cc
     none (suc j) x r h q = h
 
-pub kept_of : (t : Table) (most : ℕ) (taken : List (List ℕ)) (xs : List Inst) (order : List Opened) → IsKept most taken xs order → ◌≡◌ {A = Table} (record { most = most; instances = xs; order = order }) t → (q : Opened) → IsIn q t.order → IsOpenedIn (length t.instances) q
+pub kept_of : (t : Table) (most : ℕ) (taken : List (List ℕ)) (xs : List Inst) (order : List Opened) → IsTableKept most taken xs order → ◌≡◌ {A = Table} (record { most = most; instances = xs; order = order }) t → (q : Opened) → IsIn q t.order → IsOpenedIn (length t.instances) q
 kept_of t most taken xs order k e = subst (λ (z : Table). (q : Opened) → IsIn q z.order → IsOpenedIn (length z.instances) q) e k.opened
 
-pub fresh_names : (g : Grammar) (t : Table) (i : List ℕ) (p : ℕ) (new : List (List ℕ)) → IsRunOf g t → IsAccepted g t.most (events_of t ++ Expand i p new ∷ []) → some_twice (names_in t.instances) new ≡ false
+pub fresh_names : (g : Grammar) (t : Table) (i : List ℕ) (p : ℕ) (new : List (List ℕ)) → IsTableOf g t → IsAccepted g t.most (events_of t ++ Expand i p new ∷ []) → some_twice (names_in t.instances) new ≡ false
 fresh_names g t i p new run next =
     let can = (AllExtend-append g g.start [] (events_of t) (Expand i p new ∷ []) next.0).1.0 in
     ap (λ l. some_twice l new) (sym (same_names g t run)) ∙ twice_from (names_of (made g g.start (events_of t))) new can.differ can.new
@@ -345,14 +340,14 @@ pub same_modules : (g : Grammar) (p : ℕ) (r : Production) (body : List Positio
 same_modules g p r body b e =
     sym (map-map (λ (z : PositionSeen). z.module_no) position_of body) ∙ (ap (map (λ (z : PositionSeen). z.module_no)) b ∙ ap (λ (z : Production). map (λ (y : PositionSeen). y.module_no) z.positions) e)
 
-pub run_first : (g : Grammar) (t : Table) (m : ModNo) (name : List ℕ) → IsRunOf g t → m.0 ≡ g.start → fault_of g t.most (events_of t) (Start name) ≡ None → IsRunOf g (started_table t.most m name)
+pub run_first : (g : Grammar) (t : Table) (m : ModNo) (name : List ℕ) → IsTableOf g t → m.0 ≡ g.start → fault_of g t.most (events_of t) (Start name) ≡ None → IsTableOf g (started_table t.most m name)
 run_first g t m name run e h =
     let next = (taking_law g t.most (events_of t) (Start name) run.accepted).0 h in
     let x = (AllExtend-append g g.start [] (events_of t) (Start name ∷ []) next.0).1.0 in
     run_started g t.most m name e (subst (λ l. IsAccepted g t.most (l ++ Start name ∷ [])) x.0 next)
 
 -- the run before its start
-pub run_none : (g : Grammar) (most : ℕ) → IsRunOf g (record { most = most; instances = []; order = [] })
+pub run_none : (g : Grammar) (most : ℕ) → IsTableOf g (record { most = most; instances = []; order = [] })
 run_none g most = record {
   accepted = (tt, (let z : 0 ≤ most = omega arith in z), λ n h. absurd h);
   made = refl;

@@ -7,9 +7,9 @@ use Rattle.wf_model.proofs.Lists.{in_append_cases}
 use Rattle.wf_model.specs.declared.body.Position.{Position}
 use Rattle.wf_flat.specs.declared.table.Inst.{Inst}
 use Rattle.wf_flat.specs.declared.table.Opened.{Opened}
-use Rattle.wf_flat.specs.Table.{instance_of, names_in, IsOpenedIn, IsKept, children, expanded_by_no, no_instance, with_children}
+use Rattle.wf_flat.specs.Table.{instance_of, names_in, IsOpenedIn, IsTableKept, children, expanded_by_no, no_instance, with_children}
 
-abbrev module_of : Position → ℕ
+abbrev pub module_of : Position → ℕ
 module_of q = q.module.0
 
 pub names-children : (k : ℕ) (names : List (List ℕ)) (qs : List Position) → length names ≡ length qs → names_in (children k names qs) ≡ names
@@ -48,8 +48,8 @@ length-with_children xs o names qs e =
     omega (arith, length-map (with_children xs o names qs) (λ (x : Inst). x.name), length-map xs (λ (x : Inst). x.name), length-append (names_in xs) names)
 
 pub kept_more : (most : ℕ) (taken : List (List ℕ)) (xs : List Inst) (order : List Opened) (o : Opened) (names : List (List ℕ)) (qs : List Position) →
-    IsKept most taken xs order → o.instance < length xs → o.first ≡ length xs → o.count ≡ length names → length names ≡ length qs → length xs + length names ≤ most →
-    IsKept most (taken ++ names) (with_children xs o names qs) (order ++ o ∷ [])
+    IsTableKept most taken xs order → o.instance < length xs → o.first ≡ length xs → o.count ≡ length names → length names ≡ length qs → length xs + length names ≤ most →
+    IsTableKept most (taken ++ names) (with_children xs o names qs) (order ++ o ∷ [])
 kept_more most taken xs order o names qs k h f c e m =
     let n = length-with_children xs o names qs e in
     record {

@@ -13,16 +13,16 @@ pub record FlatSeen : Type 0 where
   pub opens : List Bool
 
 -- what no instance made is shown, and what an instance made is shown where the flag of that instance is set
-abbrev pub is_shown : List Bool → Option ℕ → Bool
-is_shown opens None = true
-is_shown opens (Some k) = get_or opens k false
+abbrev pub is_item_shown : List Bool → Option ℕ → Bool
+is_item_shown opens None = true
+is_item_shown opens (Some k) = get_or opens k false
 
 -- a port of an instance that is known by its number
-abbrev pub numbered : PortHeld → Port ℕ
-numbered x = record { owner = x.instance; side = x.side; number = x.port.0 }
+abbrev pub numbered_port : PortHeld → Port ℕ
+numbered_port x = record { owner = x.instance; side = x.side; number = x.port.0 }
 
 abbrev pub numbered_link : LinkHeld → Link ℕ
-numbered_link l = record { from = numbered l.from; to = numbered l.to }
+numbered_link l = record { from = numbered_port l.from; to = numbered_port l.to }
 
 abbrev pub numbered_links : List LinkHeld → List (Link ℕ)
 numbered_links ls = map numbered_link ls
@@ -53,4 +53,4 @@ AddsLink l ports graph ports' graph' = (ls : List LinkHeld) → IsIndex ls ports
 
 -- an answer tells whether a path leads from a port to a port, in the links of which this is an index
 abbrev pub TellsPath : List PortHeld → List (Vec ℕ Global) → PortHeld → PortHeld → Bool → Type 0
-TellsPath ports graph from to answer = (ls : List LinkHeld) → IsIndex ls ports graph → IsTrue answer ↔ Path (numbered_links ls) (numbered from) (numbered to)
+TellsPath ports graph from to answer = (ls : List LinkHeld) → IsIndex ls ports graph → IsTrue answer ↔ Path (numbered_links ls) (numbered_port from) (numbered_port to)

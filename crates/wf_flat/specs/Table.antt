@@ -44,7 +44,7 @@ abbrev pub IsOpenedIn : ℕ → Opened → Type 0
 IsOpenedIn count o = (o.instance < count) × (0 < o.first) × (o.first + o.count ≤ count)
 
 -- what the fields of a run keep, whatever the grammar is
-pub record IsKept (most : ℕ) (names : List (List ℕ)) (xs : List Inst) (order : List Opened) : Type 0 where
+pub record IsTableKept (most : ℕ) (names : List (List ℕ)) (xs : List Inst) (order : List Opened) : Type 0 where
   pub same_names : names ≡ names_in xs
   pub few : length xs ≤ most
   pub opened : (o : Opened) → IsIn o order → IsOpenedIn (length xs) o
@@ -93,7 +93,7 @@ pub record IsParentAt (g : Grammar) (xs : List Inst) (p k : ℕ) : Type 0 where
   pub last : k < (get_or xs p no_instance).first_child + length (body_of g production.0)
 
 -- the table stands for an accepted run of the grammar
-pub record IsRunOf (g : Grammar) (t : Table) : Type 0 where
+pub record IsTableOf (g : Grammar) (t : Table) : Type 0 where
   -- its events are a run of the grammar within the limit
   pub accepted : IsAccepted g t.most (events_of t)
   -- its instances are those that the events make, in their order

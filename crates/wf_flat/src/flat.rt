@@ -5,10 +5,10 @@ ghost use Rattle.wf_model.specs.View.{View};
 ghost use Rattle.wf_model.specs.Run.{opens, seen_in};
 ghost use Rattle.wf_model.specs.Links.{Path, links_with};
 ghost use Rattle.wf_model.specs.Meaning.{pairs_of};
-ghost use Rattle.wf_flat.specs.Table.{IsRunOf, events_of, names_in};
+ghost use Rattle.wf_flat.specs.Table.{IsTableOf, events_of, names_in};
 ghost use Rattle.wf_flat.specs.Graph.{named_links, named_port, Marks, IsMadeFor};
 ghost use Rattle.wf_graph.specs.Graph.{HasEdge, InRange};
-ghost use Rattle.wf_flat.specs.Flat.{AreWithin, numbered, numbered_links, IsIndex, KeepsIndex, KeepsPlaces, AddsLink, TellsPath, is_shown};
+ghost use Rattle.wf_flat.specs.Flat.{AreWithin, numbered_port, numbered_links, IsIndex, KeepsIndex, KeepsPlaces, AddsLink, TellsPath, is_item_shown};
 
 use crate::graph::{Link, Port, links};
 use crate::item::Item;
@@ -145,7 +145,7 @@ impl Flat {
         expanded: &[bool],
         leaf: &Deps,
     ) -> Result<Flat, AllocError>
-        requires run { IsRunOf g.now.core run.now }
+        requires run { IsTableOf g.now.core run.now }
         requires made_for { IsMadeFor g.now.core leaf.now }
         ensures links { IfOk result (λ f. (u : View) → Marks expanded.now u → named_links (names_in run.now.instances) f.links ≡ links_with g.now.core u (pairs_of leaf.now) g.now.core.start (events_of run.now)) }
         ensures within { IfOk result (λ f. AreWithin (length run.now.instances) f.links) }
@@ -166,18 +166,11 @@ impl Flat {
         })
     }
 
-    /// The links, in order.
-    pub fn links(&self) -> &[Link]
-        ensures { result.now ≡ self.now.links }
-    {
-        self.links.as_slice()
-    }
-
     /// Whether an item of the run is visible: a port of the root, or made by an open instance.
     ///
     /// Cost: one flag is looked at. Takes no memory.
     pub fn shows(&self, item: &Item) -> bool
-        ensures { result ≡ is_shown self.now.opens item.now.maker }
+        ensures { result ≡ is_item_shown self.now.opens item.now.maker }
     {
         let Some(k) = item.maker else {
             return true;
@@ -189,7 +182,7 @@ impl Flat {
     ///
     /// Cost: each link is looked at once at most. Fails only for want of memory.
     pub fn joined(&self, alloc: Global, from: Port, to: Port) -> Result<bool, AllocError>
-        ensures joined { IfOk result (λ b. IsTrue b ↔ Path (numbered_links self.now.links) (numbered from) (numbered to)) }
+        ensures joined { IfOk result (λ b. IsTrue b ↔ Path (numbered_links self.now.links) (numbered_port from) (numbered_port to)) }
         ensures by_name { IfOk result (λ b. (names : List (List ℕ)) → AllDiffer names → AreWithin (length names) self.now.links → from.instance < length names → to.instance < length names →
             IsTrue b ↔ Path (named_links names self.now.links) (named_port names from) (named_port names to)) }
     {

@@ -5,7 +5,7 @@ ghost use Rattle.wf_model.specs.Lists.{IsIn};
 ghost use Rattle.wf_model.specs.View.{View};
 ghost use Rattle.wf_model.specs.Links.{pair_links, links_of, move_link, instance_at};
 ghost use Rattle.wf_model.specs.Meaning.{pairs_of};
-ghost use Rattle.wf_flat.specs.Table.{IsRunOf, events_of, names_in};
+ghost use Rattle.wf_flat.specs.Table.{IsTableOf, events_of, names_in};
 ghost use Rattle.wf_flat.specs.Graph.{named_links, Marks, row_links, matrix_links, edge_at, entries_at, exits_at, AreBelow, wiring_of, IsMadeFor, inst_at};
 ghost use Rattle.wf_flat.specs.Flat.{AreWithin};
 
@@ -207,7 +207,7 @@ fn add_instance(
     expanded: &[bool],
     leaf: &Deps,
 ) -> Result<(), AllocError>
-    requires run { IsRunOf g.now.core run.now }
+    requires run { IsTableOf g.now.core run.now }
     requires there { k < length run.now.instances }
     requires made_for { IsMadeFor g.now.core leaf.now }
     ensures within { OnOk result (AreWithin (length run.now.instances) links.old.items → AreWithin (length run.now.instances) links.new.items) }
@@ -238,7 +238,7 @@ pub fn links(
     expanded: &[bool],
     leaf: &Deps,
 ) -> Result<Vec<Link>, AllocError>
-    requires run { IsRunOf g.now.core run.now }
+    requires run { IsTableOf g.now.core run.now }
     requires made_for { IsMadeFor g.now.core leaf.now }
     requires there { (k : ℕ) → IsIn k seen.now → k < length run.now.instances }
     ensures within { IfOk result (λ ls. AreWithin (length run.now.instances) ls.items) }

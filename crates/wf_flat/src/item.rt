@@ -4,7 +4,7 @@ ghost use Rattle.wf_model.specs.declared.body.Edge.{Edge as EdgeHeld};
 ghost use Rattle.wf_model.specs.Grammar.{Edge as EdgeSeen, body_of, production_at};
 ghost use Rattle.wf_model.specs.Lists.{IsIn};
 ghost use Rattle.wf_model.specs.Items.{Item as ItemSeen, items, dotted, input_items, output_items};
-ghost use Rattle.wf_flat.specs.Table.{IsRunOf, events_of, names_in, no_instance};
+ghost use Rattle.wf_flat.specs.Table.{IsTableOf, events_of, names_in, no_instance};
 ghost use Rattle.wf_flat.specs.Item.{named_item, IsItemWithin, IsItemOfEdge};
 
 use crate::graph::Port;
@@ -132,7 +132,7 @@ fn edge_item(
 
 /// The item of an output of an instance below the root.
 fn inner_item(g: &Grammar, run: &PlainRun, k: u32, parent: u32, port: &[u8]) -> Option<Item>
-    requires run { IsRunOf g.now.core run.now }
+    requires run { IsTableOf g.now.core run.now }
     requires there { k < length run.now.instances }
     requires parent { (get_or run.now.instances k no_instance).parent ≡ Some parent }
     ensures found { IfSome result (λ i. IsIn (named_item (names_in run.now.instances) (dotted (get_or (names_in run.now.instances) k []) port.now) i) (items g.now.core g.now.core.start (events_of run.now))) }
@@ -154,7 +154,7 @@ fn inner_item(g: &Grammar, run: &PlainRun, k: u32, parent: u32, port: &[u8]) -> 
 
 /// The item that is named by an instance and a port.
 fn item_at(g: &Grammar, run: &PlainRun, k: u32, port: &[u8]) -> Option<Item>
-    requires run { IsRunOf g.now.core run.now }
+    requires run { IsTableOf g.now.core run.now }
     requires there { k < length run.now.instances }
     ensures found { IfSome result (λ i. IsIn (named_item (names_in run.now.instances) (dotted (get_or (names_in run.now.instances) k []) port.now) i) (items g.now.core g.now.core.start (events_of run.now))) }
     ensures none { IsNone result → (t : ItemSeen) → IsIn t (items g.now.core g.now.core.start (events_of run.now)) → t.name ≡ dotted (get_or (names_in run.now.instances) k []) port.now → ⊥ }
@@ -171,7 +171,7 @@ fn item_at(g: &Grammar, run: &PlainRun, k: u32, port: &[u8]) -> Option<Item>
 ///
 /// Cost: one look-up by hashing, the ports of one module and the edges of one body. Takes no memory.
 pub fn find_item(g: &Grammar, run: &PlainRun, name: &[u8]) -> Option<Item>
-    requires { IsRunOf g.now.core run.now }
+    requires { IsTableOf g.now.core run.now }
     ensures found { IfSome result (λ i. IsIn (named_item (names_in run.now.instances) name.now i) (items g.now.core g.now.core.start (events_of run.now))) }
     ensures none { IsNone result → (t : ItemSeen) → IsIn t (items g.now.core g.now.core.start (events_of run.now)) → t.name ≡ name.now → ⊥ }
     ensures within { IfSome result (λ i. IsItemWithin (length run.now.instances) i) }

@@ -3,7 +3,7 @@ ghost use Rattle.std.specs.Prelude.{◌≡◌, ◌<◌, ◌≤◌, ◌+◌, ◌^
 ghost use Rattle.wf_model.specs.Lists.{IsIn, numbers_from};
 ghost use Rattle.wf_model.specs.View.{View};
 ghost use Rattle.wf_model.specs.Run.{seen_in};
-ghost use Rattle.wf_flat.specs.Table.{IsRunOf, events_of, no_instance};
+ghost use Rattle.wf_flat.specs.Table.{IsTableOf, events_of, no_instance};
 ghost use Rattle.wf_flat.specs.Graph.{Marks, flag_of, Agree, inst_at};
 
 use crate::table::{Inst, Opened, PlainRun};
@@ -77,7 +77,7 @@ pub fn seen(
     run: &PlainRun,
     expanded: &[bool],
 ) -> Result<Vec<u32>, AllocError>
-    requires { IsRunOf g.now.core run.now }
+    requires { IsTableOf g.now.core run.now }
     ensures seen { IfOk result (λ s. (u : View) → Marks expanded.now u → map (inst_at run.now.instances) s.items ≡ seen_in g.now.core u g.now.core.start (events_of run.now)) }
     ensures there { IfOk result (λ s. (k : ℕ) → IsIn k s.items → k < length run.now.instances) }
 {

@@ -5,7 +5,7 @@ ghost use Rattle.wf_model.specs.declared.event.RunFault.TheVariants.{NoMemory};
 ghost use Rattle.wf_model.specs.Grammar.{Grammar as GrammarSeen};
 ghost use Rattle.wf_model.specs.Faults.{some_twice, fault_of};
 ghost use Rattle.run_faults.specs.Standing.{IsFound};
-ghost use Rattle.wf_flat.specs.Table.{Table, IsRunOf, events_of, names_in, children, with_children, root_instance, started_table, opened_table};
+ghost use Rattle.wf_flat.specs.Table.{Table, IsTableOf, events_of, names_in, children, with_children, root_instance, started_table, opened_table};
 
 use run_faults::{Found, expand_fault, start_fault};
 use std::alloc::{AllocError, Global};
@@ -43,13 +43,13 @@ pub struct PlainRun {
 }
 
 impl Model for PlainRun {
-    ghost use Rattle.wf_flat.specs.Table.{Table, IsKept};
+    ghost use Rattle.wf_flat.specs.Table.{Table, IsTableKept};
 
     ghost Value = { Table };
 
     ghost view = { λ r. record { most = r.most; instances = r.instances.items; order = r.order.items } };
 
-    ghost invariant = { λ r. IsKept r.most r.names r.instances.items r.order.items };
+    ghost invariant = { λ r. IsTableKept r.most r.names r.instances.items r.order.items };
 }
 
 /// Appends the instances that an expansion makes. After an error some of them may be there.
@@ -203,12 +203,12 @@ impl PlainRun {
     ///
     /// Cost: one look-up for each name of the event, which is also compared with the names before it in the event, at most 63.
     pub fn take(&mut self, g: &Grammar, e: &Event) -> Result<(), RunFault>
-        requires { IsRunOf g.now.core self.old }
+        requires { IsTableOf g.now.core self.old }
         ensures taken { OnOk result (events_of self.new ≡ events_of self.old ++ e.now ∷ []) }
         ensures extends { OnOk result (fault_of g.now.core self.old.most (events_of self.old) e.now ≡ None) }
         ensures refused { IfErr result (λ f. (f ≡ NoMemory) ⊎ (fault_of g.now.core self.old.most (events_of self.old) e.now ≡ Some f)) }
         ensures unchanged { OnErr result (self.new ≡ self.old) }
-        ensures run { IsRunOf g.now.core self.new }
+        ensures run { IsTableOf g.now.core self.new }
         ensures most { self.new.most ≡ self.old.most }
     {
         match e {
@@ -222,12 +222,12 @@ impl PlainRun {
     }
 
     fn take_start(&mut self, g: &Grammar, name: &[u8]) -> Result<(), RunFault>
-        requires { IsRunOf g.now.core self.old }
+        requires { IsTableOf g.now.core self.old }
         ensures taken { OnOk result (events_of self.new ≡ events_of self.old ++ Start name.now ∷ []) }
         ensures extends { OnOk result (fault_of g.now.core self.old.most (events_of self.old) (Start name.now) ≡ None) }
         ensures refused { IfErr result (λ f. (f ≡ NoMemory) ⊎ (fault_of g.now.core self.old.most (events_of self.old) (Start name.now) ≡ Some f)) }
         ensures unchanged { OnErr result (self.new ≡ self.old) }
-        ensures run { IsRunOf g.now.core self.new }
+        ensures run { IsTableOf g.now.core self.new }
         ensures most { self.new.most ≡ self.old.most }
     {
         if let Some(fault) = self.start_fault(g, name) {
@@ -238,7 +238,7 @@ impl PlainRun {
     }
 
     fn start_fault(&self, g: &Grammar, name: &[u8]) -> Option<RunFault>
-        requires { IsRunOf g.now.core self.now }
+        requires { IsTableOf g.now.core self.now }
         ensures { result ≡ fault_of g.now.core self.now.most (events_of self.now) (Start name.now) }
     {
         start_fault(!self.instances.is_empty(), self.most, name)
@@ -251,12 +251,12 @@ impl PlainRun {
         production: u64,
         names: &[Name],
     ) -> Result<(), RunFault>
-        requires { IsRunOf g.now.core self.old }
+        requires { IsTableOf g.now.core self.old }
         ensures taken { OnOk result (events_of self.new ≡ events_of self.old ++ Expand instance.now production names.now ∷ []) }
         ensures extends { OnOk result (fault_of g.now.core self.old.most (events_of self.old) (Expand instance.now production names.now) ≡ None) }
         ensures refused { IfErr result (λ f. (f ≡ NoMemory) ⊎ (fault_of g.now.core self.old.most (events_of self.old) (Expand instance.now production names.now) ≡ Some f)) }
         ensures unchanged { OnErr result (self.new ≡ self.old) }
-        ensures run { IsRunOf g.now.core self.new }
+        ensures run { IsTableOf g.now.core self.new }
         ensures most { self.new.most ≡ self.old.most }
     {
         let _all = self.instances.len();
@@ -272,7 +272,7 @@ impl PlainRun {
     /// What the table tells of the instance of a name, which has this number.
     fn found(&self, name: &[u8], number: Option<u32>) -> Option<Found>
         requires { number ≡ position (bytes_eq name.now) (names_in self.now.instances) }
-        ensures { (g : GrammarSeen) → IsRunOf g self.now → IsFound g (events_of self.now) name.now result }
+        ensures { (g : GrammarSeen) → IsTableOf g self.now → IsFound g (events_of self.now) name.now result }
     {
         let Some(k) = number else {
             return None;
@@ -293,7 +293,7 @@ impl PlainRun {
         production: u64,
         names: &[Name],
     ) -> Option<RunFault>
-        requires run { IsRunOf g.now.core self.now }
+        requires run { IsTableOf g.now.core self.now }
         requires number { number ≡ position (bytes_eq name.now) (names_in self.now.instances) }
         ensures { result ≡ fault_of g.now.core self.now.most (events_of self.now) (Expand name.now production names.now) }
     {
@@ -310,7 +310,7 @@ impl PlainRun {
         production: u64,
         names: &[Name],
     ) -> Result<u32, RunFault>
-        requires { IsRunOf g.now.core self.now }
+        requires { IsTableOf g.now.core self.now }
         ensures refused { IfErr result (λ f. fault_of g.now.core self.now.most (events_of self.now) (Expand name.now production names.now) ≡ Some f) }
         ensures extends { OnOk result (fault_of g.now.core self.now.most (events_of self.now) (Expand name.now production names.now) ≡ None) }
         ensures place { IfOk result (λ k. position (bytes_eq name.now) (names_in self.now.instances) ≡ Some k) }

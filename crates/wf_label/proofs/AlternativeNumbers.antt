@@ -7,7 +7,7 @@ use Rattle.wf_model.specs.declared.numbers.ProdNo.{ProdNo}
 use Rattle.wf_model.specs.Grammar.{Grammar, Production, head_of, alternative_of}
 use Rattle.wf_spec.specs.Tables.{productions_of, head_at, headed}
 use Rattle.wf_spec.proofs.Tables.{get_in, headed-next, headed_count}
-use Rattle.wf_recur.proofs.Heads.{headed_gives}
+use Rattle.wf_spec.proofs.Heads.{headed_gives}
 use Rattle.wf_label.proofs.ByAlternative.{at_alternative}
 use Rattle.wf_label.specs.Parts.{HasNoNumber, HasNoAlternative}
 

@@ -8,3 +8,4 @@ pub mod MarksRead
 pub mod MarksSpelled
 pub mod MarksNamed
 pub mod LabelFirst
+pub mod Counts

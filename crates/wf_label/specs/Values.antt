@@ -8,18 +8,18 @@ use Rattle.wf_label.specs.declared.label.Label.{Label as LabelHeld}
 use Rattle.wf_label.specs.declared.label.Label.TheVariants.{Input as InputHeld, Output as OutputHeld, OfEdge as OfEdgeHeld}
 
 -- a step
-abbrev pub step_of : PlaceStepHeld → PlaceStep
-step_of s = record { chain = s.chain; alternative = s.alternative; position = s.position.0 }
+abbrev pub place_step_of : PlaceStepHeld → PlaceStep
+place_step_of s = record { chain = s.chain; alternative = s.alternative; position = s.position.0 }
 
 -- a place
-abbrev pub place_of : PlaceHeld → Place
-place_of p = record { steps = map step_of p.steps; chain = p.chain; alternative = p.alternative; edge = p.edge.0 }
+abbrev pub label_place_of : PlaceHeld → Place
+label_place_of p = record { steps = map place_step_of p.steps; chain = p.chain; alternative = p.alternative; edge = p.edge.0 }
 
 -- a label
 abbrev pub label_of : LabelHeld → Label
 label_of (InputHeld p) = Input p.0
 label_of (OutputHeld p) = Output p.0
-label_of (OfEdgeHeld p) = OfEdge (place_of p)
+label_of (OfEdgeHeld p) = OfEdge (label_place_of p)
 
 -- a label of at most so many steps
 abbrev pub HasSteps : ℕ → LabelHeld → Type 0

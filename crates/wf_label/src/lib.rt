@@ -17,4 +17,4 @@ pub use check::Malformed;
 pub use cursor::{Cursor, Mark};
 pub use label::{Label, Place, PlaceStep};
 pub use reference::LabelRef;
-pub use write::{write_ending, write_label, write_step};
+pub use write::{with_ending, with_step, write_label};

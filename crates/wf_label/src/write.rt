@@ -1,8 +1,9 @@
 // Labels written as bits.
-ghost use Rattle.std.specs.Prelude.{◌≡◌, ◌≤◌, ◌<◌, ◌+◌, ◌^◌, Bool, false, List, ◌∷◌, ◌++◌, length, IfOk, OnOk, OnErr};
+ghost use Rattle.std.specs.Prelude.{◌≡◌, ◌≤◌, ◌<◌, ◌+◌, ◌^◌, false, ◌∷◌, ◌++◌, length, IfOk, OnOk};
 ghost use Rattle.bit_pack.specs.Gamma.{gamma};
+ghost use Rattle.bit_pack.specs.Written.{first_bits, IsFilled};
 ghost use Rattle.label_model.specs.Labels.{OfEdge, chain_bits, label_bits, step_bits, ending_bits};
-ghost use Rattle.wf_label.specs.Values.{step_of, place_of, label_of, HasSteps};
+ghost use Rattle.wf_label.specs.Values.{place_step_of, label_place_of, label_of, HasSteps};
 
 use crate::label::{Label, Place, PlaceStep};
 use bit_pack::{BitWriter, Bits};
@@ -13,7 +14,6 @@ use wf_spec::{EdgeNo, PortNo};
 fn write_chain(w: &mut BitWriter, chain: Option<u32>) -> Result<(), AllocError>
     requires { length w.old < 2 ^ 30 }
     ensures ok { OnOk result (w.new ≡ w.old ++ chain_bits chain) }
-    ensures err { OnErr result (w.new ≡ w.old) }
     ensures few { OnOk result (length w.new ≤ length w.old + 127) }
 {
     match chain {
@@ -22,11 +22,10 @@ fn write_chain(w: &mut BitWriter, chain: Option<u32>) -> Result<(), AllocError>
     }
 }
 
-/// Writes a step of a place behind the bits that are there. After an error a part of it may be written behind them; the only error is that memory is refused.
-pub fn write_step(w: &mut BitWriter, step: PlaceStep) -> Result<(), AllocError>
+/// Writes a step of a place behind the bits that are there. After an error a part of it may be written.
+fn write_step(w: &mut BitWriter, step: PlaceStep) -> Result<(), AllocError>
     requires { length w.old < 2 ^ 30 }
-    ensures ok { OnOk result (w.new ≡ w.old ++ step_bits (step_of step)) }
-    ensures kept { (written : List Bool) × (w.new ≡ w.old ++ written) }
+    ensures ok { OnOk result (w.new ≡ w.old ++ step_bits (place_step_of step)) }
     ensures few { OnOk result (length w.new ≤ length w.old + 382) }
 {
     write_chain(w, step.chain)?;
@@ -35,8 +34,8 @@ pub fn write_step(w: &mut BitWriter, step: PlaceStep) -> Result<(), AllocError>
     w.gamma(step.position.0 as u64 + 1)
 }
 
-/// Writes the last chain number of a place and its ending: the alternative number of the production and the edge. After an error a part of it may be written behind them; the only error is that memory is refused.
-pub fn write_ending(
+/// Writes the last chain number of a place and its ending: the alternative number of the production and the edge. After an error a part of it may be written.
+fn write_ending(
     w: &mut BitWriter,
     chain: Option<u32>,
     alternative: u16,
@@ -44,7 +43,6 @@ pub fn write_ending(
 ) -> Result<(), AllocError>
     requires { length w.old < 2 ^ 30 }
     ensures ok { OnOk result (w.new ≡ w.old ++ ending_bits chain alternative edge.0) }
-    ensures kept { (written : List Bool) × (w.new ≡ w.old ++ written) }
     ensures few { OnOk result (length w.new ≤ length w.old + 382) }
 {
     write_chain(w, chain)?;
@@ -67,7 +65,7 @@ fn write_port(w: &mut BitWriter, is_output: bool, port: PortNo) -> Result<(), Al
 fn write_place(w: &mut BitWriter, place: &Place) -> Result<(), AllocError>
     requires room { length w.old < 2 ^ 20 }
     requires few { length place.now.steps ≤ 1024 }
-    ensures { OnOk result (w.new ≡ w.old ++ label_bits (OfEdge (place_of place.now))) }
+    ensures { OnOk result (w.new ≡ w.old ++ label_bits (OfEdge (label_place_of place.now))) }
 {
     w.bit(true)?;
     for step in place.steps.items() {
@@ -88,6 +86,44 @@ fn write_bits(w: &mut BitWriter, label: &Label) -> Result<(), AllocError>
         Label::Output(port) => write_port(w, true, *port),
         Label::OfEdge(place) => write_place(w, place),
     }
+}
+
+/// The bits of a prefix and those of a step behind them. The prefix is the first bits of the bytes, so many.
+///
+/// The only error is that memory is refused. Cost: linear in the bits.
+pub fn with_step(
+    alloc: Global,
+    bytes: &[u8],
+    length: u32,
+    step: PlaceStep,
+) -> Result<Bits, AllocError>
+    requires filled { IsFilled bytes.now length }
+    requires few { length < 2 ^ 30 }
+    ensures { IfOk result (λ b. b ≡ first_bits bytes.now length ++ step_bits (place_step_of step)) }
+{
+    let mut w = BitWriter::resume(alloc, bytes, length)?;
+    write_step(&mut w, step)?;
+    Ok(w.finish())
+}
+
+/// The bits of a prefix and those of an ending behind them: the last chain number, the alternative number of the production, and the edge. The prefix is the first bits of the bytes, so many.
+///
+/// The only error is that memory is refused. Cost: linear in the bits.
+pub fn with_ending(
+    alloc: Global,
+    bytes: &[u8],
+    length: u32,
+    chain: Option<u32>,
+    alternative: u16,
+    edge: EdgeNo,
+) -> Result<Bits, AllocError>
+    requires filled { IsFilled bytes.now length }
+    requires few { length < 2 ^ 30 }
+    ensures { IfOk result (λ b. b ≡ first_bits bytes.now length ++ ending_bits chain alternative edge.0) }
+{
+    let mut w = BitWriter::resume(alloc, bytes, length)?;
+    write_ending(&mut w, chain, alternative, edge)?;
+    Ok(w.finish())
 }
 
 /// The bits of a label of at most 1,024 steps, as every label of a grammar has them.

@@ -8,16 +8,13 @@ use Rattle.wf_model.specs.Linear.{IsLinear}
 use Rattle.wf_model.specs.Run.{IsAccepted}
 use Rattle.wf_model.specs.Items.{items_by}
 use Rattle.wf_model.proofs.Lists.{in_map_from}
-use Rattle.bit_pack.specs.Bits.{Holds}
-use Rattle.bit_pack.proofs.Packing.{packed_law}
-use Rattle.label_model.specs.Labels.{label_bits}
 use Rattle.label_model.specs.RunLabels.{labels_by, labelled_by}
 use Rattle.label_model.specs.Files.{Entry, entry_of}
 use Rattle.label_model.specs.Bound.{expand_events}
 use Rattle.label_model.proofs.RunBounds.{bound_law}
 use Rattle.wf_spec.specs.Held.{HeldGrammar}
 use Rattle.wf_run.specs.Runs.{RunSeen, IsRunOf, GoesOn}
-use Rattle.wf_labeller.specs.Entries.{AreWithin}
+use Rattle.wf_labeller.specs.Entries.{HaveLabelsWithin}
 
 -- the second part of a pair of two lists
 pub in_zip : {A B : Type 0} (t : A × B) (xs : List A) (ys : List B) → IsIn t (zip xs ys) → IsIn t.1 ys
@@ -27,22 +24,26 @@ in_zip t (x ∷ xs) (y ∷ ys) (inl e) = inl (ap (λ z. z.1) e)
 in_zip t (x ∷ xs) (y ∷ ys) (inr h) = inr (in_zip t xs ys h)
 
 pub within_bound : (g : Grammar) → IsWellFormed g → IsLinear g → (most : ℕ) → most ≤ 2 ^ 24 → (events : List Event) (e : Event) → IsAccepted g most (events ++ e ∷ []) →
-    AreWithin g e (expand_events (events ++ e ∷ [])) (map entry_of (labelled_by g (events ++ e ∷ []) e))
+    HaveLabelsWithin g (events ++ e ∷ []) e (expand_events (events ++ e ∷ [])) (map entry_of (labelled_by g (events ++ e ∷ []) e))
 within_bound g wf lin most few events e acc x h =
     let all = events ++ e ∷ [] in
     let t = in_map_from entry_of x (labelled_by g all e) h in
-    let bits = label_bits t.0.1 in
     let few_made = acc.1 in
-    (bits, subst (λ (y : Entry). Holds y.label bits) (sym t.2) (packed_law bits).holds, bound_law g wf lin events e (acc.0, omega arith, acc.2) t.0.1 (in_zip t.0 (items_by g g.start e) (labels_by g all e) t.1))
+    record {
+      labelled = t.0;
+      made = t.1;
+      is = t.2;
+      few = bound_law g wf lin events e (acc.0, omega arith, acc.2) t.0.1 (in_zip t.0 (items_by g g.start e) (labels_by g all e) t.1);
+    }
 
 -- the same in the run after the event
 pub made_within : (old inside new : RunSeen) (h : HeldGrammar) → inside ≡ old → h ≡ inside.grammar → IsWellFormed h.core → IsLinear inside.grammar.core → inside.most ≤ 2 ^ 24 → GoesOn old new →
-    (events : List Event) (e : Event) → IsRunOf new (events ++ e ∷ []) → (entries : List Entry) → entries ≡ map entry_of (labelled_by old.grammar.core (events ++ e ∷ []) e) → AreWithin new.grammar.core e new.expands entries
+    (events : List Event) (e : Event) → IsRunOf new (events ++ e ∷ []) → (entries : List Entry) → entries ≡ map entry_of (labelled_by old.grammar.core (events ++ e ∷ []) e) → HaveLabelsWithin new.grammar.core (events ++ e ∷ []) e new.expands entries
 made_within old inside new h is read wf lin few goes events e run entries q =
     let same : inside.grammar ≡ new.grammar = ap (λ (r : RunSeen). r.grammar) is ∙ sym goes.grammar in
     let limit : new.most ≤ 2 ^ 24 = subst (λ n. n ≤ 2 ^ 24) (ap (λ (r : RunSeen). r.most) is ∙ sym goes.most) few in
     let formed : IsWellFormed new.grammar.core = subst (λ (g : HeldGrammar). IsWellFormed g.core) (read ∙ same) wf in
     let linear : IsLinear new.grammar.core = subst (λ (g : HeldGrammar). IsLinear g.core) same lin in
     let all = within_bound new.grammar.core formed linear new.most limit events e run.accepted in
-    subst (λ n. AreWithin new.grammar.core e n entries) (sym run.expands)
-    (subst (AreWithin new.grammar.core e (expand_events (events ++ e ∷ []))) (sym (q ∙ ap (λ (g : HeldGrammar). map entry_of (labelled_by g.core (events ++ e ∷ []) e)) (sym goes.grammar))) all)
+    subst (λ n. HaveLabelsWithin new.grammar.core (events ++ e ∷ []) e n entries) (sym run.expands)
+    (subst (HaveLabelsWithin new.grammar.core (events ++ e ∷ []) e (expand_events (events ++ e ∷ []))) (sym (q ∙ ap (λ (g : HeldGrammar). map entry_of (labelled_by g.core (events ++ e ∷ []) e)) (sym goes.grammar))) all)

@@ -13,7 +13,7 @@ use Rattle.label_model.specs.Labels.{ending_bits}
 use Rattle.label_model.specs.Files.{Entry}
 use Rattle.label_model.proofs.GrammarLimits.{edges_few}
 use Rattle.wf_labeller.specs.declared.entry.Entry.{Entry as EntryHeld}
-use Rattle.wf_labeller.specs.Entries.{entry_seen, output_name, numbered, edge_entry}
+use Rattle.wf_labeller.specs.Entries.{entry_seen, body_output_name, numbered_edges, edge_entry}
 use Rattle.wf_labeller.proofs.Outputs.{position_below}
 
 module _ (g : Grammar) (wf : IsWellFormed g) (p : ℕ) (h : p < length g.productions) (r : Production) (es : List EdgeHeld) (is : r ≡ production_at g p) (e : map edge_of es ≡ r.edges) where
@@ -35,21 +35,21 @@ module _ (g : Grammar) (wf : IsWellFormed g) (p : ℕ) (h : p < length g.product
 
 -- the entries from an edge on begin with that of the edge
 pub entries-cons : (entry : Edge × ℕ → Entry) (es : List EdgeHeld) (k : ℕ) (d : EdgeHeld) (a b : List Entry) → k < length es → b ≡ a ++ entry (edge_of (get_or es k d), k) ∷ [] →
-    b ++ map entry (numbered (k + 1) (map edge_of (drop (k + 1) es))) ≡ a ++ map entry (numbered k (map edge_of (drop k es)))
+    b ++ map entry (numbered_edges (k + 1) (map edge_of (drop (k + 1) es))) ≡ a ++ map entry (numbered_edges k (map edge_of (drop k es)))
 entries-cons entry es k d a b h e =
-    ap (λ n. b ++ map entry (numbered n (map edge_of (drop n es)))) (add-one k) ∙
-    (ap (λ l. l ++ map entry (numbered (suc k) (map edge_of (drop (suc k) es)))) e ∙
-    (append_assoc a (entry (edge_of (get_or es k d), k) ∷ []) (map entry (numbered (suc k) (map edge_of (drop (suc k) es)))) ∙
-    ap (λ l. a ++ map entry (numbered k (map edge_of l))) (sym (drop-cons es k d h))))
+    ap (λ n. b ++ map entry (numbered_edges n (map edge_of (drop n es)))) (add-one k) ∙
+    (ap (λ l. l ++ map entry (numbered_edges (suc k) (map edge_of (drop (suc k) es)))) e ∙
+    (append_assoc a (entry (edge_of (get_or es k d), k) ∷ []) (map entry (numbered_edges (suc k) (map edge_of (drop (suc k) es)))) ∙
+    ap (λ l. a ++ map entry (numbered_edges k (map edge_of l))) (sym (drop-cons es k d h))))
 
 -- the entry of an edge, from what is read and written for it
 pub entry_is : (g : Grammar) (p : ℕ) (names : List (List ℕ)) (bits : List Bool) (chain : Option ℕ) (e : Edge) (k : ℕ) (x : Entry) (instance read port : List ℕ) (label : List Bool) (alternative : ℕ) →
-    x ≡ record { name = dotted instance port; label = packed label } → instance ≡ read → read ≡ get_or names e.from.position read → e.from.position < length names → port ≡ output_name g p e.from →
+    x ≡ record { name = dotted instance port; label = packed label } → instance ≡ read → read ≡ get_or names e.from.position read → e.from.position < length names → port ≡ body_output_name g p e.from →
     label ≡ bits ++ ending_bits chain alternative k → alternative ≡ alternative_of g p → x ≡ edge_entry g p names bits chain (e, k)
 entry_is g p names bits chain e k x instance read port label alternative q i r h o l a =
     q ∙ (ap (λ (n : List ℕ). record { name = dotted n port; label = packed label }) (i ∙ get_or_read names e.from.position read h r []) ∙
     (ap (λ (n : List ℕ). record { name = dotted (get_or names e.from.position []) n; label = packed label }) o ∙
-    ap (λ (b : List Bool). record { name = dotted (get_or names e.from.position []) (output_name g p e.from); label = packed b }) (l ∙ ap (λ n. bits ++ ending_bits chain n k) a)))
+    ap (λ (b : List Bool). record { name = dotted (get_or names e.from.position []) (body_output_name g p e.from); label = packed b }) (l ∙ ap (λ n. bits ++ ending_bits chain n k) a)))
 
 -- one entry more at the end
 pub seen-push : (xs ys : List EntryHeld) (x : EntryHeld) (y : Entry) → ys ≡ xs ++ x ∷ [] → entry_seen x ≡ y → map entry_seen ys ≡ map entry_seen xs ++ y ∷ []

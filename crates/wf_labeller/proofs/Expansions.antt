@@ -26,8 +26,9 @@ use Rattle.label_model.specs.Files.{Entry, entry_of}
 use Rattle.label_model.specs.RunLabels.{address_in, labelled_by, IsPrefix}
 use Rattle.label_model.proofs.RunPrefixes.{prefix_in_run_law}
 use Rattle.wf_run.specs.Runs.{RunSeen, Node, node_at, name_at, IsExpandedAs, IsRunOf}
-use Rattle.wf_spec.proofs.Numbering.{not_found}
-use Rattle.wf_labeller.specs.Entries.{edge_entry, numbered}
+use Rattle.wf_spec.proofs.Finding.{not_found}
+use Rattle.wf_labeller.specs.Entries.{edge_entry, numbered_edges}
+use Rattle.wf_run.proofs.NamedInstances.{none_there}
 
 module _ (r : RunSeen) (events : List Event) (run : IsRunOf r events) (i : List ℕ) (p : ℕ) (names : List (List ℕ)) (taken : fault_of r.grammar.core r.most events (Expand i p names) ≡ None) where
   abbrev g : Grammar
@@ -54,9 +55,6 @@ module _ (r : RunSeen) (events : List Event) (run : IsRunOf r events) (i : List 
     its_name : i ≡ name_at r k
     its_name = same_bytes i (name_at r k) (position-Some (bytes_eq i) r.names k [] place).1
 
-    none : Instance
-    none = record { name = []; module_no = 0 }
-
     within : k < length all
     within = subst (λ n. k < n) (ap length run.names ∙ length-map all (λ (j : Instance). j.name)) (position-Some (bytes_eq i) r.names k [] place).0
 
@@ -64,16 +62,16 @@ module _ (r : RunSeen) (events : List Event) (run : IsRunOf r events) (i : List 
     in_nodes = subst (λ n. k < n) (sym (length-map all (λ (j : Instance). j.module_no)) ∙ (sym (ap length run.modules) ∙ length-map r.nodes (λ (n : Node). n.module_no))) within
 
     -- the instance of this number has the name, so it is the one that is expanded
-    its_instance : get_or all k none ≡ record { name = i; module_no = head_of g p }
-    its_instance = one_of_name all (run_differs g g.start events run.accepted.0) (get_or all k none) (record { name = i; module_no = head_of g p })
-        (at_in (get_or all k none) k all (is_at k all none within)) can.stands
-        (sym (get_or-map (λ (j : Instance). j.name) all k none [] within) ∙ (sym (ap (λ l. get_or l k []) run.names) ∙ sym its_name))
+    its_instance : get_or all k none_there ≡ record { name = i; module_no = head_of g p }
+    its_instance = one_of_name all (run_differs g g.start events run.accepted.0) (get_or all k none_there) (record { name = i; module_no = head_of g p })
+        (at_in (get_or all k none_there) k all (is_at k all none_there within)) can.stands
+        (sym (get_or-map (λ (j : Instance). j.name) all k none_there [] within) ∙ (sym (ap (λ l. get_or l k []) run.names) ∙ sym its_name))
 
     -- so its module is the head of the production
     its_module : (node_at r k).module_no ≡ head_of g p
     its_module =
         sym (get_or-map (λ (n : Node). n.module_no) r.nodes k _ 0 in_nodes) ∙ (ap (λ l. get_or l k 0) run.modules ∙
-        (get_or-map (λ (j : Instance). j.module_no) all k none 0 within ∙ ap (λ (j : Instance). j.module_no) its_instance))
+        (get_or-map (λ (j : Instance). j.module_no) all k none_there 0 within ∙ ap (λ (j : Instance). j.module_no) its_instance))
 
     -- which a test of the two does not deny
     pub is_of_head : (m q : ℕ) → m ≡ (node_at r k).module_no → q ≡ head_of g p → not (m == q) ≡ true → ⊥
@@ -102,19 +100,19 @@ module _ (r : RunSeen) (events : List Event) (run : IsRunOf r events) (i : List 
 
     -- the entries of edges, from number j on
     entries_are : IsWellFormed g → (j : ℕ) (es : List Edge) →
-        map (edge_entry g p names (node_at r k).bits (node_at r k).chain) (numbered j es) ≡
+        map (edge_entry g p names (node_at r k).bits (node_at r k).chain) (numbered_edges j es) ≡
         map entry_of (zip (map (edge_item g i p names) es) (map (λ e. OfEdge (place_of g g.start (address_in (events ++ Expand i p names ∷ []) i) p e)) (numbers_from j (length es))))
     entries_are wf j [] = refl
     entries_are wf j (e ∷ es) =
-        ap (λ b. record { name = (edge_item g i p names e).name; label = packed b } ∷ map (edge_entry g p names (node_at r k).bits (node_at r k).chain) (numbered (suc j) es)) (sym (its_label wf j)) ∙
+        ap (λ b. record { name = (edge_item g i p names e).name; label = packed b } ∷ map (edge_entry g p names (node_at r k).bits (node_at r k).chain) (numbered_edges (suc j) es)) (sym (its_label wf j)) ∙
         ap (λ (l : List Entry). entry_of (edge_item g i p names e, OfEdge (place_of g g.start (address_in (events ++ Expand i p names ∷ []) i) p j)) ∷ l) (entries_are wf (suc j) es)
 
     -- the entries that are made with the prefix that the run keeps of the instance are those of the items of the event
     pub made_entries : IsWellFormed g → (h : HeldGrammar) (q : ℕ) (bytes : List ℕ) (n : ℕ) (chain : Option ℕ) → h ≡ r.grammar → q ≡ p → bytes ≡ packed (node_at r k).bits → n ≡ length (node_at r k).bits → chain ≡ (node_at r k).chain →
-        (es : List Entry) → es ≡ map (edge_entry h.core q names (first_bits bytes n) chain) (numbered 0 (production_at h.core q).edges) →
+        (es : List Entry) → es ≡ map (edge_entry h.core q names (first_bits bytes n) chain) (numbered_edges 0 (production_at h.core q).edges) →
         es ≡ map entry_of (labelled_by g (events ++ Expand i p names ∷ []) (Expand i p names))
     made_entries wf h q bytes n chain a b c d f es e =
-        e ∙ (ap (λ (z : HeldGrammar). map (edge_entry z.core q names (first_bits bytes n) chain) (numbered 0 (production_at z.core q).edges)) a ∙
-        (ap (λ z. map (edge_entry g z names (first_bits bytes n) chain) (numbered 0 (production_at g z).edges)) b ∙
-        (ap (λ z. map (edge_entry g p names z chain) (numbered 0 (production_at g p).edges)) (ap (λ z. first_bits z n) c ∙ (ap (first_bits (packed (node_at r k).bits)) d ∙ first_packed (node_at r k).bits)) ∙
-        (ap (λ z. map (edge_entry g p names (node_at r k).bits z) (numbered 0 (production_at g p).edges)) f ∙ entries_are wf 0 (production_at g p).edges))))
+        e ∙ (ap (λ (z : HeldGrammar). map (edge_entry z.core q names (first_bits bytes n) chain) (numbered_edges 0 (production_at z.core q).edges)) a ∙
+        (ap (λ z. map (edge_entry g z names (first_bits bytes n) chain) (numbered_edges 0 (production_at g z).edges)) b ∙
+        (ap (λ z. map (edge_entry g p names z chain) (numbered_edges 0 (production_at g p).edges)) (ap (λ z. first_bits z n) c ∙ (ap (first_bits (packed (node_at r k).bits)) d ∙ first_packed (node_at r k).bits)) ∙
+        (ap (λ z. map (edge_entry g p names (node_at r k).bits z) (numbered_edges 0 (production_at g p).edges)) f ∙ entries_are wf 0 (production_at g p).edges))))

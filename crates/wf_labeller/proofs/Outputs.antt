@@ -7,7 +7,7 @@ use Rattle.wf_model.specs.Grammar.{Grammar, Module, Position, Inner, Production,
 use Rattle.wf_model.specs.WellFormed.{IsWellFormed, IsInnerOutput}
 use Rattle.wf_model.specs.Meaning.{position_of}
 use Rattle.wf_model.proofs.Lists.{at_below, at_is, at_in}
-use Rattle.wf_labeller.specs.Entries.{output_name}
+use Rattle.wf_labeller.specs.Entries.{body_output_name}
 
 -- the modules of a body, read from its positions
 pub body_read : (g : Grammar) (p : ℕ) (r : Production) (qs : List PositionHeld) → r ≡ production_at g p → map position_of qs ≡ r.positions → map (λ (q : PositionHeld). q.module.0) qs ≡ body_of g p
@@ -38,7 +38,7 @@ module _ (g : Grammar) (p : ℕ) (from : Inner) (o : IsInnerOutput g p from) whe
   port_below ms m r e h s is names w = subst (λ l. from.port < length l) (sym (w ∙ ap (λ (z : Module). z.outputs) (outputs_read ms m r e h s is))) o.2
 
   pub name_read : (ms : List Module) (m : ℕ) (r : Module) → m ≡ o.0 → o.0 < length g.modules → ms ≡ g.modules → r ≡ get_or ms m r → (names : List (List ℕ)) (x : List ℕ) → names ≡ r.outputs → x ≡ get_or names from.port x →
-      x ≡ output_name g p from
+      x ≡ body_output_name g p from
   name_read ms m r e h s is names x w q =
       get_or_read (module_at g o.0).outputs from.port x o.2 (q ∙ ap (λ l. get_or l from.port x) (w ∙ ap (λ (z : Module). z.outputs) (outputs_read ms m r e h s is))) [] ∙
       ap (λ k. get_or (module_at g k).outputs from.port []) (sym (at_is o.0 from.position (body_of g p) 0 o.1))

@@ -8,10 +8,11 @@ use Rattle.wf_model.specs.Lists.{numbers_from}
 use Rattle.wf_model.specs.Grammar.{Grammar, Module, module_at}
 use Rattle.wf_model.specs.WellFormed.{IsWellFormed}
 use Rattle.wf_model.specs.Items.{input_items, output_items}
+use Rattle.wf_model.proofs.NumberLists.{length-numbers}
 use Rattle.label_model.specs.Labels.{Input, Output}
 use Rattle.label_model.specs.Files.{entry_of}
 use Rattle.label_model.specs.RunLabels.{labelled_by}
-use Rattle.label_model.proofs.Lists.{length-numbers, zip-append}
+use Rattle.label_model.proofs.Lists.{zip-append}
 use Rattle.label_model.proofs.ItemLabels.{length-inputs}
 use Rattle.label_model.proofs.RunBounds.{start_module}
 use Rattle.wf_labeller.specs.Entries.{labelled_ports}

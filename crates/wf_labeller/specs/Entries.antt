@@ -1,14 +1,15 @@
 -- Entries as the definitions see them, and how long their labels are.
-use Rattle.std.specs.Prelude.{ℕ, ◌≤◌, Bool, List, [], ◌++◌, Option, length, get_or, map, zip}
+use Rattle.std.specs.Prelude.{◌≡◌, ℕ, ◌≤◌, Bool, List, [], ◌++◌, Option, length, get_or, map, zip}
 use Rattle.wf_model.specs.declared.numbers.Side.{Side}
 use Rattle.wf_model.specs.declared.numbers.Side.TheVariants.{Input as InputSide, Output as OutputSide}
 use Rattle.wf_model.specs.Lists.{IsIn, numbers_from}
 use Rattle.wf_model.specs.Grammar.{Grammar, Inner, Edge, module_at, body_of, alternative_of}
 use Rattle.wf_model.specs.declared.event.Event.{Event}
 use Rattle.wf_model.specs.Items.{Item, dotted, input_items, output_items}
-use Rattle.bit_pack.specs.Bits.{Holds, packed}
-use Rattle.label_model.specs.Files.{Entry}
-use Rattle.label_model.specs.Labels.{Label, Input, Output, ending_bits}
+use Rattle.bit_pack.specs.Bits.{packed}
+use Rattle.label_model.specs.Files.{Entry, entry_of}
+use Rattle.label_model.specs.Labels.{Label, Input, Output, label_bits, ending_bits}
+use Rattle.label_model.specs.RunLabels.{labelled_by}
 use Rattle.label_model.specs.Bound.{most_bits}
 use Rattle.wf_labeller.specs.declared.entry.Entry.{Entry as EntryHeld}
 
@@ -16,9 +17,16 @@ use Rattle.wf_labeller.specs.declared.entry.Entry.{Entry as EntryHeld}
 abbrev pub entry_seen : EntryHeld → Entry
 entry_seen e = record { name = e.name; label = e.label }
 
--- each label of these entries has at most as many bits, before those that fill its last byte, as the bound says of an event that is the n-th expand event or comes after n of them
-abbrev pub AreWithin : Grammar → Event → ℕ → List Entry → Type 0
-AreWithin g e n entries = (x : Entry) → IsIn x entries → (bits : List Bool) × Holds x.label bits × (length bits ≤ most_bits g e n)
+-- the entry is that of an item that the event makes, and the label of the item has at most as many bits as the bound says of an event that is the n-th expand event or comes after n of them
+pub record HasLabelWithin (g : Grammar) (events : List Event) (e : Event) (n : ℕ) (x : Entry) : Type 0 where
+  pub labelled : Item × Label
+  pub made : IsIn labelled (labelled_by g events e)
+  pub is : x ≡ entry_of labelled
+  pub few : length (label_bits labelled.1) ≤ most_bits g e n
+
+-- each of the entries is so
+abbrev pub HaveLabelsWithin : Grammar → List Event → Event → ℕ → List Entry → Type 0
+HaveLabelsWithin g events e n entries = (x : Entry) → IsIn x entries → HasLabelWithin g events e n x
 
 -- the label of a port of the root
 abbrev pub port_label : Side → ℕ → Label
@@ -31,13 +39,13 @@ labelled_ports InputSide r k ports = zip (input_items r k ports) (map Input (num
 labelled_ports OutputSide r k ports = zip (output_items r k ports) (map Output (numbers_from k (length ports)))
 
 -- the edges of a list, from the k-th on, each with its number
-abbrev pub numbered : ℕ → List Edge → List (Edge × ℕ)
-numbered k edges = zip edges (numbers_from k (length edges))
+abbrev pub numbered_edges : ℕ → List Edge → List (Edge × ℕ)
+numbered_edges k edges = zip edges (numbers_from k (length edges))
 
 -- the name of an output of a position of a body
-abbrev pub output_name : Grammar → ℕ → Inner → List ℕ
-output_name g p from = get_or (module_at g (get_or (body_of g p) from.position 0)).outputs from.port []
+abbrev pub body_output_name : Grammar → ℕ → Inner → List ℕ
+body_output_name g p from = get_or (module_at g (get_or (body_of g p) from.position 0)).outputs from.port []
 
 -- the entry of the item of an edge of a production: its label is the prefix of the instance that is expanded, and the ending
 abbrev pub edge_entry : Grammar → ℕ → List (List ℕ) → List Bool → Option ℕ → Edge × ℕ → Entry
-edge_entry g p names bits chain t = record { name = dotted (get_or names t.0.from.position []) (output_name g p t.0.from); label = packed (bits ++ ending_bits chain (alternative_of g p) t.1) }
+edge_entry g p names bits chain t = record { name = dotted (get_or names t.0.from.position []) (body_output_name g p t.0.from); label = packed (bits ++ ending_bits chain (alternative_of g p) t.1) }

@@ -5,12 +5,12 @@ ghost use Rattle.wf_model.specs.Meaning.{inner_of};
 ghost use Rattle.wf_model.specs.WellFormed.{IsInnerOutput};
 ghost use Rattle.bit_pack.specs.Written.{first_bits, IsFilled};
 ghost use Rattle.label_model.specs.Labels.{ending_bits};
-ghost use Rattle.wf_labeller.specs.Entries.{entry_seen, output_name, edge_entry, numbered};
+ghost use Rattle.wf_labeller.specs.Entries.{entry_seen, body_output_name, edge_entry, numbered_edges};
 
 use crate::entry::Entry;
-use bit_pack::{BitWriter, Bits};
+use bit_pack::Bits;
 use std::alloc::{AllocError, Global};
-use wf_label::write_ending;
+use wf_label::with_ending;
 use wf_run::PrefixRef;
 use wf_spec::{EdgeNo, Grammar, Inner, Name, ProdNo};
 
@@ -25,16 +25,21 @@ fn edge_bits(
     requires few { prefix.length < 2 ^ 17 }
     ensures { IfOk result (λ b. b ≡ first_bits prefix.entry.bytes.now prefix.entry.length ++ ending_bits prefix.entry.chain alternative edge.0) }
 {
-    let mut w = BitWriter::resume(alloc, prefix.bytes, prefix.length)?;
-    write_ending(&mut w, prefix.chain, alternative, edge)?;
-    Ok(w.finish())
+    with_ending(
+        alloc,
+        prefix.bytes,
+        prefix.length,
+        prefix.chain,
+        alternative,
+        edge,
+    )
 }
 
 /// The name of an output of a position of a body.
 fn output_at<'g>(g: &'g Grammar, production: ProdNo, from: Inner) -> &'g [u8]
     requires production { production.0 < length g.now.core.productions }
     requires from { IsInnerOutput g.now.core production.0 (inner_of from) }
-    ensures { result.now ≡ output_name g.now.core production.0 (inner_of from) }
+    ensures { result.now ≡ body_output_name g.now.core production.0 (inner_of from) }
 {
     let position = &g.production(production).positions()[from.pos.0 as usize];
     let outputs = g.modules()[position.module.0 as usize].outputs();
@@ -55,7 +60,7 @@ pub(crate) fn edge_entries(
     requires one_each { length names.now ≡ length (body_of g.now.core production.0) }
     requires filled { IsFilled prefix.bytes.now prefix.length }
     requires few { prefix.length < 2 ^ 17 }
-    ensures { IfOk result (λ es. map entry_seen es.items ≡ map (edge_entry g.now.core production.0 names.now (first_bits prefix.entry.bytes.now prefix.entry.length) prefix.entry.chain) (numbered 0 (production_at g.now.core production.0).edges)) }
+    ensures { IfOk result (λ es. map entry_seen es.items ≡ map (edge_entry g.now.core production.0 names.now (first_bits prefix.entry.bytes.now prefix.entry.length) prefix.entry.chain) (numbered_edges 0 (production_at g.now.core production.0).edges)) }
 {
     let rule = g.production(production);
     let alternative = rule.alternative();

@@ -8,7 +8,7 @@ ghost use Rattle.wf_model.specs.Grammar.{body_of};
 ghost use Rattle.label_model.specs.Files.{entry_of};
 ghost use Rattle.label_model.specs.RunLabels.{labelled_by};
 ghost use Rattle.wf_run.specs.Runs.{IsRunOf, GoesOn};
-ghost use Rattle.wf_labeller.specs.Entries.{entry_seen, AreWithin};
+ghost use Rattle.wf_labeller.specs.Entries.{entry_seen, HaveLabelsWithin};
 
 use crate::edges::edge_entries;
 use crate::entry::{Entry, Records};
@@ -56,7 +56,7 @@ impl<'a> Labeller<'a> {
     pub fn take(&mut self, event: &Event, into: &mut Records) -> Result<(), RunFault>
         ensures taken { OnOk result ((events : List Event) → IsRunOf self.old events → IsRunOf self.new (events ++ event.now ∷ [])) }
         ensures entries { OnOk result ((events : List Event) → IsRunOf self.old events → into.new ≡ map entry_of (labelled_by self.old.grammar.core (events ++ event.now ∷ []) event.now)) }
-        ensures bound { OnOk result ((events : List Event) → IsRunOf self.old events → AreWithin self.new.grammar.core event.now self.new.expands into.new) }
+        ensures bound { OnOk result ((events : List Event) → IsRunOf self.old events → HaveLabelsWithin self.new.grammar.core (events ++ event.now ∷ []) event.now self.new.expands into.new) }
         ensures extends { OnOk result ((events : List Event) → IsRunOf self.old events → fault_of self.old.grammar.core self.old.most events event.now ≡ None) }
         ensures goes_on { OnOk result (GoesOn self.old self.new) }
         ensures refused { IfErr result (λ f. (f ≡ NoMemory) ⊎ ((events : List Event) → IsRunOf self.old events → fault_of self.old.grammar.core self.old.most events event.now ≡ Some f)) }

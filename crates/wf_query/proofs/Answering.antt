@@ -5,7 +5,7 @@ use Rattle.wf_io.specs.Told.{Appended}
 use Rattle.wf_io.specs.Lines.{Line, is_too_long, text_of}
 use Rattle.wf_io.proofs.Appending.{appended_none, begun_none, appended_twice, begun_longer, begun_after}
 use Rattle.wf_query.specs.Line.{IsQuery}
-use Rattle.wf_query.specs.Lines.{Ended, All, WrongAt, TooLongAt, IsOneWord, IsAsked, IsAnswered, AreAnswered, ArePut, EndsAt, ended_at}
+use Rattle.wf_query.specs.Lines.{Ended, All, WrongAt, TooLongAt, IsOneWord, IsAsked, IsAnsweredLine, AreAnswered, ArePut, EndsAt, ended_at}
 use Rattle.wf_query.specs.declared.batching.BatchFault.{BatchFault}
 use Rattle.wf_query.specs.declared.batching.BatchFault.TheVariants.{LineWrong, LineTooLong, WriteFault, NoMemory}
 use Rattle.wf_query.proofs.Queries.{query_law}
@@ -40,7 +40,7 @@ module _ (Answers : List ℕ → List ℕ → List ℕ → Type 0) (one : IsOneW
     begun = λ x t r. begun_none t old new s;
   }
 
-  module _ (l : Line) (ls : List Line) (written : List ℕ) (answered : IsAnswered Answers l written) where
+  module _ (l : Line) (ls : List Line) (written : List ℕ) (answered : IsAnsweredLine Answers l written) where
     -- each text of all lines begins with what is written of the first
     split : (x : Ended) (t : List ℕ) → AreAnswered Answers (l ∷ ls) x t → (rest : List ℕ) × (t ≡ written ++ rest) × AreAnswered Answers ls x rest
     split x t (inl (inl long, e)) = absurd (true≢false (sym long.0 ∙ answered.0))
@@ -98,3 +98,15 @@ module _ (Answers : List ℕ → List ℕ → List ℕ → Type 0) (one : IsOneW
 -- a query and what is written of it
 pub asked_of : (Answers : List ℕ → List ℕ → List ℕ → Type 0) (text first second word written : List ℕ) → IsQuery text first second → Answers first second word → written ≡ word ++ codes "\n" → IsAsked Answers text written
 asked_of Answers text first second word written q a l = record { first = first; second = second; query = q; answer = word; is = a; line = l }
+
+module _ (Answers More : List ℕ → List ℕ → List ℕ → Type 0) (more : (first second word : List ℕ) → Answers first second word → More first second word) where
+  -- what is asked by one relation is asked by another that comes of it
+  pub asked_too : (text written : List ℕ) → IsAsked Answers text written → IsAsked More text written
+  asked_too text written p = record { first = p.first; second = p.second; query = p.query; answer = p.answer; is = more p.first p.second p.answer p.is; line = p.line }
+
+  -- and the line of a number ends the lines for the same reason
+  pub ends_too : (number : ℕ) (text : List ℕ) (f : BatchFault) (old new : Option (List ℕ)) → EndsAt Answers number text f old new → EndsAt More number text f old new
+  ends_too number text (LineWrong n) old new h = h
+  ends_too number text (LineTooLong n) old new h = h
+  ends_too number text WriteFault old new h = (h.0, asked_too text h.0 h.1, h.2)
+  ends_too number text NoMemory old new h = h

@@ -12,16 +12,10 @@ use Rattle.verdict_model.specs.declared.verdict.Verdict.{Verdict}
 use Rattle.verdict_model.specs.Verdicts.{IsVerdict}
 use Rattle.verdict_model.proofs.OneVerdict.{one_verdict}
 use Rattle.label_file.specs.Stored.{EntryHeld, IsHeldOf, AreHeldOf, names_held}
+use Rattle.label_file.proofs.ReadSoFar.{names_same}
 use Rattle.wf_query.specs.declared.answers.Answer.{Answer}
-use Rattle.wf_query.specs.Answers.{HasEntry, HasNoEntry, AreDecided, LacksEntry, IsAnswer, answer_of, answer_text, IsAnswerText}
+use Rattle.wf_query.specs.Answers.{HasEntry, HasNoEntry, AreDecided, LacksEntry, IsAnswerOfLabels, answer_of, answer_text, IsAnswerText}
 use Rattle.wf_query.specs.Lines.{IsOneWord}
-
--- the names that are held are those of the entries
-pub names_same : (g : Grammar) (es : List Entry) (hs : List EntryHeld) → AreHeldOf g es hs → names_held hs ≡ names_of_entries es
-names_same g [] [] h = refl
-names_same g [] (x ∷ hs) h = absurd h
-names_same g (e ∷ es) [] h = absurd h
-names_same g (e ∷ es) (x ∷ hs) h = ap (λ n. n ∷ names_held hs) h.0.name ∙ ap (λ l. e.name ∷ l) (names_same g es hs h.1)
 
 -- what is held is held of an entry
 pub held_from : (g : Grammar) (es : List Entry) (hs : List EntryHeld) → AreHeldOf g es hs → (h : EntryHeld) → IsIn h hs → (e : Entry) × IsIn e es × IsHeldOf g e h
@@ -77,7 +71,7 @@ module _ (g : Grammar) (u : View) (es : List Entry) (differ : AllDiffer (names_o
       q.verdict
 
   -- a query has one answer
-  pub one_answer : (first second : List ℕ) (a b : Answer) → IsAnswer g u es first second a → IsAnswer g u es first second b → a ≡ b
+  pub one_answer : (first second : List ℕ) (a b : Answer) → IsAnswerOfLabels g u es first second a → IsAnswerOfLabels g u es first second b → a ≡ b
   one_answer first second a b (inl p) (inl q) = p.1 ∙ sym q.1
   one_answer first second a b (inl p) (inr q) = absurd (lacks_none first second q.0 p.0 q.1)
   one_answer first second a b (inr p) (inl q) = absurd (lacks_none first second p.0 q.0 p.1)

@@ -1,11 +1,11 @@
 -- Lines of queries are answered in one way.
 use Rattle.std.proofs.Common.{◌≡◌, ℕ, List, [], ◌∷◌, ◌++◌, sym, ap, ◌∙◌, inl, inr, true≢false}
 use Rattle.wf_io.specs.Lines.{Line, text_of}
-use Rattle.wf_query.specs.Lines.{Ended, IsOneWord, IsAnswered, IsRefused, AreAnswered}
+use Rattle.wf_query.specs.Lines.{Ended, IsOneWord, IsAnsweredLine, IsRefusedLine, AreAnswered}
 use Rattle.wf_query.proofs.Answering.{one_written}
 
 -- a line is refused in one way
-one_refused : (l : Line) (d e : Ended) → IsRefused l d → IsRefused l e → d ≡ e
+one_refused : (l : Line) (d e : Ended) → IsRefusedLine l d → IsRefusedLine l e → d ≡ e
 one_refused l d e (inl p) (inl q) = p.1 ∙ sym q.1
 one_refused l d e (inl p) (inr q) = absurd (true≢false (sym p.0 ∙ q.0))
 one_refused l d e (inr p) (inl q) = absurd (true≢false (sym q.0 ∙ p.0))
@@ -13,7 +13,7 @@ one_refused l d e (inr p) (inr q) = p.2 ∙ sym q.2
 
 module _ (Answers : List ℕ → List ℕ → List ℕ → Type 0) (one : IsOneWord Answers) where
   -- a line that is answered is not refused
-  not_both : (l : Line) (d : Ended) (written : List ℕ) → IsRefused l d → IsAnswered Answers l written → ⊥
+  not_both : (l : Line) (d : Ended) (written : List ℕ) → IsRefusedLine l d → IsAnsweredLine Answers l written → ⊥
   not_both l d written (inl p) q = true≢false (sym p.0 ∙ q.0)
   not_both l d written (inr p) q = p.1 q.1.first q.1.second q.1.query
 

@@ -41,8 +41,8 @@ abbrev pub LacksEntry : List Entry → List ℕ → List ℕ → Type 0
 LacksEntry entries first second = HasNoEntry entries first ⊎ HasNoEntry entries second
 
 -- The answer to a query of two names: unknown where either has no entry, and else that of the verdict on the labels of the two entries
-abbrev pub IsAnswer : Grammar → View → List Entry → List ℕ → List ℕ → Answer → Type 0
-IsAnswer g u entries first second a =
+abbrev pub IsAnswerOfLabels : Grammar → View → List Entry → List ℕ → List ℕ → Answer → Type 0
+IsAnswerOfLabels g u entries first second a =
     (LacksEntry entries first second × (a ≡ Unknown)) ⊎
     ((v : Verdict) × AreDecided g u entries first second v × (a ≡ answer_of v))
 
@@ -56,4 +56,4 @@ answer_text No = codes "no"
 
 -- the word of the answer to a query
 abbrev pub IsAnswerText : Grammar → View → List Entry → List ℕ → List ℕ → List ℕ → Type 0
-IsAnswerText g u entries first second text = (a : Answer) × IsAnswer g u entries first second a × (text ≡ answer_text a)
+IsAnswerText g u entries first second text = (a : Answer) × IsAnswerOfLabels g u entries first second a × (text ≡ answer_text a)

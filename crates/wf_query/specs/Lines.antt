@@ -1,6 +1,6 @@
 -- Lines of queries, answered one by one.
-use Rattle.std.specs.Prelude.{◌≡◌, ◌⊎◌, ℕ, true, false, List, [], ◌∷◌, ◌++◌, take, Option, Some, None, Result, Ok, Err, codes}
-use Rattle.wf_io.specs.Told.{Appended}
+use Rattle.std.specs.Prelude.{◌≡◌, ◌⊎◌, ◌≤◌, ℕ, Bool, true, false, List, [], ◌∷◌, ◌++◌, take, Option, Some, None, Result, Ok, Err, codes}
+use Rattle.wf_io.specs.Told.{Rose, Appended}
 use Rattle.wf_io.specs.Lines.{Line, is_too_long, text_of}
 use Rattle.wf_query.specs.Line.{IsQuery, IsNoQuery}
 use Rattle.wf_query.specs.declared.batching.BatchFault.{BatchFault}
@@ -26,12 +26,12 @@ pub record IsAsked (Answers : List ℕ → List ℕ → List ℕ → Type 0) (te
   pub line : written ≡ answer ++ codes "\n"
 
 -- a line is not too long and asks, and this is written of it
-abbrev pub IsAnswered : (List ℕ → List ℕ → List ℕ → Type 0) → Line → List ℕ → Type 0
-IsAnswered Answers l written = (is_too_long l.raw ≡ false) × IsAsked Answers (text_of l.raw) written
+abbrev pub IsAnsweredLine : (List ℕ → List ℕ → List ℕ → Type 0) → Line → List ℕ → Type 0
+IsAnsweredLine Answers l written = (is_too_long l.raw ≡ false) × IsAsked Answers (text_of l.raw) written
 
 -- why a line is not answered: it is too long; or it is not, and asks nothing
-abbrev pub IsRefused : Line → Ended → Type 0
-IsRefused l ending =
+abbrev pub IsRefusedLine : Line → Ended → Type 0
+IsRefusedLine l ending =
     ((is_too_long l.raw ≡ true) × (ending ≡ TooLongAt l.number)) ⊎
     ((is_too_long l.raw ≡ false) × IsNoQuery (text_of l.raw) × (ending ≡ WrongAt l.number))
 
@@ -39,8 +39,8 @@ IsRefused l ending =
 abbrev pub AreAnswered : (List ℕ → List ℕ → List ℕ → Type 0) → List Line → Ended → List ℕ → Type 0
 AreAnswered Answers [] ending text = (ending ≡ All) × (text ≡ [])
 AreAnswered Answers (l ∷ ls) ending text =
-    (IsRefused l ending × (text ≡ [])) ⊎
-    ((written : List ℕ) × (rest : List ℕ) × IsAnswered Answers l written × (text ≡ written ++ rest) × AreAnswered Answers ls ending rest)
+    (IsRefusedLine l ending × (text ≡ [])) ⊎
+    ((written : List ℕ) × (rest : List ℕ) × IsAnsweredLine Answers l written × (text ≡ written ++ rest) × AreAnswered Answers ls ending rest)
 
 -- how the lines ended, where a fault ended them; a fault of writing and want of memory tell nothing of them
 abbrev pub ended_at : BatchFault → Option Ended
@@ -65,3 +65,10 @@ EndsAt Answers number text (LineWrong line) old new = (line ≡ number) × IsNoQ
 EndsAt Answers number text (LineTooLong line) old new = ⊥
 EndsAt Answers number text WriteFault old new = (written : List ℕ) × IsAsked Answers text written × ((k : ℕ) × Appended (take k written) old new)
 EndsAt Answers number text NoMemory old new = new ≡ old
+
+-- what must be so at a fault of lines, by the counts of faults of out before and after: a fault of writing comes only where the count rose, and at every other fault the count is as it was
+abbrev pub IsCauseOf : ℕ → ℕ → Bool → BatchFault → Type 0
+IsCauseOf before after last (LineWrong line) = after ≡ before
+IsCauseOf before after last (LineTooLong line) = after ≡ before
+IsCauseOf before after last WriteFault = Rose before after last × (before ≤ after)
+IsCauseOf before after last NoMemory = after ≡ before

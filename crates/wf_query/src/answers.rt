@@ -1,6 +1,6 @@
 // Answers to queries.
-ghost use Rattle.std.specs.Prelude.{◌≡◌};
-ghost use Rattle.wf_query.specs.Answers.{answer_of};
+ghost use Rattle.std.specs.Prelude.{◌≡◌, ◌++◌, codes};
+ghost use Rattle.wf_query.specs.Answers.{answer_of, answer_text};
 
 use wf_decode::Verdict;
 
@@ -17,6 +17,19 @@ pub enum Answer {
     Yes,
     /// It does not.
     No,
+}
+
+/// The line of an answer: its word, and a newline.
+pub fn line_of(answer: Answer) -> &'static [u8]
+    ensures { result.now ≡ answer_text answer ++ codes "\n" }
+{
+    match answer {
+        Answer::Unknown => b"unknown\n",
+        Answer::Hidden => b"hidden\n",
+        Answer::Clash => b"clash\n",
+        Answer::Yes => b"yes\n",
+        Answer::No => b"no\n",
+    }
 }
 
 /// The answer that a verdict is.

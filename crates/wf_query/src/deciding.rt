@@ -7,7 +7,7 @@ ghost use Rattle.decode_model.specs.Counts.{most_products};
 ghost use Rattle.label_file.specs.Stored.{AreHeldOf, IsStoreFor};
 ghost use Rattle.wf_vlabel.specs.Seen.{IsLabelOfView};
 ghost use Rattle.wf_decode.specs.Reading.{most_legs};
-ghost use Rattle.wf_query.specs.Answers.{IsAnswer};
+ghost use Rattle.wf_query.specs.Answers.{IsAnswerOfLabels};
 
 use crate::answers::{Answer, told};
 use crate::query::Query;
@@ -29,7 +29,7 @@ pub fn answer<L: Ledger>(
 ) -> Answer
     requires store { IsStoreFor vl.now.grammar store.now }
     requires room { most_legs vl.now.grammar ≤ scratch.old }
-    ensures answer { (u : View) (entries : List Entry) → IsLabelOfView vl.now u → AreHeldOf vl.now.grammar entries store.now → IsAnswer vl.now.grammar u entries query.now.first.now query.now.second.now result }
+    ensures answer { (u : View) (entries : List Entry) → IsLabelOfView vl.now u → AreHeldOf vl.now.grammar entries store.now → IsAnswerOfLabels vl.now.grammar u entries query.now.first.now query.now.second.now result }
     ensures room { scratch.new ≡ scratch.old }
     ensures cost { (l : ℕ) → ((k : ℕ) → length (round_at vl.now.cycles k) ≤ l) → steps.new ≤ steps.old + most_products vl.now.grammar l }
 {

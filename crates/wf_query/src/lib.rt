@@ -1,14 +1,18 @@
-//! Query lines, and their answers from the entries of a label file.
+//! Query lines, answered one by one by whatever answers two names, and their answers from the entries of a label file.
 #![tactic(auto)]
 
+mod answerer;
 mod answers;
 mod batching;
 mod deciding;
+mod labels;
 mod law;
 mod query;
 
-pub use answers::Answer;
-pub use batching::{BatchFault, batch};
+pub use answerer::Answerer;
+pub use answers::{Answer, line_of};
+pub use batching::{BatchFault, answer_lines};
 pub use deciding::answer;
+pub use labels::batch;
 pub use law::query_law;
 pub use query::{LineWrong, Query, read_query};

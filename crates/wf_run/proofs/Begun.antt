@@ -12,7 +12,7 @@ use Rattle.wf_spec.specs.Held.{HeldGrammar}
 use Rattle.wf_recur.specs.Cycles.{CyclesSeen}
 use Rattle.wf_run.specs.declared.node.Node.{Node as NodeHeld}
 use Rattle.wf_run.specs.Runs.{Node, RunSeen, IsRunOf, GoesOn}
-use Rattle.wf_run.specs.Nodes.{node_of, run_of, IsFilledPrefix, IsKept}
+use Rattle.wf_run.specs.Nodes.{node_of, run_of, IsFilledPrefix, IsRunKept}
 use Rattle.wf_run.specs.Opening.{closed_node, root_prefix, started_run}
 use Rattle.wf_run.proofs.Started.{started_is_run, started_goes_on}
 use Rattle.wf_run.proofs.NamedInstances.{same_count}
@@ -50,8 +50,8 @@ module _ (g : HeldGrammar) (most : ℕ) (names new : List (List ℕ)) (nodes : L
       ∙ (ap (λ (n : Node). record { grammar = g; most = most; names = name ∷ []; nodes = n ∷ []; expands = expands }) root
       ∙ ap (λ z. started_run z name) v))
 
-  pub begun_kept : (c : CyclesSeen) → IsWellFormed g.core → IsFilledPrefix x → IsKept (run_of g most names nodes expands) c nodes → (r : RunSeen) → run_of g most names nodes expands ≡ r →
-      ((events : List Event) → IsRunOf r events → fault_of r.grammar.core r.most events (Start name) ≡ None) → IsKept (run_of g most new xs expands) c xs
+  pub begun_kept : (c : CyclesSeen) → IsWellFormed g.core → IsFilledPrefix x → IsRunKept (run_of g most names nodes expands) c nodes → (r : RunSeen) → run_of g most names nodes expands ≡ r →
+      ((events : List Event) → IsRunOf r events → fault_of r.grammar.core r.most events (Start name) ≡ None) → IsRunKept (run_of g most new xs expands) c xs
   begun_kept c formed filled k r v taken = record {
     linear = k.linear;
     cycles = k.cycles;

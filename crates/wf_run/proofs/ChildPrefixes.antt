@@ -1,20 +1,19 @@
 -- The prefix of a child, by what is told of its module and of the step that leads to it.
-use Rattle.std.proofs.Common.{◌≡◌, ℕ, ◌<◌, ◌+◌, ◌++◌, ◌∙◌, Bool, true, false, cond, List, [], length, get_or, Option, None, sym, ap}
+use Rattle.std.proofs.Common.{◌≡◌, ℕ, ◌<◌, ◌+◌, ◌++◌, ◌∙◌, Bool, true, false, cond, List, length, get_or, Option, None, sym, ap}
 use Rattle.std.specs.Prelude.{option_map}
 use Rattle.wf_model.specs.Grammar.{Grammar, head_of, alternative_of}
 use Rattle.wf_model.specs.WellFormed.{IsWellFormed}
 use Rattle.wf_model.specs.Reach.{Step, target_of}
 use Rattle.wf_model.specs.Linear.{IsLinear}
-use Rattle.label_model.specs.Continuing.{continues, is_composite, is_step}
+use Rattle.label_model.specs.Continuing.{continues, is_step}
 use Rattle.label_model.specs.Labels.{step_bits}
 use Rattle.label_model.specs.Places.{chain_at, chain_by}
 use Rattle.wf_recur.specs.Cycles.{CyclesSeen, OnSeen, AreCyclesOf}
 use Rattle.wf_recur.proofs.Places.{step_told}
 use Rattle.wf_run.specs.Runs.{Prefix}
 use Rattle.wf_run.specs.Opening.{prefix_by, child_prefix}
-
-abbrev bare : Prefix
-bare = record { bits = []; chain = None }
+use Rattle.wf_run.proofs.Roots.{bare}
+use Rattle.wf_model.specs.Composite.{is_composite}
 
 abbrev goes_on : Prefix → Prefix
 goes_on parent = record { bits = parent.bits; chain = option_map (λ c. c + 1) parent.chain }

@@ -6,6 +6,7 @@ use Rattle.std.proofs.lemmas.List.{get_or-map, get_or_append_left, set-append_le
 use Rattle.wf_model.specs.Lists.{IsIn, numbers_from}
 use Rattle.wf_model.specs.Grammar.{Grammar}
 use Rattle.wf_model.proofs.Lists.{in_append_cases}
+use Rattle.wf_model.proofs.Positions.{in_there}
 use Rattle.bit_pack.specs.Written.{IsWhole}
 use Rattle.wf_run.specs.declared.node.Node.{Node as NodeHeld}
 use Rattle.wf_run.specs.declared.node.NodeNo.{NodeNo}
@@ -14,7 +15,6 @@ use Rattle.wf_run.specs.Runs.{Node}
 use Rattle.wf_run.specs.Nodes.{node_of, IsFilledPrefix}
 use Rattle.wf_run.specs.Opening.{child_node, with_children, opened_nodes}
 use Rattle.wf_run.specs.Growing.{prefix_of, held_at, CanGoOn, AddsChildren}
-use Rattle.wf_run.proofs.Whole.{read_in}
 
 -- the prefix that a node holds
 abbrev prefix_in : NodeHeld → PrefixRef
@@ -37,7 +37,7 @@ held_read xs k n there is = get_or-map node_of xs k n _ there ∙ ap node_of (sy
 -- what an instance keeps can go on by a step
 pub can_go_on : (xs : List NodeHeld) (k : ℕ) (n : NodeHeld) → ((m : NodeHeld) → IsIn m xs → IsFilledPrefix m) → IfSome (held_at xs k).chain (λ c. c < 2 ^ 24) → k < length xs → n ≡ get_or xs k n → CanGoOn (prefix_in n)
 can_go_on xs k n filled chain there is =
-    let f = filled n (read_in xs k n there is) in
+    let f = filled n (in_there xs k n there is) in
     record { whole = f.whole; few = f.few; chain = subst (λ (m : Node). IfSome m.chain (λ c. c < 2 ^ 24)) (held_read xs k n there is) chain }
 
 module _ (g : Grammar) (p : ℕ) (old mid : List NodeHeld) (k count : ℕ) (n x : NodeHeld) (list : Bor (List NodeNo)) (there : k < length old) (was : n ≡ get_or old k n) (is : x ≡ get_or mid k x)
@@ -65,5 +65,5 @@ module _ (g : Grammar) (p : ℕ) (old mid : List NodeHeld) (k count : ℕ) (n x 
 
   pub whole_opened : ((m : NodeHeld) → IsIn m old → IsFilledPrefix m) → (m : NodeHeld) → IsIn m (set mid k (listed x list)) → IsWhole m.bytes.now m.length
   whole_opened filled m i =
-      ⊎_elim (λ (e : m ≡ listed x list). subst (λ (z : NodeHeld). IsWhole z.bytes.now z.length) (sym e) (filled x (read_in old k x there same)).whole)
+      ⊎_elim (λ (e : m ≡ listed x list). subst (λ (z : NodeHeld). IsWhole z.bytes.now z.length) (sym e) (filled x (in_there old k x there same)).whole)
       (λ h. ⊎_elim (λ a. (filled m a).whole) (λ b. added.whole m b) (in_append_cases m old added.more (subst (IsIn m) added.is h))) (in_set mid k m (listed x list) i)

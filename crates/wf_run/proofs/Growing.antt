@@ -4,8 +4,8 @@ use Rattle.std.proofs.lemmas.List.{map-append, take_at}
 use Rattle.wf_model.specs.Lists.{numbers_from}
 use Rattle.wf_model.specs.Grammar.{Grammar}
 use Rattle.wf_model.proofs.Lists.{in_append_cases}
+use Rattle.wf_model.proofs.NumberLists.{numbers_from-last}
 use Rattle.bit_pack.specs.Written.{IsWhole}
-use Rattle.wf_spec.proofs.Tables.{numbers_from-last}
 use Rattle.wf_run.specs.declared.node.Node.{Node as NodeHeld}
 use Rattle.wf_run.specs.Runs.{Prefix}
 use Rattle.wf_run.specs.Nodes.{node_of}

@@ -9,7 +9,7 @@ use Rattle.wf_spec.specs.Held.{HeldGrammar}
 use Rattle.wf_recur.specs.Cycles.{CyclesSeen}
 use Rattle.wf_run.specs.declared.node.Node.{Node as NodeHeld}
 use Rattle.wf_run.specs.Runs.{Node, RunSeen, node_at, name_at, IsRunOf}
-use Rattle.wf_run.specs.Nodes.{node_of, run_of, IsKept}
+use Rattle.wf_run.specs.Nodes.{node_of, run_of, IsRunKept}
 use Rattle.wf_run.specs.Opening.{opened_nodes, opened_run}
 use Rattle.wf_run.specs.Growing.{held_at, CanOpen}
 use Rattle.wf_run.proofs.Whole.{whole_length}
@@ -30,8 +30,8 @@ module _ (g : HeldGrammar) (most : ℕ) (names : List (List ℕ)) (nodes after :
       ap (λ l. record { grammar = g; most = most; names = names ++ new; nodes = l; expands = expands + 1 }) map_is ∙
       ap (λ n. record { grammar = g; most = most; names = names ++ new; nodes = opened_nodes g.core (map node_of nodes) k p (held_at nodes k) (length new); expands = n }) e
 
-  pub kept_after : (c : CyclesSeen) → IsWellFormed g.core → IsKept (run_of g most names nodes expands) c nodes → CanOpen (run_of g most names nodes expands) k p new →
-      ((n : NodeHeld) → IsIn n after → IsWhole n.bytes.now n.length) → IsKept (run_of g most (names ++ new) after (expands + 1)) c after
+  pub kept_after : (c : CyclesSeen) → IsWellFormed g.core → IsRunKept (run_of g most names nodes expands) c nodes → CanOpen (run_of g most names nodes expands) k p new →
+      ((n : NodeHeld) → IsIn n after → IsWhole n.bytes.now n.length) → IsRunKept (run_of g most (names ++ new) after (expands + 1)) c after
   kept_after c wf kept opens whole =
       let r = run_of g most names nodes expands in
       let next = opened r kept.events k p new wf kept.run opens in

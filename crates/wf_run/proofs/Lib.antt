@@ -1,6 +1,5 @@
 pub mod Whole
 pub mod Packed
-pub mod Alternatives
 pub mod ChildPrefixes
 pub mod Growing
 pub mod Expanded

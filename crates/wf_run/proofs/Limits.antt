@@ -6,12 +6,12 @@ use Rattle.wf_model.specs.Linear.{IsLinear}
 use Rattle.wf_model.specs.declared.event.Event.{Event}
 use Rattle.wf_model.specs.Run.{IsAccepted}
 use Rattle.wf_model.proofs.Lists.{at_in}
-use Rattle.label_model.specs.Continuing.{is_composite}
 use Rattle.label_model.proofs.AcceptedLabels.{made_long, run_long}
-use Rattle.label_model.proofs.Composites.{composite_gives, composite_is}
+use Rattle.wf_model.proofs.Composites.{composite_gives, composite_is}
 use Rattle.label_model.proofs.PrefixRoom.{chain_within, prefix_below}
 use Rattle.wf_run.specs.Runs.{RunSeen, node_at, name_at, IsRunOf}
 use Rattle.wf_run.proofs.NamedInstances.{instance_of, instances_of, same_count, instance_at}
+use Rattle.wf_model.specs.Composite.{is_composite}
 
 module _ (r : RunSeen) (events : List Event) (wf : IsWellFormed r.grammar.core) (run : IsRunOf r events) where
   pub nodes_within : length r.nodes ≤ r.most

@@ -32,7 +32,7 @@ no_place {A} p xs e = go (some p xs) refl
 abbrev pub instance_of : List ℕ → ℕ → Instance
 instance_of n m = record { name = n; module_no = m }
 
-abbrev none_there : Instance
+abbrev pub none_there : Instance
 none_there = record { name = []; module_no = 0 }
 
 -- the instances that the events make

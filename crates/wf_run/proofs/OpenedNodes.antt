@@ -3,10 +3,9 @@ use Rattle.std.proofs.Common.{◌≡◌, ℕ, ◌+◌, ◌<◌, List, [], map, s
 use Rattle.std.proofs.lemmas.Bool.{cases_eq}
 use Rattle.std.proofs.lemmas.List.{length-map, length-set, get_or_append_left, get_or-append-add, get_or-set_same, get_or-set_other}
 use Rattle.wf_model.specs.Lists.{numbers_from}
-use Rattle.wf_spec.proofs.Tables.{length-numbers}
+use Rattle.wf_model.proofs.NumberLists.{length-numbers, get_numbered}
 use Rattle.wf_run.specs.Runs.{Node, RunSeen, node_at, prefix_at, GoesOn}
 use Rattle.wf_run.specs.Opening.{child_node, with_children, opened_run}
-use Rattle.wf_run.proofs.Numbering.{get_or-numbered}
 
 abbrev pub no_node : Node
 no_node = record { module_no = 0; children = None; bits = []; chain = None }
@@ -40,7 +39,7 @@ module _ (r : RunSeen) (k p : ℕ) (names : List (List ℕ)) where
   pub node_new : (i : ℕ) → i < length names → node_at after (length r.nodes + i) ≡ child i
   node_new i h =
       ap (λ n. node_at after (n + i)) (sym (length-set r.nodes k changed))
-      ∙ (get_or-append-add (set r.nodes k changed) (map child (numbers_from 0 (length names))) i no_node ∙ (get_or-numbered child 0 (length names) i no_node h ∙ ap child (let z : 0 + i ≡ i = omega arith in z)))
+      ∙ (get_or-append-add (set r.nodes k changed) (map child (numbers_from 0 (length names))) i no_node ∙ (get_numbered child 0 (length names) i no_node h ∙ ap child (let z : 0 + i ≡ i = omega arith in z)))
 
   pub opened_goes_on : GoesOn r after
   opened_goes_on = record {

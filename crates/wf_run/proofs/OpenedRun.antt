@@ -19,7 +19,7 @@ use Rattle.label_model.specs.Places.{chain_at}
 use Rattle.label_model.specs.Labels.{step_bits}
 use Rattle.label_model.specs.RunLabels.{address_in, IsPrefix}
 use Rattle.label_model.specs.RunLaws.{Keeps}
-use Rattle.label_model.proofs.Composites.{composite_is, atomic_is}
+use Rattle.wf_model.proofs.Composites.{composite_is, atomic_is}
 use Rattle.label_model.proofs.ContinuingSteps.{continues_gives, continues_not}
 use Rattle.label_model.proofs.InstanceAddresses.{instance_law}
 use Rattle.label_model.proofs.LookingBack.{expand_events-append}

@@ -1,12 +1,10 @@
 -- The bytes that bits fill.
-use Rattle.std.proofs.Common.{◌≡◌, ◌+◌, ◌-◌, ◌*◌, ◌^◌, ◌<◌, Bool, false, List, ℕ, length, take, drop, replicate, refl, sym, ap, ◌∙◌, arith, length-append}
-use Rattle.std.proofs.lemmas.List.{take_at, drop_at, length-replicate}
+use Rattle.std.proofs.Common.{◌≡◌, ◌+◌, ◌-◌, ◌*◌, ◌^◌, ◌<◌, Bool, false, List, ℕ, length, drop, replicate, refl, sym, ap, ◌∙◌, arith, length-append}
+use Rattle.std.proofs.lemmas.List.{drop_at, length-replicate}
 use Rattle.bit_pack.specs.Bits.{packed}
 use Rattle.bit_pack.specs.Written.{first_bits, IsWhole}
 use Rattle.bit_pack.proofs.Packing.{packed_law, length-bits_of}
-
-pub packed_first : (bits : List Bool) → first_bits (packed bits) (length bits) ≡ bits
-packed_first bits = let h = (packed_law bits).holds in ap (take (length bits)) h.is ∙ take_at bits (replicate h.padding false) (length bits) refl
+use Rattle.bit_pack.proofs.Filling.{first_packed}
 
 pub packed_whole : (bits : List Bool) → length bits < 2 ^ 32 → IsWhole (packed bits) (length bits)
 packed_whole bits small =
@@ -28,4 +26,4 @@ packed_whole bits small =
 
 -- bytes and a number that are these tell the bits
 pub spelled : (bits : List Bool) (bytes : List ℕ) (n : ℕ) → length bits < 2 ^ 32 → bytes ≡ packed bits → n ≡ length bits → (first_bits bytes n ≡ bits) × IsWhole bytes n
-spelled bits bytes n small e l = rw (e, l) (packed_first bits, packed_whole bits small)
+spelled bits bytes n small e l = rw (e, l) (first_packed bits, packed_whole bits small)

@@ -1,26 +1,19 @@
 -- A run after its start.
-use Rattle.std.proofs.Common.{◌≡◌, ◌++◌, ℕ, zero, suc, ◌<◌, true, cond, List, [], ◌∷◌, length, None, refl, ap, sym, subst, ◌∙◌, arith}
+use Rattle.std.proofs.Common.{◌≡◌, ◌++◌, ℕ, zero, suc, ◌<◌, cond, List, [], ◌∷◌, length, refl, ap, sym, subst, ◌∙◌, arith}
 use Rattle.std.proofs.lemmas.List.{length-map, nil_from_length}
-use Rattle.wf_model.specs.Grammar.{Grammar}
 use Rattle.wf_model.specs.WellFormed.{IsWellFormed}
 use Rattle.wf_model.specs.declared.event.Event.TheVariants.{Start}
 use Rattle.wf_model.specs.Run.{IsAccepted}
-use Rattle.label_model.specs.Places.{chain_at}
 use Rattle.label_model.specs.RunLabels.{IsPrefix}
-use Rattle.label_model.proofs.Composites.{composite_is, atomic_is}
+use Rattle.wf_model.proofs.Composites.{composite_is, atomic_is}
 use Rattle.label_model.proofs.RunPrefixes.{prefix_in_run_law}
 use Rattle.wf_run.specs.Runs.{Node, Prefix, RunSeen, IsKeptOf, IsRunOf, GoesOn}
 use Rattle.wf_run.specs.Opening.{root_prefix, started_run}
+use Rattle.wf_run.proofs.Roots.{begun, bare}
 
 -- before its start a run has no instances
 pub none_before_start : (r : RunSeen) → IsRunOf r [] → r.nodes ≡ []
 none_before_start r run = nil_from_length r.nodes (sym (length-map r.nodes (λ (n : Node). n.module_no)) ∙ ap length run.modules)
-
-abbrev begun : Grammar → Prefix
-begun g = record { bits = true ∷ []; chain = chain_at g g.start 0 }
-
-abbrev bare : Prefix
-bare = record { bits = []; chain = None }
 
 module _ (r : RunSeen) (name : List ℕ) (wf : IsWellFormed r.grammar.core) (run : IsRunOf r []) (acc : IsAccepted r.grammar.core r.most (Start name ∷ [])) where
   root_kept : IsKeptOf (started_run r name) (Start name ∷ []) 0

@@ -29,7 +29,7 @@ pub record IsFilledPrefix (n : NodeHeld) : Type 0 where
   pub few : n.length < 2 ^ 17
 
 -- what the fields of a run keep: the grammar is strictly linear, the bytes of each prefix are filled, and the run is that of some events
-pub record IsKept (r : RunSeen) (c : CyclesSeen) (nodes : List NodeHeld) : Type 0 where
+pub record IsRunKept (r : RunSeen) (c : CyclesSeen) (nodes : List NodeHeld) : Type 0 where
   pub linear : IsLinear r.grammar.core
   pub cycles : AreCyclesOf r.grammar.core c
   pub most : r.most ≤ 2 ^ 24

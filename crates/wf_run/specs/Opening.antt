@@ -3,10 +3,11 @@ use Rattle.std.specs.Prelude.{ℕ, suc, true, ◌+◌, cond, List, [], ◌∷◌
 use Rattle.wf_model.specs.Lists.{numbers_from}
 use Rattle.wf_model.specs.Grammar.{Grammar, head_of, alternative_of}
 use Rattle.wf_model.specs.Reach.{Step, target_of}
-use Rattle.label_model.specs.Continuing.{continues, is_composite}
+use Rattle.label_model.specs.Continuing.{continues}
 use Rattle.label_model.specs.Labels.{step_bits}
 use Rattle.label_model.specs.Places.{chain_at}
 use Rattle.wf_run.specs.Runs.{Node, Prefix, RunSeen, node_at}
+use Rattle.wf_model.specs.Composite.{is_composite}
 
 -- the prefix that a step gives to a child of an instance with this prefix: by the continuing step the parent's, with a chain number one higher; by any other the parent's and the bits of the step, and the chain begins
 abbrev pub prefix_by : Grammar → Step → Prefix → Prefix

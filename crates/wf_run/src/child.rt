@@ -2,43 +2,23 @@
 ghost use Rattle.std.specs.Prelude.{◌≡◌, ◌<◌, ◌+◌, ◌^◌, ◌++◌, None, length, option_map, get_or, IfOk, IfSome};
 ghost use Rattle.wf_model.specs.Grammar.{body_of};
 ghost use Rattle.wf_model.specs.Linear.{IsLinear};
-ghost use Rattle.wf_model.specs.Reach.{target_of};
 ghost use Rattle.bit_pack.specs.Written.{first_bits, IsWhole};
-ghost use Rattle.label_model.specs.Continuing.{is_composite, is_step};
+ghost use Rattle.label_model.specs.Continuing.{is_step};
 ghost use Rattle.label_model.specs.Labels.{step_bits};
 ghost use Rattle.label_model.specs.Places.{chain_by};
 ghost use Rattle.wf_recur.specs.Cycles.{AreCyclesOf, step_of};
-ghost use Rattle.wf_label.specs.Values.{step_of as place_step_of};
+ghost use Rattle.wf_label.specs.Values.{place_step_of};
 ghost use Rattle.wf_run.specs.Nodes.{node_of};
 ghost use Rattle.wf_run.specs.Opening.{child_prefix, child_node};
 ghost use Rattle.wf_run.specs.Growing.{prefix_of, CanGoOn};
 
 use crate::node::Node;
 use crate::prefix::PrefixRef;
-use bit_pack::BitWriter;
 use bumpalo::Bump;
 use std::alloc::{AllocError, Global};
-use wf_label::{PlaceStep, write_step};
-use wf_recur::Cycles;
+use wf_label::{PlaceStep, with_step};
+use wf_recur::{Cycles, target};
 use wf_spec::{Grammar, ModNo, Step};
-
-/// The module to which a step leads.
-fn target(g: &Grammar, step: Step) -> ModNo
-    requires production { step.production.0 < length g.now.core.productions }
-    requires position { step.position.0 < length (body_of g.now.core step.production.0) }
-    ensures target { result.0 ≡ target_of g.now.core (step_of step) }
-    ensures in_range { result.0 < length g.now.core.modules }
-{
-    g.production(step.production).positions()[step.position.0 as usize].module
-}
-
-/// Whether a production expands a module.
-pub(crate) fn is_composite(g: &Grammar, m: ModNo) -> bool
-    requires { m.0 < length g.now.core.modules }
-    ensures { result ≡ is_composite g.now.core m.0 }
-{
-    !g.alternatives(m).is_empty()
-}
 
 /// Whether a step is the continuing step of a module.
 fn is_continuing(cycles: &Cycles, m: ModNo, step: Step) -> bool
@@ -86,9 +66,7 @@ fn spelled<'a>(
     ensures bits { IfOk result (λ r. first_bits r.0.now r.1 ≡ first_bits bytes.now length ++ step_bits (place_step_of step)) }
     ensures whole { IfOk result (λ r. IsWhole r.0.now r.1) }
 {
-    let mut w = BitWriter::resume(alloc, bytes, length)?;
-    write_step(&mut w, step)?;
-    let bits = w.finish();
+    let bits = with_step(alloc, bytes, length, step)?;
     let placed = arena.try_alloc_slice_copy(bits.bytes())?;
     Ok((placed, bits.length()))
 }
@@ -113,7 +91,7 @@ fn child_prefix<'a>(
     ensures whole { IfOk result (λ r. IsWhole r.bytes.now r.length) }
 {
     let m = target(g, step);
-    if !is_composite(g, m) {
+    if !g.is_composite(m) {
         return Ok(PrefixRef {
             bytes: &[],
             length: 0,

@@ -6,7 +6,7 @@ ghost use Rattle.wf_recur.specs.Cycles.{AreCyclesOf};
 ghost use Rattle.wf_run.specs.Nodes.{node_of, IsFilledPrefix};
 ghost use Rattle.wf_run.specs.Opening.{closed_node, root_prefix};
 
-use crate::child::{begun, is_composite};
+use crate::child::begun;
 use crate::names::PlacedNames;
 use crate::node::Node;
 use std::alloc::AllocError;
@@ -22,7 +22,7 @@ pub(crate) fn root<'a>(g: &Grammar, cycles: &Cycles) -> Node<'a>
     ensures formed { IsWellFormed g.now.core }
 {
     let start = g.start();
-    if !is_composite(g, start) {
+    if !g.is_composite(start) {
         return Node {
             bytes: &[],
             children: None,

@@ -40,13 +40,13 @@ pub struct Run<'a> {
 
 impl<'a> Model for Run<'a> {
     ghost use Rattle.wf_run.specs.Runs.{RunSeen};
-    ghost use Rattle.wf_run.specs.Nodes.{run_of, IsKept};
+    ghost use Rattle.wf_run.specs.Nodes.{run_of, IsRunKept};
 
     ghost Value = { RunSeen };
 
     ghost view = { λ r. run_of r.grammar.now r.most r.names r.nodes.items r.expands };
 
-    ghost invariant = { λ r. IsKept (run_of r.grammar.now r.most r.names r.nodes.items r.expands) r.cycles.now r.nodes.items };
+    ghost invariant = { λ r. IsRunKept (run_of r.grammar.now r.most r.names r.nodes.items r.expands) r.cycles.now r.nodes.items };
 }
 
 impl<'a> Run<'a> {

@@ -5,7 +5,7 @@ use Rattle.wf_model.specs.Grammar.{Grammar, Assignment, body_of, head_of, inputs
 use Rattle.wf_model.specs.View.{View, expands}
 use Rattle.wf_model.specs.Reach.{Step, Between, Into, OutOf, target_of}
 use Rattle.wf_body.specs.Matrices.{IsMatrixOf, beside}
-use Rattle.decode_model.specs.Matrices.{IsOpenStep}
+use Rattle.wf_model.specs.OpenRoutes.{IsOpenStep}
 use Rattle.wf_safe.specs.Inducing.{IsSeenExpanded}
 use Rattle.wf_vlabel.specs.Groups.{GroupsSeen, matrix_of, nth_from}
 use Rattle.wf_vlabel.specs.Growing.{AreGroupsOf, IsBodyGroup}

@@ -1,7 +1,7 @@
 -- Where chains leave what is expanded, place by place.
 use Rattle.std.proofs.Common.{◌≡◌, ◌≢◌, ℕ, zero, suc, ◌+◌, ◌%◌, ◌<◌, ◌≤◌, Bool, true, false, IsTrue, List, length, get_or, set, IfSome, Option, Some, None, refl, sym, ap, ◌∙◌, subst, inl, inr, arith}
 use Rattle.std.proofs.lemmas.List.{get_or-set_same, get_or-set_other}
-use Rattle.bool_mat.proofs.Rows.{same_or_not}
+use Rattle.std.proofs.lemmas.Bool.{cases_eq}
 use Rattle.wf_model.specs.Grammar.{Grammar}
 use Rattle.wf_model.specs.WellFormed.{IsWellFormed}
 use Rattle.wf_model.specs.Linear.{IsLinear}
@@ -71,7 +71,7 @@ cut_back g t c e place j total m o next wf lin h i one low high is n w (suc b) s
 -- what was right of a module stays right
 pub cut_kept : (g : Grammar) (e : ℕ → Bool) (cuts : List (Option ℕ)) (at m : ℕ) (o : Option ℕ) → IsCut g e at o → at < length cuts → IsCut g e m (get_or cuts m None) → IsCut g e m (get_or (set cuts at o) m None)
 cut_kept g e cuts at m o h l old =
-    elim (same_or_not m at) [
+    elim (cases_eq m at) [
       | inl is ↦ subst (λ z. IsCut g e z (get_or (set cuts at o) z None)) (sym is) (subst (IsCut g e at) (sym (get_or-set_same cuts at o None l)) h)
       | inr not ↦ subst (IsCut g e m) (sym (get_or-set_other cuts at m o None not)) old
     ]
@@ -81,7 +81,7 @@ pub cut_told : (g : Grammar) (e : ℕ → Bool) (round : List ℕ) (cuts : List 
     ((j : ℕ) → suc place ≤ j → j < size → IsCut g e (get_or round j 0) (get_or cuts (get_or round j 0) None)) →
     (j : ℕ) → place ≤ j → j < size → IsCut g e (get_or round j 0) (get_or (set cuts (get_or round place 0) o) (get_or round j 0) None)
 cut_told g e round cuts place size o h l told j low high =
-    elim (same_or_not j place) [
+    elim (cases_eq j place) [
       | inl is ↦ subst (λ z. IsCut g e (get_or round z 0) (get_or (set cuts (get_or round place 0) o) (get_or round z 0) None)) (sym is) (subst (IsCut g e (get_or round place 0)) (sym (get_or-set_same cuts (get_or round place 0) o None l)) h)
       | inr not ↦ cut_kept g e cuts (get_or round place 0) (get_or round j 0) o h l (told j (omega arith) high)
     ]
@@ -93,7 +93,7 @@ pub cuts_more : (g : Grammar) (t : CyclesSeen) (e : ℕ → Bool) (c : ℕ) (old
     ((k j : ℕ) → k < c → j < length (round_at t k) → IsCut g e (get_or (round_at t k) j 0) (get_or old (get_or (round_at t k) j 0) None)) →
     (k j : ℕ) → k < c + 1 → j < length (round_at t k) → IsCut g e (get_or (round_at t k) j 0) (get_or new (get_or (round_at t k) j 0) None)
 cuts_more g t e c old new kept told before k j l h =
-    elim (same_or_not k c) [
+    elim (cases_eq k c) [
       | inl is ↦ subst (λ z. (i : ℕ) → i < length (round_at t z) → IsCut g e (get_or (round_at t z) i 0) (get_or new (get_or (round_at t z) i 0) None)) (sym is) told j h
       | inr not ↦ kept (get_or (round_at t k) j 0) (before k j (omega arith) h)
     ]

@@ -1,13 +1,14 @@
 -- Groups of the first keys, as their pool grows.
-use Rattle.std.proofs.Common.{◌≡◌, ℕ, ◌+◌, ◌<◌, ◌≤◌, List, [], ◌∷◌, ◌++◌, map, length, get_or, Option, None, option_map, refl, sym, ap, ◌∙◌, subst, inl, inr, arith, length-append}
+use Rattle.std.proofs.Common.{◌≡◌, ℕ, ◌+◌, ◌<◌, ◌≤◌, List, [], ◌∷◌, ◌++◌, length, get_or, Option, None, option_map, refl, sym, ap, ◌∙◌, subst, inl, inr, arith, length-append}
 use Rattle.std.proofs.lemmas.List.{map-append, get_or_append_left}
 use Rattle.std.proofs.Math.Seq.{get_or-append_seam}
+use Rattle.std.proofs.lemmas.Bool.{cases_eq}
 use Rattle.bool_mat.specs.Matrix.{Matrix, Adds, matrix_at}
 use Rattle.bool_mat.specs.declared.pool.MatNo.{MatNo}
 use Rattle.bool_mat.proofs.Pools.{adds_none}
-use Rattle.bool_mat.proofs.Rows.{same_or_not}
 use Rattle.wf_vlabel.specs.Groups.{GroupsSeen}
 use Rattle.wf_vlabel.specs.Growing.{Grows, AreGroupsOf}
+use Rattle.wf_vlabel.specs.RoundSteps.{numbers_in}
 
 pub grows_not : (pool : List Matrix) → Grows pool pool
 grows_not pool = (0, adds_none pool)
@@ -20,10 +21,6 @@ room_kept old new w = let t = w.1.total in omega arith
 
 pub matrix_kept : (old new : List Matrix) (k : ℕ) → Grows old new → k < length old → matrix_at new k ≡ matrix_at old k
 matrix_kept old new k w h = w.1.kept k h
-
--- the numbers of first matrices, as they are held
-abbrev pub numbers_in : List (Option MatNo) → List (Option ℕ)
-numbers_in = map (option_map (λ (n : MatNo). n.0))
 
 -- what holds of a group stays so in a pool that grows
 abbrev pub Stays : (ℕ → List Matrix → Option ℕ → Type 0) → Type 0
@@ -38,7 +35,7 @@ groups_more P count old new first n stays h grows last =
     let a = length-append first (n ∷ []) in
     record {
       one_each = omega arith;
-      each = λ key b. elim (same_or_not key count) [
+      each = λ key b. elim (cases_eq key count) [
         | inl e ↦ subst (λ k. P k new (get_or (first ++ n ∷ []) k None)) (sym e)
             (subst (λ k. P count new (get_or (first ++ n ∷ []) k None)) l (subst (P count new) (sym (get_or-append_seam first n [] None)) last))
         | inr e ↦ let there : key < count = omega arith in

@@ -1,6 +1,6 @@
 -- There is one list of steps once round a cycle from a module of it.
 use Rattle.std.proofs.Common.{◌≡◌, ℕ, ◌<◌, List, length, get_or, take, sym, ap, ◌∙◌, inl, inr, arith, length-take}
-use Rattle.bool_mat.proofs.Rows.{same_or_not}
+use Rattle.std.proofs.lemmas.Bool.{cases_eq}
 use Rattle.wf_model.specs.Grammar.{Grammar}
 use Rattle.wf_model.specs.WellFormed.{IsWellFormed}
 use Rattle.wf_model.specs.Linear.{IsLinear}
@@ -21,7 +21,7 @@ module _ (g : Grammar) (t : CyclesSeen) (c p : ℕ) (wf : IsWellFormed g) (lin :
       let low = place_back_least g t wf lin h c p (length round) i l o.some (sym (along_after g wf lin m round o.goes_round.continuing) ∙ o.goes_round.back) in
       let high : size < length round → ⊥ = λ few. o.least size (omega arith) few
       (along_after g wf lin m (take size round) (continuing_take g m size round o.goes_round.continuing) ∙ (ap (λ z. after g z m) (let e = length-take size round in let w : length (take size round) ≡ size = omega arith in w) ∙ place_back g t wf lin h c p i l)) in
-      elim (same_or_not (length round) size) [
+      elim (cases_eq (length round) size) [
         | inl same ↦ same
         | inr not ↦ absurd (high (omega arith))
       ]

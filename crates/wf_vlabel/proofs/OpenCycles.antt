@@ -11,7 +11,8 @@ use Rattle.label_model.specs.Continuing.{continuing, next_by, after}
 use Rattle.label_model.proofs.ContinuingSteps.{continuing_is, continuing_law}
 use Rattle.label_model.proofs.Periods.{after-add}
 use Rattle.decode_model.specs.Rounds.{AreContinuing}
-use Rattle.decode_model.specs.Matrices.{IsOpenStep, IsOpenRoute, IsOnceRound}
+use Rattle.wf_model.specs.OpenRoutes.{IsOpenStep, IsOpenRoute}
+use Rattle.decode_model.specs.Matrices.{IsOnceRound}
 use Rattle.wf_recur.specs.Cycles.{CyclesSeen, round_at, least_of, AreCyclesOf}
 use Rattle.wf_recur.proofs.Places.{place_to_first, rounds_left_out}
 use Rattle.wf_vlabel.specs.Groups.{GroupsSeen}

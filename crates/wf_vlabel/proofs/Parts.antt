@@ -1,7 +1,7 @@
 -- The matrices of the first steps and of the last steps of a cycle, one by one.
 use Rattle.std.proofs.Common.{◌≡◌, ℕ, zero, suc, ◌+◌, ◌-◌, ◌*◌, ◌<◌, List, length, sym, ap, ◌∙◌, subst, inl, inr, arith}
+use Rattle.std.proofs.lemmas.Bool.{cases_eq}
 use Rattle.bool_mat.specs.Matrix.{Matrix, Adds, matrix_at}
-use Rattle.bool_mat.proofs.Rows.{same_or_not}
 use Rattle.bool_mat.proofs.Pools.{adds_more}
 use Rattle.wf_model.specs.Grammar.{Grammar, Assignment}
 use Rattle.label_model.specs.Continuing.{after}
@@ -62,7 +62,7 @@ firsts_more way g t first start pool middle new n last i step next some f a s b 
     record {
       added = subst (Adds start new n) two (adds_more start pool new n step (2 * i - 1) (1 + 1) f.added (adds_more pool middle new step next 1 1 a b));
       ends = omega arith;
-      firsts = λ d h k l. elim (same_or_not k i) [
+      firsts = λ d h k l. elim (cases_eq k i) [
         | inl is ↦ subst (λ z. IsChain way g d first (suc z) (matrix_at new (n + 2 * z))) (sym is)
             (subst (λ z. IsChain way g d first (suc i) (matrix_at new z)) (sym here)
             (subst (λ z. IsChain way g d first z (matrix_at new next)) one
@@ -140,7 +140,7 @@ lasts_more way g t first size start pool middle new n last place before step nex
       below = omega arith;
       added = subst (Adds start new n) two (adds_more start pool new n step (2 * (size - place) - 1) (1 + 1) f.added (adds_more pool middle new step next 1 1 a b));
       ends = omega arith;
-      lasts = λ d h k j low q. elim (same_or_not k (suc count)) [
+      lasts = λ d h k j low q. elim (cases_eq k (suc count)) [
         | inl is ↦ let w : j ≡ before = omega arith in
             subst (λ z. IsChain way g d (after g j first) (suc z) (matrix_at new (n + 2 * z))) (sym is)
             (subst (λ z. IsChain way g d (after g z first) (suc (suc count)) (matrix_at new (n + 2 * suc count))) (sym w)

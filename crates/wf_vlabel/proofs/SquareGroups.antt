@@ -1,8 +1,8 @@
 -- The matrices of many rounds of all cycles that are open.
 use Rattle.std.proofs.Common.{◌≡◌, ◌≢◌, ℕ, ◌+◌, ◌^◌, ◌<◌, List, [], ◌∷◌, length, get_or, Option, Some, None, sym, ◌∙◌, subst, inl, inr, arith}
 use Rattle.std.proofs.lemmas.Option.{none-some}
+use Rattle.std.proofs.lemmas.Bool.{cases_eq}
 use Rattle.bool_mat.specs.Matrix.{Matrix, Power}
-use Rattle.bool_mat.proofs.Rows.{same_or_not}
 use Rattle.wf_model.specs.Grammar.{Grammar, Assignment, inputs_of, outputs_of}
 use Rattle.wf_model.specs.WellFormed.{IsWellFormed}
 use Rattle.wf_model.specs.Linear.{IsLinear}
@@ -30,7 +30,7 @@ pub rounds_more : (g : Grammar) (t : CyclesSeen) (v : View) (d : Assignment) (c 
     (IsOpenCycle g v (least_of (round_at t c)) → (j : ℕ) → j < length (round_at t c) → HasRounds g d (get_or (round_at t c) j 0) new later) →
     HaveRoundsBelow g t v d c old first → HaveRoundsBelow g t v d (c + 1) new later
 rounds_more g t v d c old new first later kept told before k j l h o =
-    elim (same_or_not k c) [
+    elim (cases_eq k c) [
       | inl is ↦ subst (λ z. IsOpenCycle g v (least_of (round_at t z)) → (i : ℕ) → i < length (round_at t z) → HasRounds g d (get_or (round_at t z) i 0) new later) (sym is) told o j h
       | inr not ↦ kept (get_or (round_at t k) j 0) (before k j (omega arith) h o)
     ]

@@ -1,7 +1,7 @@
 -- The matrices of many rounds for the modules of a cycle, place by place.
 use Rattle.std.proofs.Common.{◌≡◌, ℕ, ◌+◌, ◌<◌, List, length, get_or, set, Option, Some, sym, ap, ◌∙◌, subst, inl, inr, arith}
+use Rattle.std.proofs.lemmas.Bool.{cases_eq}
 use Rattle.bool_mat.specs.Matrix.{Matrix, Adds}
-use Rattle.bool_mat.proofs.Rows.{same_or_not}
 use Rattle.wf_model.specs.Grammar.{Grammar, Assignment}
 use Rattle.wf_model.specs.WellFormed.{IsWellFormed}
 use Rattle.wf_model.specs.Linear.{IsLinear}
@@ -57,7 +57,7 @@ squared_more g t bodies c place size at n start none down up squares down' up' s
       downs = λ d q. subst (λ z. AreParts Down g d m z down') e (keeps g d m (subst (λ z. AreParts Down g d m z down) (sym e) (s.downs d q)));
       ups = λ d q. subst (λ z. AreParts Up g d m z up') e (keeps' g d m (subst (λ z. AreParts Up g d m z up) (sym e) (s.ups d q)));
       kept = λ d q k r. rounds_kept g d k at n squares squares' first (length squares) 50 a low (own d q) (s.kept d q k r);
-      told = λ d q j w. elim (same_or_not j place) [
+      told = λ d q j w. elim (cases_eq j place) [
         | inl same ↦ subst (λ z. HasRounds g d (get_or round z 0) squares' (set first at (Some n))) (sym same) (subst (λ z. HasRounds g d z squares' (set first at (Some n))) is (rounds_here g d at n squares' first low (own d q)))
         | inr not ↦ let less : j < place = omega arith in rounds_kept g d (get_or round j 0) at n squares squares' first (length squares) 50 a low (own d q) (s.told d q j less)
       ];

@@ -1,8 +1,8 @@
 -- The matrices of many rounds, module by module.
 use Rattle.std.proofs.Common.{◌≡◌, ℕ, ◌+◌, ◌^◌, ◌<◌, List, length, set, Option, Some, None, sym, ap, ◌∙◌, subst, inl, inr, arith}
 use Rattle.std.proofs.lemmas.List.{get_or-set_same, get_or-set_other}
+use Rattle.std.proofs.lemmas.Bool.{cases_eq}
 use Rattle.bool_mat.specs.Matrix.{Matrix, Power, Adds, IsPower, ArePowers, matrix_at}
-use Rattle.bool_mat.proofs.Rows.{same_or_not}
 use Rattle.wf_model.specs.Grammar.{Grammar, Assignment, inputs_of, outputs_of}
 use Rattle.wf_model.specs.Reach.{Step}
 use Rattle.wf_laws.specs.Splits.{IntoAll, OutAll}
@@ -77,7 +77,7 @@ square_kept g d m round old new n first count a s =
 pub rounds_kept : (g : Grammar) (d : Assignment) (m at n : ℕ) (old new : List Matrix) (first : List (Option ℕ)) (number count : ℕ) → Adds old new number count → at < length first →
     ((round : List Step) → IsOnce g at round → IsSquareGroup g d at round new n) → HasRounds g d m old first → HasRounds g d m new (set first at (Some n))
 rounds_kept g d m at n old new first number count a l own h =
-    elim (same_or_not m at) [
+    elim (cases_eq m at) [
       | inl is ↦ subst (λ z. HasRounds g d z new (set first at (Some n))) (sym is) (n, get_or-set_same first at (Some n) None l, own)
       | inr not ↦ (h.0, get_or-set_other first at m (Some n) None not ∙ h.1, λ round o. square_kept g d m round old new h.0 number count a (h.2 round o))
     ]

@@ -1,9 +1,9 @@
 -- Matrices of the positions of a body, position after position.
 use Rattle.std.proofs.Common.{◌≡◌, ℕ, ◌+◌, ◌*◌, ◌<◌, ◌≤◌, List, length, sym, subst, inl, inr, arith}
 use Rattle.std.proofs.Math.Nat.{add-mul, mul-le-mul_right}
+use Rattle.std.proofs.lemmas.Bool.{cases_eq}
 use Rattle.bool_mat.specs.Matrix.{Matrix, Adds}
 use Rattle.bool_mat.proofs.Pools.{adds_more}
-use Rattle.bool_mat.proofs.Rows.{same_or_not}
 use Rattle.wf_model.specs.Grammar.{Grammar, Assignment, head_of, inputs_of, outputs_of}
 use Rattle.wf_model.specs.Reach.{Step, Between, Into, OutOf, target_of}
 use Rattle.wf_body.specs.Matrices.{IsMatrixOf, beside}
@@ -34,7 +34,7 @@ steps_more g d p k first n old now new a h b here j l =
     let f = a.number in
     let t = a.total in
     let e = b.number in
-    elim (same_or_not j k) [
+    elim (cases_eq j k) [
       | inl same ↦ let place : n ≡ first + k * of_position g p = omega (arith, f, t, e) in
           subst (λ z. IsStepGroup g d (record { production = p; position = z }) new (first + z * of_position g p)) (sym same)
           (subst (IsStepGroup g d (record { production = p; position = k }) new) place here)

@@ -9,7 +9,8 @@ use Rattle.wf_model.specs.View.{View, expands, IsSeenModule, IsViewOf}
 use Rattle.wf_model.specs.Safe.{IsInduced}
 use Rattle.wf_model.specs.Reach.{Step}
 use Rattle.wf_recur.specs.Cycles.{CyclesSeen, AreCyclesOf}
-use Rattle.decode_model.specs.Matrices.{ViewMatrices, AreMatrices, IsOpenStep, IsOnceRound}
+use Rattle.wf_model.specs.OpenRoutes.{IsOpenStep}
+use Rattle.decode_model.specs.Matrices.{ViewMatrices, AreMatrices, IsOnceRound}
 use Rattle.wf_vlabel.specs.Groups.{GroupsSeen}
 use Rattle.wf_vlabel.specs.Tables.{matrices_in}
 

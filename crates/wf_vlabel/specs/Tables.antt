@@ -6,7 +6,8 @@ use Rattle.wf_model.specs.View.{View, expands, IsSeenModule}
 use Rattle.wf_model.specs.Reach.{Step, target_of, Into, OutOf, Between}
 use Rattle.wf_laws.specs.Splits.{IntoAll, OutAll}
 use Rattle.wf_body.specs.Matrices.{IsMatrixOf, beside}
-use Rattle.decode_model.specs.Matrices.{ViewMatrices, IsOpenStep, IsOnceRound, Within}
+use Rattle.wf_model.specs.OpenRoutes.{IsOpenStep}
+use Rattle.decode_model.specs.Matrices.{ViewMatrices, IsOnceRound, Within}
 use Rattle.wf_vlabel.specs.Groups.{GroupsSeen, matrix_of, HasGroup}
 
 -- a view expands the modules that are flagged

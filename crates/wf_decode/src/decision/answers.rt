@@ -6,7 +6,7 @@ ghost use Rattle.wf_recur.specs.Cycles.{round_at};
 ghost use Rattle.decode_model.specs.Counts.{most_products};
 ghost use Rattle.verdict_model.specs.declared.verdict.Verdict.TheVariants.{Yes, No};
 ghost use Rattle.wf_vlabel.specs.Seen.{IsLabelOfView, full_in, matrices_of};
-ghost use Rattle.wf_decode.specs.Answers.{AreEnds, IsAnswer};
+ghost use Rattle.wf_decode.specs.Answers.{AreEnds, IsAnswerOfAddresses};
 
 use crate::decision::ends::ModulePort;
 use crate::decision::products::{above, across, below};
@@ -33,7 +33,7 @@ pub(crate) fn answer<L: Ledger>(
     steps: &mut Steps<L>,
 ) -> Verdict
     requires ends { (u : View) × (a : List StepSeen) × (b : List StepSeen) × IsLabelOfView vl.now u × AreEnds vl.now u a b first.old from.module.0 from.port.0 second.old to.module.0 to.port.0 }
-    ensures answer { (u : View) (a b : List StepSeen) → IsLabelOfView vl.now u → AreEnds vl.now u a b first.old from.module.0 from.port.0 second.old to.module.0 to.port.0 → IsAnswer vl.now.grammar (full_in (matrices_of vl.now)) a b from.port.0 to.port.0 result }
+    ensures answer { (u : View) (a b : List StepSeen) → IsLabelOfView vl.now u → AreEnds vl.now u a b first.old from.module.0 from.port.0 second.old to.module.0 to.port.0 → IsAnswerOfAddresses vl.now.grammar (full_in (matrices_of vl.now)) a b from.port.0 to.port.0 result }
     ensures cost { (l : ℕ) → ((k : ℕ) → length (round_at vl.now.cycles k) ≤ l) → steps.new ≤ steps.old + most_products vl.now.grammar l }
     ensures first_length { length first.new ≡ length first.old }
     ensures second_length { length second.new ≡ length second.old }

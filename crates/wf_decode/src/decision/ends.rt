@@ -8,13 +8,13 @@ ghost use Rattle.wf_label.specs.Values.{AreLabelBits};
 ghost use Rattle.wf_recur.specs.Cycles.{step_of};
 ghost use Rattle.wf_vlabel.specs.Seen.{IsLabelOfView};
 ghost use Rattle.wf_decode.specs.declared.leg.Leg.TheVariants.{Into};
-ghost use Rattle.wf_decode.specs.Ends.{IsConsumingEnd, IsProducingEnd};
+ghost use Rattle.wf_decode.specs.Ends.{IsEndOn, end_of_edge};
 ghost use Rattle.wf_decode.specs.Reading.{most_legs};
 
 use crate::leg::Leg;
 use crate::read::{Told, read_label};
 use wf_label::LabelRef;
-use wf_spec::{ModNo, PortNo, Step};
+use wf_spec::{Edge, Inner, ModNo, PortNo, Side, Step};
 use wf_vlabel::ViewLabel;
 
 /// A port of a module, on the side that its use tells.
@@ -48,65 +48,50 @@ fn hold_step(vl: &ViewLabel<'_>, legs: &mut [Leg], n: usize, step: Step) -> ModN
     vl.grammar().production(step.production).positions()[step.position.0 as usize].module
 }
 
-/// Reads a label and holds the legs to the instance where its item is consumed.
-///
-/// Cost: linear in the bits of the label.
-pub(crate) fn consuming_end(vl: &ViewLabel<'_>, label: &LabelRef<'_>, legs: &mut [Leg]) -> End
-    requires label { AreLabelBits vl.now.grammar label.now }
-    requires room { most_legs vl.now.grammar ≤ length legs.old }
-    ensures end { (u : View) (x : Label) → IsLabelOfView vl.now u → IsLabel vl.now.grammar x → label.now ≡ label_bits x → IsConsumingEnd vl.now u x result legs.new }
-    ensures length { length legs.new ≡ length legs.old }
+/// The end of an edge on a side: where it leads, on that of inputs; and where it comes from, on that of outputs.
+fn end_of(edge: Edge, side: Side) -> Inner
+    ensures { result ≡ end_of_edge edge side }
 {
-    match read_label(vl, label, legs) {
-        Told::Hidden => End::Hidden,
-        Told::Input { port } => End::At {
-            legs: 0,
-            at: ModulePort {
-                module: vl.grammar().start(),
-                port,
-            },
-        },
-        Told::Output { port: _port } => End::Nowhere,
-        Told::Edge {
-            legs: n,
-            production,
-            edge,
-        } => {
-            let to = vl.grammar().production(production).edges()[edge.0 as usize].to;
-            let step = Step {
-                production,
-                position: to.pos,
-            };
-            let module = hold_step(vl, legs, n, step);
-            let consumed = n + 1;
-            End::At {
-                legs: consumed,
-                at: ModulePort {
-                    module,
-                    port: to.port,
-                },
-            }
-        }
+    match side {
+        Side::Input => edge.to,
+        Side::Output => edge.from,
     }
 }
 
-/// Reads a label and holds the legs to the instance where its item is produced.
+/// A port of the root.
+fn root_port(vl: &ViewLabel<'_>, port: PortNo) -> ModulePort
+    ensures module { result.module.0 ≡ vl.now.grammar.start }
+    ensures port { result.port ≡ port }
+{
+    ModulePort {
+        module: vl.grammar().start(),
+        port,
+    }
+}
+
+/// Reads a label and holds the legs to the instance where its item is consumed, on the side of inputs, or produced, on the side of outputs.
 ///
 /// Cost: linear in the bits of the label.
-pub(crate) fn producing_end(vl: &ViewLabel<'_>, label: &LabelRef<'_>, legs: &mut [Leg]) -> End
+pub(crate) fn end_on(vl: &ViewLabel<'_>, side: Side, label: &LabelRef<'_>, legs: &mut [Leg]) -> End
     requires label { AreLabelBits vl.now.grammar label.now }
     requires room { most_legs vl.now.grammar ≤ length legs.old }
-    ensures end { (u : View) (x : Label) → IsLabelOfView vl.now u → IsLabel vl.now.grammar x → label.now ≡ label_bits x → IsProducingEnd vl.now u x result legs.new }
+    ensures end { (u : View) (x : Label) → IsLabelOfView vl.now u → IsLabel vl.now.grammar x → label.now ≡ label_bits x → IsEndOn side vl.now u x result legs.new }
     ensures length { length legs.new ≡ length legs.old }
 {
     match read_label(vl, label, legs) {
         Told::Hidden => End::Hidden,
-        Told::Input { port: _port } => End::Nowhere,
-        Told::Output { port } => End::At {
-            legs: 0,
-            at: ModulePort {
-                module: vl.grammar().start(),
-                port,
+        Told::Input { port } => match side {
+            Side::Input => End::At {
+                legs: 0,
+                at: root_port(vl, port),
+            },
+            Side::Output => End::Nowhere,
+        },
+        Told::Output { port } => match side {
+            Side::Input => End::Nowhere,
+            Side::Output => End::At {
+                legs: 0,
+                at: root_port(vl, port),
             },
         },
         Told::Edge {
@@ -114,18 +99,21 @@ pub(crate) fn producing_end(vl: &ViewLabel<'_>, label: &LabelRef<'_>, legs: &mut
             production,
             edge,
         } => {
-            let from = vl.grammar().production(production).edges()[edge.0 as usize].from;
+            let end = end_of(
+                vl.grammar().production(production).edges()[edge.0 as usize],
+                side,
+            );
             let step = Step {
                 production,
-                position: from.pos,
+                position: end.pos,
             };
             let module = hold_step(vl, legs, n, step);
-            let produced = n + 1;
+            let held = n + 1;
             End::At {
-                legs: produced,
+                legs: held,
                 at: ModulePort {
                     module,
-                    port: from.port,
+                    port: end.port,
                 },
             }
         }

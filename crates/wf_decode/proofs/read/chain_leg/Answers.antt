@@ -52,9 +52,9 @@ returns-then-n-count-clause-leg c =
     let l = c.args.vl.now in
     (c.in-Some.n, c.if-n-count.true, ap (λ m. is_expanded l (after l.grammar c.in-Some.n m)) (sym s.is) ∙ c.in-Some.ensures.0)
 
-pub length-length-requires-clause-in_range : goal.length-length-requires-clause-in_range
-length-length-requires-clause-in_range c =
-    let s = (stands (goal.at.length-length-requires-clause-in_range c).In_ok-on).cycle in
+pub length-length-requires : goal.length-length-requires
+length-length-requires c =
+    let s = (stands (goal.at.length-length-requires c).In_ok-on).cycle in
     omega (arith, ap (λ t. length t.rounds) c.cycles-cycles.ensures.cycles)
 
 pub nonzero_rem-to : goal.nonzero_rem-to

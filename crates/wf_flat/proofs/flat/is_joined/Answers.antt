@@ -2,7 +2,7 @@ use Rattle.std.proofs.Common.{◌≡◌, ◌∙◌, refl, sym, ap, subst, true�
 use Rattle.wf_model.specs.Lists.{here}
 use Rattle.wf_model.specs.Links.{Path}
 use Rattle.wf_flat.specs.contracts.graph.PortPartialEq.TheImpl.{eq-value}
-use Rattle.wf_flat.specs.Flat.{numbered, numbered_links}
+use Rattle.wf_flat.specs.Flat.{numbered_port, numbered_links}
 use Rattle.wf_flat.proofs.Index.{port_same, port_self, not_among, placed}
 use Rattle.wf_flat.proofs.Paths.{none_from, none_to, by_numbers}
 use Rattle.wf_flat.proofs.flat.is_joined.Goals as goal
@@ -10,7 +10,7 @@ use Rattle.wf_flat.proofs.flat.is_joined.Goals as goal
 pub returns-then-eq : goal.returns-then-eq
 returns-then-eq c = λ ls i.
     let e = port_same c.args.from c.args.to (sym c.eq.ensures ∙ c.if-eq.true) in
-    (λ t. subst (λ z. Path (numbered_links ls) (numbered c.args.from) (numbered z)) e here, λ w. refl)
+    (λ t. subst (λ z. Path (numbered_links ls) (numbered_port c.args.from) (numbered_port z)) e here, λ w. refl)
 
 pub returns-in_default : goal.returns-in_default
 returns-in_default c = λ ls i.

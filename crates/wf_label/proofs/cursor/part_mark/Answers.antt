@@ -1,10 +1,6 @@
-use Rattle.std.proofs.Common.{◌≡◌, ℕ, ◌+◌, ◌<◌, Bool, true, false, List, ◌∷◌, ◌++◌, length, map, sym, ap, ◌∙◌, subst, arith, true≢false}
-use Rattle.std.proofs.lemmas.List.{length-map}
+use Rattle.std.proofs.Common.{◌≡◌, ℕ, ◌+◌, ◌<◌, Bool, true, false, List, ◌∷◌, ◌++◌, length, sym, ap, ◌∙◌, subst, arith, true≢false}
 use Rattle.bit_pack.specs.Gamma.{gamma}
-use Rattle.wf_model.specs.declared.body.Position.{Position as PositionHeld}
-use Rattle.wf_model.specs.declared.body.Edge.{Edge as EdgeHeld}
-use Rattle.wf_model.specs.Grammar.{Grammar, Position, Production, production_at, alternative_of, IsProductionOf}
-use Rattle.wf_model.specs.Meaning.{position_of, edge_of}
+use Rattle.wf_model.specs.Grammar.{Grammar, Production, production_at, alternative_of, IsProductionOf}
 use Rattle.wf_recur.proofs.Stepping.{module_read}
 use Rattle.label_model.proofs.GrammarLimits.{few_edges}
 use Rattle.label_model.proofs.GrammarSizes.{edge_within}
@@ -12,7 +8,8 @@ use Rattle.wf_label.specs.Parts.{HasNoNumber}
 use Rattle.wf_label.specs.Marks.{Mark, BeginMarks}
 use Rattle.wf_label.proofs.MarksRead.{IsPart, part_first, part_bit, part_alternative, part_number, part_read, marks_below, ok_from}
 use Rattle.wf_label.proofs.cursor.part_mark.Goals as goal
-use Rattle.wf_label.proofs.cursor.part_mark.Goals.{After-bit, After-unwrap-production}
+use Rattle.wf_label.proofs.cursor.part_mark.Goals.{After-unwrap-production}
+use Rattle.wf_label.proofs.Counts.{positions_held, edges_held}
 
 -- a step or an end comes first
 part : (g : Grammar) (m : ℕ) (bits : List Bool) (marks : List Mark) → BeginMarks g m true bits marks → IsPart g m bits marks
@@ -44,14 +41,6 @@ unwrap-production-requires c =
     let b = rw c.unwrap-is_step.ensures at c.bit.ensures.ok in
     ok_from c.read_alternative.result
     (λ e. part_alternative g c.args.m.0 c.unwrap-is_step.result bits c.bit.new.self.left c.requires.0 (part g c.args.m.0 bits c.requires.0 c.requires.1) b (c.read_alternative.ensures.malformed e))
-
--- as many positions are held as the body has
-positions_held : (xs : List PositionHeld) (r s : Production) → map position_of xs ≡ r.positions → r ≡ s → length xs ≡ length (map (λ (q : Position). q.module_no) s.positions)
-positions_held xs r s are is =
-    sym (length-map xs position_of) ∙ (ap length are ∙ (ap (λ (z : Production). length z.positions) is ∙ sym (length-map s.positions (λ (q : Position). q.module_no))))
-
-edges_held : (xs : List EdgeHeld) (r s : Production) → map edge_of xs ≡ r.edges → r ≡ s → length xs ≡ length s.edges
-edges_held xs r s are is = sym (length-map xs edge_of) ∙ (ap length are ∙ ap (λ (z : Production). length z.edges) is)
 
 pub unwrap-i-requires : goal.unwrap-i-requires
 unwrap-i-requires c =

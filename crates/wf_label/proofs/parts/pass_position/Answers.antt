@@ -1,5 +1,4 @@
 use Rattle.std.proofs.Common.{◌≡◌, ◌↔◌, ℕ, ◌+◌, ◌<◌, ◌++◌, ◌∙◌, true, false, List, length, get_or, map, refl, sym, ap, subst}
-use Rattle.std.proofs.lemmas.List.{length-map}
 use Rattle.wf_model.specs.declared.body.Position.{Position as PositionHeld}
 use Rattle.wf_model.specs.Grammar.{Position, Production, production_at, head_of}
 use Rattle.wf_model.specs.Meaning.{position_of}
@@ -14,24 +13,21 @@ use Rattle.wf_label.specs.Parts.{HasNoNumber, IsStepByLeft}
 use Rattle.wf_label.proofs.Passes.{passed_number}
 use Rattle.wf_label.proofs.PartsLeft.{step_left, continuing_left, no_position}
 use Rattle.wf_label.proofs.parts.pass_position.Goals as goal
-
--- as many positions are held as the body has
-count : (xs : List PositionHeld) (r s : Production) → map position_of xs ≡ r.positions → r ≡ s → length xs ≡ length (map (λ (q : Position). q.module_no) s.positions)
-count xs r s are is = sym (length-map xs position_of) ∙ (ap length are ∙ (ap (λ (z : Production). length z.positions) is ∙ sym (length-map s.positions (λ (q : Position). q.module_no))))
+use Rattle.wf_label.proofs.Counts.{positions_held}
 
 pub returns-in_err-i-clause-malformed : goal.returns-in_err-i-clause-malformed
 returns-in_err-i-clause-malformed c = λ _.
     let g = c.args.g.now.core in
     let p = c.args.p.0 in
     let left = c.args.reader.now.left in
-    let few = count c.positions-positions.result.now c.production-rule.result.now.core (production_at g p) c.positions-positions.ensures c.production-rule.ensures.core in
+    let few = positions_held c.positions-positions.result.now c.production-rule.result.now.core (production_at g p) c.positions-positions.ensures c.production-rule.ensures.core in
     no_position g p left c.requires.in_range (subst (λ n. HasNoNumber n left) few (c.in_err-i.ensures.malformed refl))
 
 -- the module at a position, as it is held
 read : (xs : List PositionHeld) (r s : Production) (k : ℕ) (d : PositionHeld) → map position_of xs ≡ r.positions → r ≡ s → k < length xs →
     (k < length (map (λ (q : Position). q.module_no) s.positions)) × ((get_or xs k d).module.0 ≡ get_or (map (λ (q : Position). q.module_no) s.positions) k 0)
 read xs r s k d are is h =
-    let inside : k < length (map (λ (q : Position). q.module_no) s.positions) = subst (λ n. k < n) (count xs r s are is) h in
+    let inside : k < length (map (λ (q : Position). q.module_no) s.positions) = subst (λ n. k < n) (positions_held xs r s are is) h in
     (inside, module_read xs k d s.positions (are ∙ ap (λ (z : Production). z.positions) is) inside)
 
 pub returns-then-is_continuing-clause-malformed : goal.returns-then-is_continuing-clause-malformed

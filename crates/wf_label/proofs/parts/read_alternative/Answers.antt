@@ -1,6 +1,6 @@
 use Rattle.std.proofs.Common.{refl, sym, subst}
 use Rattle.wf_label.specs.Parts.{IsNumberRead}
-use Rattle.wf_recur.proofs.Heads.{headed_at}
+use Rattle.wf_spec.proofs.Heads.{headed_at}
 use Rattle.wf_label.proofs.AlternativeNumbers.{listed_alternative, none_listed}
 use Rattle.wf_label.proofs.parts.read_alternative.Goals as goal
 

@@ -25,8 +25,8 @@ returns-in_default-clause-to c =
     let o = stands_somewhere c.args.g.now.core c.args.cycles.now c.requires.cycles c.args.m.0 c.requires.module_no c.requires.on_cycle in
     absurd (none-some o.0 (c.in_default.ensures ∙ o.1))
 
-pub length-length-requires-clause-in_range : goal.length-length-requires-clause-in_range
-length-length-requires-clause-in_range c = (stands (goal.at.length-length-requires-clause-in_range c).In-Some).cycle
+pub length-length-requires : goal.length-length-requires
+length-length-requires c = (stands (goal.at.length-length-requires c).In-Some).cycle
 
 pub nonzero_rem-place : goal.nonzero_rem-place
 nonzero_rem-place c = let s = (stands (goal.at.nonzero_rem-place c).In-Some).place in omega (arith, c.length-length.ensures)

@@ -1,13 +1,10 @@
 use Rattle.std.proofs.Common.{◌<◌, get_or, arith, sym, subst, ◌∙◌}
-use Rattle.wf_model.specs.declared.body.Edge.{Edge as EdgeHeld}
 use Rattle.wf_model.specs.Meaning.{edge_of}
+use Rattle.wf_model.proofs.Absent.{no_edge}
 use Rattle.bit_pack.specs.Written.{first_bits}
 use Rattle.wf_labeller.specs.Entries.{edge_entry}
 use Rattle.wf_labeller.proofs.EdgesRead.{edge_from, from_below, from_small, few_edges, entries-cons, entry_is, seen-push}
 use Rattle.wf_labeller.proofs.edges.edge_entries.Goals as goal
-
-abbrev no_edge : EdgeHeld
-no_edge = record { from = record { pos = record { 0 = 0 }; port = record { 0 = 0 } }; to = record { pos = record { 0 = 0 }; port = record { 0 = 0 } } }
 
 pub overflow_cast-from : goal.overflow_cast-from
 overflow_cast-from c =

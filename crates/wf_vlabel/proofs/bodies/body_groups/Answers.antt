@@ -5,8 +5,9 @@ use Rattle.wf_model.specs.Meaning.{pairs_of}
 use Rattle.wf_spec.specs.Held.{HeldProduction}
 use Rattle.wf_vlabel.specs.Growing.{IsBodyGroup}
 use Rattle.wf_vlabel.proofs.BodyGroups.{bodies_are, bodies_stay}
-use Rattle.wf_vlabel.proofs.Grouping.{groups_push, groups_end, numbers_in}
+use Rattle.wf_vlabel.proofs.Grouping.{groups_push, groups_end}
 use Rattle.wf_vlabel.proofs.bodies.body_groups.Goals as goal
+use Rattle.wf_vlabel.specs.RoundSteps.{numbers_in}
 
 pub loop-k-preserved : goal.loop-k-preserved
 loop-k-preserved c =

@@ -1,9 +1,10 @@
 use Rattle.std.proofs.Common.{ap, length, List}
 use Rattle.wf_model.specs.Grammar.{Module}
 use Rattle.wf_vlabel.specs.Growing.{IsRowsGroup}
-use Rattle.wf_vlabel.proofs.Grouping.{groups_push, groups_end, numbers_in}
+use Rattle.wf_vlabel.proofs.Grouping.{groups_push, groups_end}
 use Rattle.wf_vlabel.proofs.RowsGroups.{full_are, pairs_are, rows_stay}
 use Rattle.wf_vlabel.proofs.full.full_groups.Goals as goal
+use Rattle.wf_vlabel.specs.RoundSteps.{numbers_in}
 
 pub loop-m-preserved : goal.loop-m-preserved
 loop-m-preserved c =

@@ -1,7 +1,7 @@
 use Rattle.std.proofs.Common.{◌≡◌, ◌∙◌, ap, length, get_or, Option, None, List, ℕ, arith}
 use Rattle.wf_model.specs.Grammar.{Module}
-use Rattle.wf_body.proofs.Rowing.{few_ports}
 use Rattle.wf_vlabel.proofs.RowsGroups.{pushed_rows}
+use Rattle.wf_spec.proofs.FewPorts.{few_ports}
 use Rattle.wf_vlabel.proofs.full.push_rows.Goals as goal
 
 pub overflow_cast-outputs : goal.overflow_cast-outputs

@@ -6,7 +6,7 @@ use Rattle.decode_model.specs.Counts.{most_products}
 use Rattle.wf_vlabel.specs.Seen.{matrices_of, full_in}
 use Rattle.wf_decode.specs.HeldLegs.{held_steps, legs_of}
 use Rattle.wf_decode.specs.Products.{IsBit, IsWay, AreWaysApart}
-use Rattle.wf_decode.specs.Answers.{IsAnswer}
+use Rattle.wf_decode.specs.Answers.{IsAnswerOfAddresses}
 use Rattle.wf_decode.proofs.RowBits.{bit_within}
 use Rattle.wf_decode.proofs.Ways.{rest_is, way_left, ways_apart}
 use Rattle.wf_decode.proofs.PartedAnswers.{across_answer, down_answer, up_answer}
@@ -79,7 +79,7 @@ returns-in-Across-clause-answer g c u a b of ends =
     let h = subst (λ z. IsBit (crossing l.grammar v s (legs_of l z) t (legs_of l (take (length y - q) (drop q y)))) first c.args.steps.now c.across.new.steps o c.across.result) (rest_is p x) c.across.ensures in
     let k = subst (λ z. IsBit (crossing l.grammar v s (legs_of l (drop p x)) t (legs_of l z)) first c.args.steps.now c.across.new.steps o c.across.result) (rest_is q y) h in
     let r = across_answer l c.cycles-label.ensures.label u of a b c.args.first.now x m i c.args.second.now y c.args.to.module.0 o s t p q c.args.steps.now c.across.new.steps c.across.result ends c.in-Across.ensures.parted k in
-    subst (IsAnswer l.grammar (full_in v) a b i o) (sym c.verdict_by.ensures) r
+    subst (IsAnswerOfAddresses l.grammar (full_in v) a b i o) (sym c.verdict_by.ensures) r
 
 pub returns-in-Across-clause-cost : goal.returns-in-Across-clause-cost
 returns-in-Across-clause-cost g c most few =
@@ -111,7 +111,7 @@ returns-in-Down-clause-answer g c u a b of ends =
     let first = c.below.ensures.0 in
     let h = subst (λ z. IsBit (way_down v (legs_of l z) ++ v.full n ∷ []) first c.args.steps.now c.below.new.steps o c.below.result) (rest_is j y) c.below.ensures.2 in
     let r = down_answer l c.cycles-label.ensures.label u of a b c.args.first.now c.args.from.module.0 i c.args.second.now y n o j first c.args.steps.now c.below.new.steps c.below.result ends c.in-Down.ensures.parted c.below.ensures.1 h in
-    subst (IsAnswer l.grammar (full_in v) a b i o) (sym c.verdict_by-in-Down.ensures) r
+    subst (IsAnswerOfAddresses l.grammar (full_in v) a b i o) (sym c.verdict_by-in-Down.ensures) r
 
 pub returns-in-Down-clause-cost : goal.returns-in-Down-clause-cost
 returns-in-Down-clause-cost g c most few =
@@ -139,7 +139,7 @@ returns-in-Up-clause-answer g c u a b of ends =
     let first = get_or (v.full m).rows i 0 in
     let h = subst (λ z. IsBit (way_up v (legs_of l z)) first c.args.steps.now c.above.new.steps o c.above.result) (rest_is j x) c.above.ensures in
     let r = up_answer l c.cycles-label.ensures.label u of a b c.args.first.now x m i c.args.second.now c.args.to.module.0 o j c.args.steps.now c.above.new.steps c.above.result ends c.in-Up.ensures.parted h in
-    subst (IsAnswer l.grammar (full_in v) a b i o) (sym c.verdict_by-in-Up.ensures) r
+    subst (IsAnswerOfAddresses l.grammar (full_in v) a b i o) (sym c.verdict_by-in-Up.ensures) r
 
 pub returns-in-Up-clause-cost : goal.returns-in-Up-clause-cost
 returns-in-Up-clause-cost g c most few =

@@ -7,8 +7,9 @@ use Rattle.wf_vlabel.specs.Seen.{matrices_of}
 use Rattle.wf_decode.specs.HeldLegs.{legs_of}
 use Rattle.wf_decode.specs.Products.{IsBit}
 use Rattle.wf_decode.proofs.Ways.{way_sees}
-use Rattle.wf_decode.proofs.RowBits.{bit_after, progress_one}
+use Rattle.wf_decode.proofs.RowBits.{bit_after}
 use Rattle.wf_decode.proofs.decision.products.across.Goals as goal
+use Rattle.wf_decode.proofs.Progressing.{progress_one}
 
 pub full_row-full-requires : goal.full_row-full-requires
 full_row-full-requires g c = let w = c.requires.ways in way_sees c.args.vl.now w.0 (target_of c.args.vl.now.grammar (step_of c.args.first)) c.args.first_legs.now c.args.from.module.0 w.1 w.2.first

@@ -1,7 +1,7 @@
 use Rattle.std.proofs.Common.{ap, sym, subst, ◌∙◌}
 use Rattle.wf_model.proofs.Taking.{taking_law}
 use Rattle.wf_model.specs.declared.event.Event.TheVariants.{Expand}
-use Rattle.wf_flat.specs.Table.{events_of, IsRunOf}
+use Rattle.wf_flat.specs.Table.{events_of, IsTableOf}
 use Rattle.wf_flat.proofs.Instances.{its_name}
 use Rattle.wf_flat.proofs.Steps.{run_expanded, kept_of, fresh_names, same_modules}
 use Rattle.wf_flat.proofs.table.PlainRun.take_expand.Goals as goal
@@ -39,4 +39,4 @@ returns-clause-run c =
     let body = same_modules g p _ c.positions-body.result.now c.positions-body.ensures c.production.ensures.core in
     let kept = kept_of t _ _ _ _ c.self.invariant c.self.view_is in
     let r = run_expanded g t c.requires kept c.in_ok-k.k (record { 0 = p }) c.args.names.now c.positions-body.result.now c.args.instance.now its.0 its.1 body next in
-    subst (IsRunOf g) (sym c.in_ok-expand.ensures.opened) r.1
+    subst (IsTableOf g) (sym c.in_ok-expand.ensures.opened) r.1

@@ -1,8 +1,0 @@
-use Rattle.decode_model.specs.Legs.{squares}
-use Rattle.decode_model.specs.Rows.{Progress}
-use Rattle.wf_vlabel.specs.Seen.{matrices_of}
-use Rattle.wf_decode.specs.HeldLegs.{module_on}
-use Rattle.wf_decode.proofs.rows.rounds.rounds_down.Given as goal
-
-abbrev pub invariant-loop-k : goal.invariant-loop-k
-invariant-loop-k g l = Progress (squares ((matrices_of l.vl).square_in (module_on l.vl.cycles l.cycle.0 l.place)) l.rounds l.k) l.fn.row l.row l.fn.steps l.steps

@@ -1,4 +1,0 @@
-use Rattle.wf_query.proofs.batching.batch.Given as goal
-
-abbrev pub ghosts-answer_lines : goal.ghosts-answer_lines
-ghosts-answer_lines g a = record { name = a.blank.name; parts = a.blank.parts }
