@@ -1,12 +1,12 @@
 -- Pieces of text that were put one after the other.
-use Rattle.std.proofs.Common.{◌≡◌, ℕ, ◌+◌, ◌<◌, Bool, List, [], ◌++◌, length, get_or, map, flat_map, take, drop, Option, refl, sym, ap, ◌∙◌, subst, inl, inr, append_assoc, append-nil}
+use Rattle.std.proofs.Common.{◌≡◌, ℕ, ◌+◌, ◌<◌, ◌≤◌, Bool, List, [], ◌++◌, length, get_or, map, flat_map, take, drop, Option, refl, sym, ap, ◌∙◌, subst, inl, inr, append_assoc, append-nil}
 use Rattle.std.specs.Prelude.{Result, Ok, Err, IsErrAnd, codes, decimal}
 use Rattle.std.proofs.lemmas.List.{drop_more}
 use Rattle.wf_model.specs.declared.numbers.ProdNo.{ProdNo}
 use Rattle.wf_io.specs.Told.{Rose, Appended}
 use Rattle.wf_io.proofs.Appending.{appended_none, appended_twice, begun_longer, begun_after}
 use Rattle.wf_message.specs.Refusals.{numbers_text}
-use Rattle.wf_message.specs.Puts.{IsPut, Puts}
+use Rattle.wf_message.specs.Puts.{IsPut, IsPutInPart, Puts}
 
 -- the texts of a list begin with that of the first
 pub texts_next : {A : Type 0} (f : A → List ℕ) (xs : List A) (k : ℕ) (d : A) → k < length xs → flat_map f (drop k xs) ≡ f (get_or xs k d) ++ flat_map f (drop (k + 1) xs)
@@ -26,12 +26,16 @@ module _ {S : Type 0} (bytes : S → Option (List ℕ)) (faults : S → ℕ) (la
   -- a piece was put, and then the rest
   pub puts_more : {T E : Type 0} (xs ys : List ℕ) (a b c : S) (r : Result T E) → Appended xs (bytes a) (bytes b) × (faults b ≡ faults a) → Puts bytes faults last ys b c r → Puts bytes faults last (xs ++ ys) a c r
   puts_more xs ys a b c (Ok v) p q = (appended_twice xs ys (bytes a) (bytes b) (bytes c) p.0 q.0, q.1 ∙ p.1)
-  puts_more xs ys a b c (Err e) p q = (subst (λ n. Rose n (faults c) (last c)) p.1 q.0, begun_after xs ys q.1.0 (bytes a) (bytes b) (bytes c) p.0 q.1.1)
+  puts_more xs ys a b c (Err e) p q = record {
+    rose = subst (λ n. Rose n (faults c) (last c)) p.1 q.rose;
+    later = subst (λ n. n ≤ faults c) p.1 q.later;
+    begun = begun_after xs ys q.begun.0 (bytes a) (bytes b) (bytes c) p.0 q.begun.1;
+  }
 
   -- a piece that failed, and then nothing
-  pub puts_part : {T E : Type 0} (Q : E → Type 0) (xs ys : List ℕ) (a b : S) (r : Result T E) → IsErrAnd r Q → Rose (faults a) (faults b) (last b) × ((k : ℕ) × Appended (take k xs) (bytes a) (bytes b)) → Puts bytes faults last (xs ++ ys) a b r
+  pub puts_part : {T E : Type 0} (Q : E → Type 0) (xs ys : List ℕ) (a b : S) (r : Result T E) → IsErrAnd r Q → IsPutInPart xs (bytes a) (bytes b) (faults a) (faults b) (last b) → Puts bytes faults last (xs ++ ys) a b r
   puts_part Q xs ys a b (Ok v) e h = absurd e
-  puts_part Q xs ys a b (Err y) e h = (h.0, begun_longer h.1.0 xs ys (bytes a) (bytes b) h.1.1)
+  puts_part Q xs ys a b (Err y) e h = record { rose = h.rose; later = h.later; begun = begun_longer h.begun.0 xs ys (bytes a) (bytes b) h.begun.1 }
 
   -- a piece alone
   pub puts_all : {T E : Type 0} (xs ys : List ℕ) (a b : S) (r : Result T E) → xs ≡ ys → Puts bytes faults last xs a b r → Puts bytes faults last ys a b r
@@ -67,11 +71,14 @@ module _ {S : Type 0} (bytes : S → Option (List ℕ)) (faults : S → ℕ) (la
     }
 
     -- the next piece failed
-    pub put_part : {T E : Type 0} (Q : E → Type 0) (r : Result T E) → IsErrAnd r Q → Rose (faults now) (faults new) (last new) × ((k : ℕ) × Appended (take k x) (bytes now) (bytes new)) → Puts bytes faults last all old new r
+    pub put_part : {T E : Type 0} (Q : E → Type 0) (r : Result T E) → IsErrAnd r Q → IsPutInPart x (bytes now) (bytes new) (faults now) (faults new) (last new) → Puts bytes faults last all old new r
     put_part Q r e h =
-        let begun = begun_after so_far.done x h.1.0 (bytes old) (bytes now) (bytes new) so_far.put h.1.1 in
         puts_all ((so_far.done ++ x) ++ rest) all old new r (sym whole)
-        (puts_part Q (so_far.done ++ x) rest old new r e (subst (λ n. Rose n (faults new) (last new)) so_far.count h.0, begun))
+        (puts_part Q (so_far.done ++ x) rest old new r e (record {
+          rose = subst (λ n. Rose n (faults new) (last new)) so_far.count h.rose;
+          later = subst (λ n. n ≤ faults new) so_far.count h.later;
+          begun = begun_after so_far.done x h.begun.0 (bytes old) (bytes now) (bytes new) so_far.put h.begun.1;
+        }))
 
   -- all was put
   pub put_whole : (all left : List ℕ) (old now : S) → IsPutUpTo all left old now → left ≡ [] → Appended all (bytes old) (bytes now) × (faults now ≡ faults old)

@@ -1,69 +1,64 @@
 // How the program ends, with the place of a refusal.
-ghost use Rattle.std.specs.Prelude.{◌≡◌, None, codes};
-ghost use Rattle.wf_message.specs.Endings.{end_of, Refused, long_fault};
+ghost use Rattle.std.specs.Prelude.{◌≡◌, Some, None};
+ghost use Rattle.wf_message.specs.Endings.{end_of, Refused};
 ghost use Rattle.wf_message.specs.Refusals.{refusal_text};
 
 use crate::refusal::Refusal;
 
-/// What a message is about: a file, or a label among the words.
-#[derive(Clone, Copy, Debug, PartialEq, Eq)]
-pub enum Place {
-    Spec,
-    View,
-    Events,
-    Labels,
-    Queries,
-    FirstLabel,
-    SecondLabel,
+/// What a message is about: a file, or a label among the words. It holds its word in messages.
+#[derive(Clone, Copy)]
+pub struct Place {
+    pub word: &'static [u8],
 }
 
-/// How the program ends.
+/// Why a command ends before all is done.
 #[derive(Drop)]
-pub enum Ending {
-    Done,
-    Usage,
+pub enum Stop {
     /// A file or a label is refused, or a line of a file, by its number from 1.
     Refused {
         place: Place,
         line: Option<u64>,
         refusal: Refusal,
     },
+    /// A file could not be read to its end.
     ReadFault {
         place: Place,
     },
+    /// A text could not be put whole.
     WriteFault,
+    /// Memory was refused.
     NoMemory,
 }
 
-/// The ending at a file that is refused, and no line of it is named.
-pub fn refused_whole(place: Place, refusal: Refusal) -> Ending
-    ensures { end_of result ≡ Refused place None (refusal_text refusal) }
+/// How the program ends.
+#[derive(Drop)]
+pub enum Ending {
+    /// All was done.
+    Done,
+    /// The words are those of no command.
+    Usage,
+    /// The command ended before all was done.
+    Stopped { stop: Stop },
+}
+
+/// The stop at a file or a label that is refused, and no line of it is named.
+pub fn refused_whole(place: Place, refusal: Refusal) -> Stop
+    ensures { end_of result ≡ Refused place.word.now None (refusal_text refusal) }
 {
-    Ending::Refused {
+    Stop::Refused {
         place,
         line: None,
         refusal,
     }
 }
 
-/// The ending at a file of a form that is not built yet.
-pub fn not_built(place: Place) -> Ending
-    ensures { end_of result ≡ Refused place None (codes "NotBuilt") }
+/// The stop at a line of a file that is refused, by its number from 1.
+pub fn refused_line(place: Place, line: u64, refusal: Refusal) -> Stop
+    ensures { end_of result ≡ Refused place.word.now (Some line) (refusal_text refusal) }
 {
-    refused_whole(place, Refusal::NotBuilt)
-}
-
-/// The ending at a file that is too long.
-pub fn too_long(place: Place) -> Ending
-    ensures { end_of result ≡ Refused place None (long_fault place) }
-{
-    match place {
-        Place::Spec => refused_whole(place, Refusal::TooLong),
-        Place::View => refused_whole(place, Refusal::TooLong),
-        Place::Events => not_built(place),
-        Place::Labels => refused_whole(place, Refusal::TooLong),
-        Place::Queries => not_built(place),
-        Place::FirstLabel => refused_whole(place, Refusal::TooLong),
-        Place::SecondLabel => refused_whole(place, Refusal::TooLong),
+    Stop::Refused {
+        place,
+        line: Some(line),
+        refusal,
     }
 }

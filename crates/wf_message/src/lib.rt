@@ -10,7 +10,7 @@ mod status;
 mod told;
 mod told_view;
 
-pub use ending::{Ending, Place, not_built, refused_whole, too_long};
+pub use ending::{Ending, Place, Stop, refused_line, refused_whole};
 pub use line::{status_of, tell};
 pub use names::{input_name, module_name, output_name, position_name};
 pub use pieces::{put, put_numbered, put_numbers, put_two};

@@ -1,61 +1,13 @@
-// The texts of refusals of a view, put piece by piece.
-ghost use Rattle.std.specs.Prelude.{◌≡◌, Some};
+// The text of a witness, put piece by piece.
+ghost use Rattle.std.specs.Prelude.{◌≡◌};
 ghost use Rattle.wf_message.specs.Puts.{Puts};
-ghost use Rattle.wf_message.specs.Refusals.{view_name, view_spot, behind_view_spot, view_text, joined_text, choice_text, choices_text, ports_text, productions_text, joined_choice_text, unsafe_text};
+ghost use Rattle.wf_message.specs.Refusals.{joined_text, choice_text, choices_text, ports_text, productions_text, joined_choice_text, unsafe_text};
 
 use crate::names::{input_name, module_name, output_name};
 use crate::pieces::{put, put_numbered, put_two};
 use wf_io::{Failed, Sink};
 use wf_safe::{Choice, Witness};
 use wf_spec::Grammar;
-use wf_view::{ViewFault, ViewSpot};
-
-fn view_name(fault: ViewFault) -> &'static [u8]
-    ensures { result.now ≡ view_name fault }
-{
-    match fault {
-        ViewFault::UnknownModule { at: _ } => b"UnknownModule",
-        ViewFault::NotComposite { expand: _ } => b"NotComposite",
-        ViewFault::DepsOnExpanded { deps: _ } => b"DepsOnExpanded",
-        ViewFault::UnknownPort { deps: _ } => b"UnknownPort",
-        ViewFault::ModuleTwice { at: _ } => b"ModuleTwice",
-        ViewFault::NoMemory => b"NoMemory",
-    }
-}
-
-/// The place in a view that a fault is about, if it is about one.
-fn view_spot(fault: ViewFault) -> Option<ViewSpot>
-    ensures { result ≡ view_spot fault }
-{
-    match fault {
-        ViewFault::UnknownModule { at } => Some(at),
-        ViewFault::NotComposite { expand } => Some(ViewSpot::ExpandAt(expand)),
-        ViewFault::DepsOnExpanded { deps } => Some(ViewSpot::DepsAt(deps)),
-        ViewFault::UnknownPort { deps } => Some(ViewSpot::DepsAt(deps)),
-        ViewFault::ModuleTwice { at } => Some(at),
-        ViewFault::NoMemory => None,
-    }
-}
-
-fn put_view_spot<E: Sink>(err: &mut E, at: ViewSpot) -> Result<(), Failed>
-    ensures { Puts E.put_bytes E.faults E.at_last (behind_view_spot (Some at)) err.old err.new result }
-{
-    match at {
-        ViewSpot::ExpandAt(n) => put_numbered(err, b" expand ", n),
-        ViewSpot::DepsAt(n) => put_numbered(err, b" deps ", n),
-    }
-}
-
-/// Puts the text of a fault of the parts of a view.
-pub fn put_view<E: Sink>(err: &mut E, fault: ViewFault) -> Result<(), Failed>
-    ensures { Puts E.put_bytes E.faults E.at_last (view_text fault) err.old err.new result }
-{
-    put(err, view_name(fault))?;
-    let Some(at) = view_spot(fault) else {
-        return Ok(());
-    };
-    put_view_spot(err, at)
-}
 
 fn put_productions<E: Sink>(err: &mut E, g: &Grammar, w: &Witness) -> Result<(), Failed>
     ensures { Puts E.put_bytes E.faults E.at_last (productions_text g.now.core w.now) err.old err.new result }

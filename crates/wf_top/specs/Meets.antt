@@ -1,30 +1,17 @@
 -- How a call stands to the outcome: what was put, and the line for err.
-use Rattle.std.specs.Prelude.{◌≡◌, ◌≢◌, ℕ, Bool, List, ◌++◌, take, Option, Some}
+use Rattle.std.specs.Prelude.{◌≡◌, ℕ, Bool, List, take, Option, Some}
 use Rattle.wf_io.specs.Told.{File, Appended}
 use Rattle.wf_message.specs.declared.status.Status.{Status}
-use Rattle.wf_message.specs.Endings.{End, Done, WriteFault, NoMemory, status_of, line_of}
+use Rattle.wf_message.specs.Endings.{End, status_of, line_of}
 use Rattle.wf_message.specs.Puts.{IsPut}
+use Rattle.wf_stage.specs.Ends.{IsOfOutcome}
 use Rattle.wf_top.specs.Outcome.{IsOutcome}
-
--- the end is neither want of memory nor a fault of writing
-abbrev pub IsOfOutcome : End → Type 0
-IsOfOutcome ending = (ending ≢ WriteFault) × (ending ≢ NoMemory)
 
 -- How a call ended, and what out got, stands to a relation between ends and texts.
 -- But for a fault of writing and want of memory, the end and the text are related. Whatever the end is, out got a beginning of each text that is related
 pub record EndsBy (Outcome : End → List ℕ → Type 0) (ending : End) (old new : Option (List ℕ)) : Type 0 where
   pub whole : IsOfOutcome ending → (text : List ℕ) × Outcome ending text × Appended text old new
   pub begun : (e : End) (text : List ℕ) → Outcome e text → (k : ℕ) × Appended (take k text) old new
-
--- How the rest of a call ended, behind a text that was put first.
--- But for a fault of writing and want of memory, the end is related to this text with what out got behind it. Whatever the end is, each text that is related begins with the first one, and out got a beginning of what follows it
-pub record EndsBehind (first : List ℕ) (Outcome : End → List ℕ → Type 0) (ending : End) (old new : Option (List ℕ)) : Type 0 where
-  pub whole : IsOfOutcome ending → (rest : List ℕ) × Outcome ending (first ++ rest) × Appended rest old new
-  pub begun : (e : End) (text : List ℕ) → Outcome e text → (rest : List ℕ) × (text ≡ first ++ rest) × ((k : ℕ) × Appended (take k rest) old new)
-
--- one text is written, and that is all
-abbrev pub IsWritten : List ℕ → End → List ℕ → Type 0
-IsWritten written ending text = (ending ≡ Done) × (text ≡ written)
 
 -- over a shelf that tells its files, the program ended by its outcome
 abbrev pub EndsAsTold : Option (List ℕ → File) → List (List ℕ) → End → Option (List ℕ) → Option (List ℕ) → Type 0

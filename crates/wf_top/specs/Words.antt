@@ -1,42 +1,32 @@
 -- The words that the program is called with, and the command that they are.
-use Rattle.std.specs.Prelude.{ℕ, cond, List, [], ◌∷◌, Option, Some, None, Result, Ok, Err, bytes_eq, codes}
-use Rattle.hex.specs.declared.error.FromHexError.{FromHexError}
-use Rattle.hex.specs.Hex.{decode_of}
+use Rattle.std.specs.Prelude.{◌≡◌, ℕ, List, [], ◌∷◌, Option, Some, None, option_map}
+use Rattle.cmd_describe.specs.Words.{Command as DescribeCommand, command_of as describe_command}
+use Rattle.cmd_ingest.specs.Words.{Command as IngestCommand, command_of as ingest_command}
+use Rattle.cmd_ask.specs.Words.{Command as AskCommand, command_of as ask_command, IsAsk as IsAskCommand}
+use Rattle.cmd_decide.specs.Words.{Command as DecideCommand, command_of as decide_command}
 
--- a command, by the names of the files that it reads, and the bytes of the labels that it is given
+-- a command, by its family
 pub data Command : Type 0 where
-  Check : List ℕ → Command
-  View : List ℕ → List ℕ → Command
-  Ingest : List ℕ → List ℕ → Command
-  Trace : List ℕ → List ℕ → List ℕ → List ℕ → Command
-  Ask : List ℕ → List ℕ → List ℕ → List ℕ → Command
-  Decide : List ℕ → List ℕ → List ℕ → List ℕ → Command
+  Describe : DescribeCommand → Command
+  Ingest : IngestCommand → Command
+  Ask : AskCommand → Command
+  Decide : DecideCommand → Command
 
--- `decide` of two files and of two words, which are hexadecimal digits of either case, two for each byte of a label
-abbrev pub decide_of : List ℕ → List ℕ → Result (List ℕ) FromHexError → Result (List ℕ) FromHexError → Option Command
-decide_of s v (Ok x) (Ok y) = Some (Decide s v x y)
-decide_of s v (Ok x) (Err e) = None
-decide_of s v (Err e) y = None
+-- the first of these that is something
+abbrev pub first_of : {A : Type 0} → List (Option A) → Option A
+first_of [] = None
+first_of (None ∷ others) = first_of others
+first_of (Some a ∷ others) = Some a
 
--- the command that the words are: its name and one word per file or label
+-- the command that the words are: that of the first family that takes them
 abbrev pub command_of : List (List ℕ) → Option Command
-command_of [] = None
-command_of (c ∷ []) = None
-command_of (c ∷ s ∷ []) = cond (bytes_eq c (codes "check")) (Some (Check s)) None
-command_of (c ∷ s ∷ v ∷ []) = cond (bytes_eq c (codes "view")) (Some (View s v)) (cond (bytes_eq c (codes "ingest")) (Some (Ingest s v)) None)
-command_of (c ∷ s ∷ v ∷ e ∷ []) = None
-command_of (c ∷ s ∷ v ∷ e ∷ q ∷ []) =
-    cond (bytes_eq c (codes "trace")) (Some (Trace s v e q))
-    (cond (bytes_eq c (codes "ask")) (Some (Ask s v e q))
-    (cond (bytes_eq c (codes "decide")) (decide_of s v (decode_of e) (decode_of q)) None))
-command_of (c ∷ s ∷ v ∷ e ∷ q ∷ w ∷ ws) = None
+command_of words =
+    first_of (
+    option_map Describe (describe_command words) ∷
+    option_map Ingest (ingest_command words) ∷
+    option_map Ask (ask_command words) ∷
+    option_map Decide (decide_command words) ∷ [])
 
 -- the command is `ask`
 abbrev pub IsAsk : Option Command → Type 0
-IsAsk None = ⊥
-IsAsk (Some (Check s)) = ⊥
-IsAsk (Some (View s v)) = ⊥
-IsAsk (Some (Ingest s e)) = ⊥
-IsAsk (Some (Trace s v e q)) = ⊥
-IsAsk (Some (Ask s v l q)) = Unit {0}
-IsAsk (Some (Decide s v x y)) = ⊥
+IsAsk command = (c : AskCommand) × (command ≡ Some (Ask c)) × IsAskCommand c

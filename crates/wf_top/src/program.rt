@@ -1,20 +1,12 @@
 // All that the program does.
-ghost use Rattle.std.specs.Prelude.{◌≡◌, ◌↔◌, ◌≤◌, ℕ, List, Some, None, map, IfErr};
-ghost use Rattle.wf_io.specs.Told.{File, Rose};
+ghost use Rattle.std.specs.Prelude.{◌≡◌, ◌↔◌, ◌≤◌, None, map};
+ghost use Rattle.wf_io.specs.Told.{Rose};
+ghost use Rattle.wf_message.specs.Endings.{end_by, status_of, NoMemory};
 ghost use Rattle.wf_top.specs.Words.{command_of, IsAsk};
-ghost use Rattle.wf_top.specs.Called.{meant, HasDigits};
-ghost use Rattle.wf_message.specs.Endings.{end_of, end_after, NoMemory};
-ghost use Rattle.wf_top.specs.Outcome.{Does};
-ghost use Rattle.wf_top.specs.Meets.{HasEnded, EndsAsTold, EndsBy};
-ghost use Rattle.wf_top.specs.Stages.{IsCause, IsStop};
+ghost use Rattle.wf_top.specs.Meets.{HasEnded, EndsAsTold};
+ghost use Rattle.wf_top.specs.Counts.{HasCounts};
 
-use crate::asking::ask;
-use crate::check::check;
-use crate::command::{Command, command_of};
-use crate::deciding::decide;
-use crate::ingest::ingest;
-use crate::show::show;
-use crate::trace::trace;
+use crate::command::{command_of, obey};
 use std::alloc::Global;
 use wf_io::{Shelf, Sink};
 use wf_message::{Ending, Status, status_of, tell};
@@ -41,11 +33,17 @@ pub fn run<H: Shelf, O: Sink, E: Sink>(
 ) -> Status
     ensures ended { HasEnded (H.files shelf.old) (map (λ w. w.now) words.now) result (O.put_bytes out.old) (O.put_bytes out.new) (E.put_bytes err.old) (E.put_bytes err.new) (E.faults err.old) (E.faults err.new) (E.at_last err.new) }
     ensures usage { (result ≡ Status.Usage) ↔ (command_of (map (λ w. w.now) words.now) ≡ None) }
-    ensures quiet { result ≡ Status.Usage → (O.put_bytes out.new ≡ O.put_bytes out.old) × (H.faults shelf.new ≡ H.faults shelf.old) }
-    ensures read { result ≡ Status.ReadFault → Rose (H.faults shelf.old) (H.faults shelf.new) (H.at_last shelf.new) }
+    ensures quiet { result ≡ Status.Usage → (O.put_bytes out.new ≡ O.put_bytes out.old) × (H.faults shelf.new ≡ H.faults shelf.old) × (O.faults out.new ≡ O.faults out.old) }
+    ensures done { result ≡ Status.Done → (H.faults shelf.new ≡ H.faults shelf.old) × (O.faults out.new ≡ O.faults out.old) }
+    ensures refused { result ≡ Status.Refused → (H.faults shelf.new ≡ H.faults shelf.old) × (O.faults out.new ≡ O.faults out.old) }
+    ensures read { result ≡ Status.ReadFault → Rose (H.faults shelf.old) (H.faults shelf.new) (H.at_last shelf.new) × (O.faults out.new ≡ O.faults out.old) }
     ensures write { result ≡ Status.WriteFault → Rose (O.faults out.old) (O.faults out.new) (O.at_last out.new) × (H.faults shelf.new ≡ H.faults shelf.old) }
-    ensures untouched { result ≡ Status.NoMemory → IsAsk (command_of (map (λ w. w.now) words.now)) → O.put_bytes out.new ≡ O.put_bytes out.old }
+    ensures wanting { result ≡ Status.NoMemory → (H.faults shelf.new ≡ H.faults shelf.old) × (O.faults out.new ≡ O.faults out.old) }
+    ensures untouched { result ≡ Status.NoMemory → IsAsk (command_of (map (λ w. w.now) words.now)) → (O.put_bytes out.new ≡ O.put_bytes out.old) × (O.faults out.new ≡ O.faults out.old) }
     ensures same { H.files shelf.new ≡ H.files shelf.old }
+    ensures later { H.faults shelf.old ≤ H.faults shelf.new }
+    ensures put_later { O.faults out.old ≤ O.faults out.new }
+    ensures told_later { E.faults err.old ≤ E.faults err.new }
 {
     let ending = perform(alloc, words, shelf, out);
     tell(err, &ending);
@@ -54,43 +52,20 @@ pub fn run<H: Shelf, O: Sink, E: Sink>(
 
 /// Does what the words say, but for the line on `err`.
 fn perform<H: Shelf, O: Sink>(alloc: Global, words: &[&str], shelf: &mut H, out: &mut O) -> Ending
-    ensures outcome { EndsAsTold (H.files shelf.old) (map (λ w. w.now) words.now) (end_of result) (O.put_bytes out.old) (O.put_bytes out.new) }
+    ensures outcome { EndsAsTold (H.files shelf.old) (map (λ w. w.now) words.now) (end_by result) (O.put_bytes out.old) (O.put_bytes out.new) }
     ensures usage { (result ≡ Ending.Usage) ↔ (command_of (map (λ w. w.now) words.now) ≡ None) }
-    ensures quiet { result ≡ Ending.Usage → (O.put_bytes out.new ≡ O.put_bytes out.old) × (H.faults shelf.new ≡ H.faults shelf.old) }
-    ensures cause { IsCause (H.faults shelf.old) (H.faults shelf.new) (H.at_last shelf.new) (O.faults out.old) (O.faults out.new) (O.at_last out.new) (end_of result) }
-    ensures untouched { end_of result ≡ NoMemory → IsAsk (command_of (map (λ w. w.now) words.now)) → O.put_bytes out.new ≡ O.put_bytes out.old }
+    ensures quiet { result ≡ Ending.Usage → O.put_bytes out.new ≡ O.put_bytes out.old }
+    ensures counts { HasCounts (H.faults shelf.old) (H.faults shelf.new) (H.at_last shelf.new) (O.faults out.old) (O.faults out.new) (O.at_last out.new) (status_of (end_by result)) }
+    ensures untouched { end_by result ≡ NoMemory → IsAsk (command_of (map (λ w. w.now) words.now)) → O.put_bytes out.new ≡ O.put_bytes out.old }
     ensures same { H.files shelf.new ≡ H.files shelf.old }
+    ensures later { H.faults shelf.old ≤ H.faults shelf.new }
+    ensures put_later { O.faults out.old ≤ O.faults out.new }
 {
     let Some(command) = command_of(words) else {
         return Ending::Usage;
     };
     match obey(alloc, &command, shelf, out) {
         Ok(()) => Ending::Done,
-        Err(ending) => ending,
-    }
-}
-
-/// Does a command.
-fn obey<H: Shelf, O: Sink>(
-    alloc: Global,
-    command: &Command<'_>,
-    shelf: &mut H,
-    out: &mut O,
-) -> Result<(), Ending>
-    requires { HasDigits command.now }
-    ensures ends { (f : List ℕ → File) → H.files shelf.old ≡ Some f → EndsBy (Does f (Some (meant command.now))) (end_after result) (O.put_bytes out.old) (O.put_bytes out.new) }
-    ensures stop { IfErr result (λ e. IsStop (end_of e)) }
-    ensures untouched { IfErr result (λ e. end_of e ≡ NoMemory → IsAsk (Some (meant command.now)) → O.put_bytes out.new ≡ O.put_bytes out.old) }
-    ensures cause { IfErr result (λ e. IsCause (H.faults shelf.old) (H.faults shelf.new) (H.at_last shelf.new) (O.faults out.old) (O.faults out.new) (O.at_last out.new) (end_of e)) }
-    ensures same { H.files shelf.new ≡ H.files shelf.old }
-    ensures later { H.faults shelf.old ≤ H.faults shelf.new }
-{
-    match command {
-        Command::Check { spec } => check(alloc, spec, shelf, out),
-        Command::View { spec, view } => show(alloc, spec, view, shelf, out),
-        Command::Ingest { spec, events } => ingest(alloc, spec, events, shelf, out),
-        Command::Trace { words } => trace(alloc, words, shelf, out),
-        Command::Ask { words } => ask(alloc, words, shelf, out),
-        Command::Decide { words } => decide(alloc, words, shelf, out),
+        Err(stop) => Ending::Stopped { stop },
     }
 }

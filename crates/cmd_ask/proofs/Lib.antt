@@ -1,0 +1,9 @@
+pub mod Answered
+pub mod AnsweredLines
+pub mod LabelsHeld
+pub mod NamedItems
+pub mod NoMemoryOfLines
+pub mod OneWord
+pub mod PathAnswers
+pub mod PendingItems
+pub mod RunAnswered

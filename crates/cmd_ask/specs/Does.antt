@@ -1,0 +1,61 @@
+-- What `trace` and `ask` do.
+use Rattle.std.specs.Prelude.{◌≡◌, ℕ, List, [], Some, codes}
+use Rattle.wf_model.specs.Grammar.{Grammar}
+use Rattle.wf_model.specs.View.{View}
+use Rattle.wf_io.specs.Told.{File}
+use Rattle.wf_io.specs.Lines.{Line}
+use Rattle.wf_query.specs.Answers.{IsAnswerText}
+use Rattle.wf_query.specs.Lines.{Ended, All, WrongAt, TooLongAt, AreAnswered}
+use Rattle.wf_message.specs.Endings.{End, Done, Refused}
+use Rattle.wf_stage.specs.Stages.{Stage, OfWhole, RefusesNone, TellsLines}
+use Rattle.wf_inputs.specs.Inputs.{events_kind, labels_kind, queries_kind, instance_most, SpecStage, ViewStage}
+use Rattle.wf_inputs.specs.RunTold.{TellsRun, RefusesRun}
+use Rattle.wf_inputs.specs.LabelsTold.{TellsEntries, RefusesLabels}
+use Rattle.cmd_ask.specs.declared.command.Command.{Command as CommandHeld}
+use Rattle.cmd_ask.specs.declared.command.Command.TheVariants.{Trace as TracesHeld, Ask as AsksHeld}
+use Rattle.cmd_ask.specs.Answers.{IsAnswerOfRun}
+use Rattle.cmd_ask.specs.Words.{Command, Trace, Ask}
+
+-- how a command ends where lines of queries ended so
+abbrev pub end_of_lines : Ended → End
+end_of_lines All = Done
+end_of_lines (WrongAt n) = Refused (codes "queries") (Some n) (codes "LineWrong")
+end_of_lines (TooLongAt n) = Refused (codes "queries") (Some n) (codes "LineTooLong")
+
+-- lines of queries are answered by this relation of two names and a word, up to the first that is too long or asks nothing
+abbrev pub AnswersLines : (List ℕ → List ℕ → List ℕ → Type 0) → List Line → End → List ℕ → Type 0
+AnswersLines Answers lines ending text = (e : Ended) × AreAnswered Answers lines e text × (ending ≡ end_of_lines e)
+
+-- QUERIES, answered by a relation of two names and a word
+abbrev pub QueriesStage : (List ℕ → List ℕ → List ℕ → Type 0) → File → End → List ℕ → Type 0
+QueriesStage Answers queries = Stage queries_kind [] queries TellsLines RefusesNone (AnswersLines Answers)
+
+-- EVENTS and QUERIES under a view
+abbrev pub AnswersRun : Grammar → View → File → File → End → List ℕ → Type 0
+AnswersRun g u events queries = Stage events_kind [] events (TellsRun g instance_most) (RefusesRun g instance_most) (λ e. QueriesStage (IsAnswerOfRun g u e) queries)
+
+-- VIEW, EVENTS and QUERIES of a grammar
+abbrev pub AnswersView : Grammar → File → File → File → End → List ℕ → Type 0
+AnswersView g view events queries = ViewStage g view (λ u. AnswersRun g u events queries)
+
+-- `trace` over the four files
+abbrev pub Traces : File → File → File → File → End → List ℕ → Type 0
+Traces spec view events queries = SpecStage spec (λ g. AnswersView g view events queries)
+
+-- LABELS and QUERIES under a view
+abbrev pub AnswersLabels : Grammar → View → File → File → End → List ℕ → Type 0
+AnswersLabels g u labels queries = Stage labels_kind [] labels (TellsEntries g) (OfWhole (RefusesLabels g)) (λ entries. QueriesStage (IsAnswerText g u entries) queries)
+
+-- `ask` over the four files
+abbrev pub Asks : File → File → File → File → End → List ℕ → Type 0
+Asks spec view labels queries = SpecStage spec (λ g. ViewStage g view (λ u. AnswersLabels g u labels queries))
+
+-- the command that a value is
+abbrev pub meant : CommandHeld → Command
+meant (TracesHeld w) = Trace w.spec.now w.view.now w.events.now w.queries.now
+meant (AsksHeld w) = Ask w.spec.now w.view.now w.labels.now w.queries.now
+
+-- what a command does over files
+abbrev pub Does : (List ℕ → File) → Command → End → List ℕ → Type 0
+Does files (Trace s v e q) = Traces (files s) (files v) (files e) (files q)
+Does files (Ask s v l q) = Asks (files s) (files v) (files l) (files q)

@@ -1,0 +1,23 @@
+-- The words of `trace` and `ask`.
+use Rattle.std.specs.Prelude.{ℕ, cond, List, [], ◌∷◌, Option, Some, None, bytes_eq, codes}
+
+-- a command, by the names of the files that it reads
+pub data Command : Type 0 where
+  Trace : List ℕ → List ℕ → List ℕ → List ℕ → Command
+  Ask : List ℕ → List ℕ → List ℕ → List ℕ → Command
+
+-- the command that words are, if they are one of these: its name and a word for each file
+abbrev pub command_of : List (List ℕ) → Option Command
+command_of [] = None
+command_of (c ∷ []) = None
+command_of (c ∷ s ∷ []) = None
+command_of (c ∷ s ∷ v ∷ []) = None
+command_of (c ∷ s ∷ v ∷ t ∷ []) = None
+command_of (c ∷ s ∷ v ∷ t ∷ q ∷ []) =
+    cond (bytes_eq c (codes "trace")) (Some (Trace s v t q)) (cond (bytes_eq c (codes "ask")) (Some (Ask s v t q)) None)
+command_of (c ∷ s ∷ v ∷ t ∷ q ∷ w ∷ ws) = None
+
+-- the command is `ask`
+abbrev pub IsAsk : Command → Type 0
+IsAsk (Trace s v e q) = ⊥
+IsAsk (Ask s v l q) = Unit {0}

@@ -1,0 +1,72 @@
+// Answers to queries on a run.
+ghost use Rattle.std.specs.Prelude.{IfOk, length, option_map};
+ghost use Rattle.wf_flat.specs.Table.{names_in};
+ghost use Rattle.wf_flat.specs.Graph.{named_port, named_links};
+ghost use Rattle.wf_flat.specs.Item.{IsItemWithin};
+ghost use Rattle.wf_query.specs.Answers.{answer_text};
+ghost use Rattle.cmd_ask.specs.Prepared.{TellsPath};
+ghost use Rattle.cmd_ask.specs.Told.{IsReady, IsToldBy};
+
+use crate::prepared::Prepared;
+use std::alloc::AllocError;
+use wf_flat::{Item, find_item};
+use wf_query::{Answer, Answerer, Query};
+
+/// Whether a path leads from where the first item is consumed to where the second is produced. Fails only for want of memory.
+fn path_answer(p: &Prepared<'_>, first: Item, second: Item) -> Result<Answer, AllocError>
+    requires ready { IsReady p.now }
+    requires first { IsItemWithin (length p.now.run.now.instances) first }
+    requires second { IsItemWithin (length p.now.run.now.instances) second }
+    ensures { IfOk result (TellsPath (named_links (names_in p.now.run.now.instances) p.now.flat.links) (option_map (named_port (names_in p.now.run.now.instances)) first.to) (option_map (named_port (names_in p.now.run.now.instances)) second.from)) }
+{
+    let Some(from) = first.to else {
+        return Ok(Answer::No);
+    };
+    let Some(to) = second.from else {
+        return Ok(Answer::No);
+    };
+    let joined = p.flat.joined(p.alloc, from, to)?;
+    if joined {
+        return Ok(Answer::Yes);
+    }
+    Ok(Answer::No)
+}
+
+/// The answer to a query, whether the second item depends on the first: unknown where either name is that of no item; hidden where either item is not visible under the view; and otherwise yes or no, which hold however the run is finished.
+///
+/// Cost: two items found by hashing, and one search in the links of the run. Fails only for want of memory.
+fn answer(p: &Prepared<'_>, query: &Query<'_>) -> Result<Answer, AllocError>
+    requires { IsReady p.now }
+    ensures { IfOk result (λ a. IsToldBy p.now query.now.first.now query.now.second.now (answer_text a)) }
+{
+    let Some(a) = find_item(&p.viewed.spec.grammar, p.run, query.first) else {
+        return Ok(Answer::Unknown);
+    };
+    let Some(b) = find_item(&p.viewed.spec.grammar, p.run, query.second) else {
+        return Ok(Answer::Unknown);
+    };
+    if !p.flat.shows(&a) {
+        return Ok(Answer::Hidden);
+    }
+    if !p.flat.shows(&b) {
+        return Ok(Answer::Hidden);
+    }
+    let told = path_answer(p, a, b)?;
+    Ok(told)
+}
+
+impl Answerer for Prepared<'_> {
+    ghost is_ready = { λ p. IsReady p };
+
+    ghost Known = { Unit {0} };
+
+    ghost is_known = { λ p k. Unit {0} };
+
+    ghost words = { λ p k. IsToldBy p };
+
+    ghost wants_memory = { Unit {0} };
+
+    fn answer(&mut self, query: &Query<'_>) -> Result<Answer, AllocError> {
+        answer(self, query)
+    }
+}

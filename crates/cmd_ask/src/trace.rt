@@ -1,0 +1,111 @@
+// `trace`: SPEC, VIEW and EVENTS, and then the answers to QUERIES from the run.
+ghost use Rattle.std.specs.Prelude.{◌≡◌, [], IfOk};
+ghost use Rattle.wf_flat.specs.Table.{IsTableOf, events_of};
+ghost use Rattle.wf_message.specs.Endings.{end_after};
+ghost use Rattle.wf_stage.specs.Promises.{Obeys};
+ghost use Rattle.wf_inputs.specs.Viewed.{IsViewTaken};
+ghost use Rattle.cmd_ask.specs.Answers.{IsAnswerOfRun};
+ghost use Rattle.cmd_ask.specs.Told.{IsReady, IsToldBy};
+ghost use Rattle.cmd_ask.specs.Does.{QueriesStage, AnswersRun, Traces};
+
+use crate::prepared::Prepared;
+use crate::stop::stop_at;
+use std::alloc::{AllocError, Global};
+use wf_flat::{Flat, PlainRun};
+use wf_inputs::{QUERIES, Viewed, events_stage, spec_stage, view_stage};
+use wf_io::{Shelf, Sink};
+use wf_message::Stop;
+use wf_query::answer_lines;
+use wf_stage::read_file;
+
+/// The names of the files that `trace` reads, in this order.
+#[derive(Clone, Copy)]
+pub struct TraceWords<'w> {
+    pub spec: &'w str,
+    pub view: &'w str,
+    pub events: &'w str,
+    pub queries: &'w str,
+}
+
+/// A run with its links, as queries need it. Fails only for want of memory.
+fn prepare<'p>(alloc: Global, v: &'p Viewed, run: &'p PlainRun) -> Result<Prepared<'p>, AllocError>
+    requires viewed { IsViewTaken v.now }
+    requires run { IsTableOf v.now.spec.grammar.core run.now }
+    ensures viewed { IfOk result (λ p. p.viewed.now ≡ v.now) }
+    ensures run { IfOk result (λ p. p.run.now ≡ run.now) }
+    ensures ready { IfOk result (λ p. IsReady p) }
+{
+    let flat = Flat::of(alloc, &v.spec.grammar, run, v.view.marks(), v.full.deps())?;
+    Ok(Prepared {
+        alloc,
+        viewed: v,
+        run,
+        flat,
+    })
+}
+
+/// Answers the queries of a file on a run that is prepared.
+fn answer_prepared<H: Shelf, O: Sink>(
+    alloc: Global,
+    p: &mut Prepared<'_>,
+    name: &str,
+    shelf: &mut H,
+    out: &mut O,
+) -> Result<(), Stop>
+    requires { IsReady p.old }
+    ensures obeys { Obeys H.files H.faults H.at_last O.put_bytes O.faults O.at_last [] (λ f. QueriesStage (IsToldBy p.old) (f name.now)) shelf.old shelf.new out.old out.new (end_after result) }
+{
+    let bytes = read_file(alloc, shelf, name, QUERIES)?;
+    match answer_lines(p, &bytes, out) {
+        Ok(_) => Ok(()),
+        Err(fault) => Err(stop_at(fault)),
+    }
+}
+
+/// Answers the queries of a file on a run, under a view.
+fn answer_run<H: Shelf, O: Sink>(
+    alloc: Global,
+    v: &Viewed,
+    run: &PlainRun,
+    name: &str,
+    shelf: &mut H,
+    out: &mut O,
+) -> Result<(), Stop>
+    requires viewed { IsViewTaken v.now }
+    requires run { IsTableOf v.now.spec.grammar.core run.now }
+    ensures obeys { Obeys H.files H.faults H.at_last O.put_bytes O.faults O.at_last [] (λ f. QueriesStage (IsAnswerOfRun v.now.spec.grammar.core v.now.view.core (events_of run.now)) (f name.now)) shelf.old shelf.new out.old out.new (end_after result) }
+{
+    let Ok(mut p) = prepare(alloc, v, run) else {
+        return Err(Stop::NoMemory);
+    };
+    answer_prepared(alloc, &mut p, name, shelf, out)
+}
+
+/// Takes EVENTS and QUERIES under a view.
+fn answer_events<H: Shelf, O: Sink>(
+    alloc: Global,
+    v: &Viewed,
+    words: &TraceWords<'_>,
+    shelf: &mut H,
+    out: &mut O,
+) -> Result<(), Stop>
+    requires viewed { IsViewTaken v.now }
+    ensures obeys { Obeys H.files H.faults H.at_last O.put_bytes O.faults O.at_last [] (λ f. AnswersRun v.now.spec.grammar.core v.now.view.core (f words.now.events.now) (f words.now.queries.now)) shelf.old shelf.new out.old out.new (end_after result) }
+{
+    let run = events_stage(alloc, shelf, words.events, &v.spec.grammar)?;
+    answer_run(alloc, v, &run, words.queries, shelf, out)
+}
+
+/// Answers the queries on a run of a grammar, however it is finished under a safe view, by the search in its graph: pending instances have the pairs that each of their expansions joins.
+pub fn trace<H: Shelf, O: Sink>(
+    alloc: Global,
+    words: &TraceWords<'_>,
+    shelf: &mut H,
+    out: &mut O,
+) -> Result<(), Stop>
+    ensures obeys { Obeys H.files H.faults H.at_last O.put_bytes O.faults O.at_last [] (λ f. Traces (f words.now.spec.now) (f words.now.view.now) (f words.now.events.now) (f words.now.queries.now)) shelf.old shelf.new out.old out.new (end_after result) }
+{
+    let spec = spec_stage(alloc, shelf, words.spec)?;
+    let viewed = view_stage(alloc, shelf, words.view, spec)?;
+    answer_events(alloc, &viewed, words, shelf, out)
+}

@@ -1,0 +1,12 @@
+use Rattle.std.proofs.Common.{subst, sym}
+use Rattle.wf_model.specs.Grammar.{Grammar}
+use Rattle.label_model.specs.Labels.{IsLabel}
+use Rattle.verdict_model.specs.Verdicts.{IsVerdict}
+use Rattle.cmd_decide.proofs.verdict.verdict_of.Goals as goal
+
+-- the view label is of the same grammar
+pub returns-clause-verdict : goal.returns-clause-verdict
+returns-clause-verdict c x y first second of other =
+    let same = c.in-Ok.ensures.grammar in
+    subst (λ (g : Grammar). IsVerdict g c.args.v.now.view.core x y c.decided.result) same
+    (c.decided.ensures c.args.v.now.view.core x y c.in-Ok.ensures.label (subst (λ (g : Grammar). IsLabel g x) (sym same) first) (subst (λ (g : Grammar). IsLabel g y) (sym same) second) of other)

@@ -1,0 +1,96 @@
+// `decide`: SPEC and VIEW, and then what two labels tell under the view.
+ghost use Rattle.std.specs.Prelude.{◌≡◌, ◌++◌, [], None, IfOk, IfErr, codes};
+ghost use Rattle.bit_pack.specs.Bits.{Holds};
+ghost use Rattle.hex.specs.Hex.{decode_of};
+ghost use Rattle.label_model.specs.Reading.{IsLabelBytes};
+ghost use Rattle.wf_label.specs.Values.{AreLabelBits};
+ghost use Rattle.wf_message.specs.Endings.{end_of, end_after, Refused, NoMemory};
+ghost use Rattle.wf_stage.specs.Promises.{Writes, Obeys};
+ghost use Rattle.wf_inputs.specs.Viewed.{IsTaken, IsViewTaken};
+ghost use Rattle.cmd_decide.specs.Words.{AreDigits, bytes_in};
+ghost use Rattle.cmd_decide.specs.Decided.{DecidesLabels, verdict_text};
+ghost use Rattle.cmd_decide.specs.Does.{Decides};
+
+use crate::verdict::verdict_of;
+use crate::words::DecideWords;
+use std::alloc::Global;
+use verdict_model::Verdict;
+use wf_inputs::{Spec, Viewed, named, spec_stage, view_stage};
+use wf_io::{Shelf, Sink};
+use wf_label::LabelRef;
+use wf_message::{Place, Stop, refused_whole};
+use wf_stage::put_text;
+
+/// The two labels among the words.
+const FIRST: Place = Place { word: b"label 1" };
+
+const SECOND: Place = Place { word: b"label 2" };
+
+/// The words of a verdict, and a newline.
+fn verdict_line(verdict: Verdict) -> &'static [u8]
+    ensures { result.now ≡ verdict_text verdict ++ codes "\n" }
+{
+    match verdict {
+        Verdict::Hidden1 => b"hidden 1\n",
+        Verdict::Hidden2 => b"hidden 2\n",
+        Verdict::Clash => b"clash\n",
+        Verdict::Yes => b"yes\n",
+        Verdict::No => b"no\n",
+    }
+}
+
+/// The bytes of hexadecimal digits. Fails only for want of memory.
+fn bytes_of(alloc: Global, word: &str) -> Result<Vec<u8>, Stop>
+    requires { AreDigits word.now }
+    ensures bytes { IfOk result (λ bytes. bytes.items ≡ bytes_in (decode_of word.now)) }
+    ensures memory { IfErr result (λ e. end_of e ≡ NoMemory) }
+{
+    match hex::decode(alloc, word) {
+        Ok(bytes) => Ok(bytes),
+        Err(_) => Err(Stop::NoMemory),
+    }
+}
+
+/// The label that bytes are, refused as Malformed at its place among the words.
+fn label_of<'a>(spec: &Spec, place: Place, bytes: &'a [u8]) -> Result<LabelRef<'a>, Stop>
+    requires spec { IsTaken spec.now }
+    ensures label { IfOk result (λ r. AreLabelBits spec.now.grammar.core r × Holds bytes.now r) }
+    ensures malformed { IfErr result (λ e. (IsLabelBytes spec.now.grammar.core bytes.now → ⊥) × (end_of e ≡ Refused place.word.now None (codes "Malformed"))) }
+{
+    match LabelRef::check(&spec.grammar, &spec.cycles, bytes) {
+        Ok(label) => Ok(label),
+        Err(_) => Err(refused_whole(place, named(b"Malformed"))),
+    }
+}
+
+/// Puts the verdict on two labels, which are tried in order.
+fn put_verdict<O: Sink>(
+    alloc: Global,
+    v: &Viewed,
+    words: &DecideWords<'_>,
+    out: &mut O,
+) -> Result<(), Stop>
+    requires viewed { IsViewTaken v.now }
+    ensures writes { Writes O.put_bytes O.faults O.at_last [] (DecidesLabels v.now.spec.grammar.core v.now.view.core (bytes_in (decode_of words.now.first.now)) (bytes_in (decode_of words.now.second.now))) out.old out.new (end_after result) }
+{
+    let first_bytes = bytes_of(alloc, words.first)?;
+    let second_bytes = bytes_of(alloc, words.second)?;
+    let first = label_of(&v.spec, FIRST, &first_bytes)?;
+    let second = label_of(&v.spec, SECOND, &second_bytes)?;
+    let verdict = verdict_of(alloc, v, first, second)?;
+    put_text(out, verdict_line(verdict))
+}
+
+/// Writes what two labels tell under a safe view.
+pub fn decide<H: Shelf, O: Sink>(
+    alloc: Global,
+    words: &DecideWords<'_>,
+    shelf: &mut H,
+    out: &mut O,
+) -> Result<(), Stop>
+    ensures obeys { Obeys H.files H.faults H.at_last O.put_bytes O.faults O.at_last [] (λ f. Decides (f words.now.spec.now) (f words.now.view.now) (bytes_in (decode_of words.now.first.now)) (bytes_in (decode_of words.now.second.now))) shelf.old shelf.new out.old out.new (end_after result) }
+{
+    let spec = spec_stage(alloc, shelf, words.spec)?;
+    let viewed = view_stage(alloc, shelf, words.view, spec)?;
+    put_verdict(alloc, &viewed, words, out)
+}

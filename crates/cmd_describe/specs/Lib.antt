@@ -1,0 +1,4 @@
+pub mod CheckText
+pub mod ViewText
+pub mod Words
+pub mod Does

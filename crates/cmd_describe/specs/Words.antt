@@ -1,0 +1,15 @@
+-- The words of `check` and `view`.
+use Rattle.std.specs.Prelude.{ℕ, cond, List, [], ◌∷◌, Option, Some, None, bytes_eq, codes}
+
+-- a command, by the names of the files that it reads
+pub data Command : Type 0 where
+  Check : List ℕ → Command
+  View : List ℕ → List ℕ → Command
+
+-- the command that words are, if they are one of these: its name and a word for each file
+abbrev pub command_of : List (List ℕ) → Option Command
+command_of [] = None
+command_of (c ∷ []) = None
+command_of (c ∷ s ∷ []) = cond (bytes_eq c (codes "check")) (Some (Check s)) None
+command_of (c ∷ s ∷ v ∷ []) = cond (bytes_eq c (codes "view")) (Some (View s v)) None
+command_of (c ∷ s ∷ v ∷ w ∷ ws) = None

@@ -1,0 +1,57 @@
+// The words of `check` and `view`, and what they do.
+ghost use Rattle.std.specs.Prelude.{◌≡◌, [], Some, None, map, MatchOption};
+ghost use Rattle.wf_message.specs.Endings.{end_after};
+ghost use Rattle.wf_stage.specs.Promises.{Obeys};
+ghost use Rattle.cmd_describe.specs.Words.{command_of};
+ghost use Rattle.cmd_describe.specs.Does.{meant, Does};
+
+use crate::check::check;
+use crate::view::describe_view;
+use std::alloc::Global;
+use wf_io::{Shelf, Sink};
+use wf_message::Stop;
+
+/// A command, with the names of the files that it reads.
+#[derive(Clone, Copy)]
+pub enum Command<'w> {
+    Check { spec: &'w str },
+    View { spec: &'w str, view: &'w str },
+}
+
+/// The command that the words are, if they are one of these.
+pub fn command_of<'w>(words: &'w [&'w str]) -> Option<Command<'w>>
+    ensures { MatchOption result (command_of (map (λ w. w.now) words.now) ≡ None) (λ c. command_of (map (λ w. w.now) words.now) ≡ Some (meant c)) }
+{
+    match words {
+        [command, spec] => {
+            if *command == "check" {
+                Some(Command::Check { spec })
+            } else {
+                None
+            }
+        }
+        [command, spec, view] => {
+            if *command == "view" {
+                Some(Command::View { spec, view })
+            } else {
+                None
+            }
+        }
+        _ => None,
+    }
+}
+
+/// Does a command.
+pub fn obey<H: Shelf, O: Sink>(
+    alloc: Global,
+    command: &Command<'_>,
+    shelf: &mut H,
+    out: &mut O,
+) -> Result<(), Stop>
+    ensures obeys { Obeys H.files H.faults H.at_last O.put_bytes O.faults O.at_last [] (λ f. Does f (meant command.now)) shelf.old shelf.new out.old out.new (end_after result) }
+{
+    match command {
+        Command::Check { spec } => check(alloc, spec, shelf, out),
+        Command::View { spec, view } => describe_view(alloc, spec, view, shelf, out),
+    }
+}

@@ -1,0 +1,5 @@
+pub mod HeadFirst
+pub mod Ingesting
+pub mod Labelling
+pub mod LineStage
+pub mod TakenLines

@@ -1,0 +1,4 @@
+pub mod Words
+pub mod Ingested
+pub mod Labelled
+pub mod Does

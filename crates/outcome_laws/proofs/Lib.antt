@@ -1,0 +1,16 @@
+pub mod AllIngested
+pub mod AnswersCarried
+pub mod AskIsTrace
+pub mod GrownLines
+pub mod IngestGrows
+pub mod LabelEntries
+pub mod LabelsAnswer
+pub mod LabelsTell
+pub mod OneAnswering
+pub mod OneDeciding
+pub mod OneDescription
+pub mod OneIngestion
+pub mod OneStages
+pub mod OutcomeLaws
+pub mod SameInstances
+pub mod StagesCarried

@@ -1,0 +1,42 @@
+-- The stages of SPEC, VIEW and QUERIES have one outcome where what follows has.
+use Rattle.std.proofs.Common.{◌≡◌, ℕ, List, [], sym, ap, ◌∙◌}
+use Rattle.wf_model.specs.Grammar.{Grammar}
+use Rattle.wf_model.specs.View.{View}
+use Rattle.wf_io.specs.Told.{File}
+use Rattle.wf_query.specs.Lines.{IsOneWord}
+use Rattle.wf_query.proofs.OneEnding.{one_ending}
+use Rattle.wf_message.specs.Endings.{End}
+use Rattle.wf_stage.specs.Stages.{OfWhole, RefusesNone, TellsLines}
+use Rattle.wf_stage.proofs.TwoStages.{same_outcome}
+use Rattle.wf_inputs.specs.Inputs.{spec_kind, view_kind, queries_kind, SpecStage, ViewStage}
+use Rattle.wf_inputs.specs.Specification.{TellsGrammar, RefusesSpec}
+use Rattle.wf_inputs.specs.ViewTold.{TellsView, RefusesView}
+use Rattle.wf_inputs.proofs.ToldGrammars.{told_formed}
+use Rattle.wf_inputs.proofs.OneValue.{one_grammar, one_view}
+use Rattle.wf_inputs.proofs.OneFault.{one_refusal, no_refusal}
+use Rattle.wf_inputs.proofs.OneViewFault.{one_refusal_of_view, no_refusal_of_view}
+use Rattle.cmd_ask.specs.Does.{AnswersLines, end_of_lines, QueriesStage}
+
+-- ends and texts that are the same
+abbrev pub AreSame : End → End → List ℕ → List ℕ → Type 0
+AreSame d e t s = (d ≡ e) × (t ≡ s)
+
+-- a relation holds of one end and one text at most
+abbrev pub HasOneOutcome : (End → List ℕ → Type 0) → Type 0
+HasOneOutcome R = (d e : End) (t s : List ℕ) → R d t → R e s → AreSame d e t s
+
+-- the stage of SPEC has one outcome where what follows has
+pub one_spec_stage : (spec : File) (Next : Grammar → End → List ℕ → Type 0) → ((g : Grammar) → TellsGrammar spec.bytes g → HasOneOutcome (Next g)) → HasOneOutcome (SpecStage spec Next)
+one_spec_stage spec Next next =
+    same_outcome spec_kind [] spec TellsGrammar (OfWhole RefusesSpec) Next Next (one_grammar spec.bytes) (λ l m x y p q. (p.0 ∙ sym q.0, one_refusal spec.bytes x y p.1 q.1)) (λ g l x t r. no_refusal spec.bytes x g t r.1) next
+
+-- so has that of VIEW
+pub one_view_stage : (bytes : List ℕ) (g : Grammar) → TellsGrammar bytes g → (view : File) (Next : View → End → List ℕ → Type 0) → ((u : View) → TellsView g view.bytes u → HasOneOutcome (Next u)) → HasOneOutcome (ViewStage g view Next)
+one_view_stage bytes g told view Next next =
+    same_outcome view_kind [] view (TellsView g) (OfWhole (RefusesView g)) Next Next (one_view g view.bytes) (λ l m x y p q. (p.0 ∙ sym q.0, one_refusal_of_view g (told_formed bytes g told) view.bytes x y p.1 q.1)) (λ u l x t r. no_refusal_of_view g view.bytes x u t r.1) next
+
+-- so has that of QUERIES, where a query has one word
+pub one_queries_stage : (Answers : List ℕ → List ℕ → List ℕ → Type 0) → IsOneWord Answers → (queries : File) → HasOneOutcome (QueriesStage Answers queries)
+one_queries_stage Answers one queries =
+    same_outcome queries_kind [] queries TellsLines RefusesNone (AnswersLines Answers) (AnswersLines Answers) (λ a b x y. y ∙ sym x) (λ l m x y p q. absurd p) (λ a l x t r. r)
+    (λ ls h d e t s p q. let r = one_ending Answers one ls p.0 q.0 t s p.1 q.1 in (p.2 ∙ (ap end_of_lines r.0 ∙ sym q.2), r.1))

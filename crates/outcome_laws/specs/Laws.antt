@@ -1,0 +1,62 @@
+-- Laws of the outcome.
+use Rattle.std.specs.Prelude.{◌≡◌, ◌⊎◌, ◌↔◌, ◌≤◌, ℕ, false, List, [], ◌∷◌, ◌++◌, length, codes}
+use Rattle.wf_model.specs.declared.event.Event.{Event}
+use Rattle.wf_model.specs.Grammar.{Grammar}
+use Rattle.wf_model.specs.WellFormed.{IsWellFormed}
+use Rattle.wf_model.specs.Proper.{IsProper}
+use Rattle.wf_model.specs.Linear.{IsLinear}
+use Rattle.wf_model.specs.View.{View}
+use Rattle.wf_model.specs.Safe.{IsSafe}
+use Rattle.wf_model.specs.Run.{IsAccepted}
+use Rattle.wf_model.specs.Finishing.{ExpandsComposites}
+use Rattle.wf_io.specs.Told.{File}
+use Rattle.label_model.specs.Files.{Entry}
+use Rattle.wf_query.specs.Answers.{IsAnswerText}
+use Rattle.wf_message.specs.Endings.{End, Done}
+use Rattle.wf_stage.specs.Stages.{IsTold, Holds}
+use Rattle.wf_inputs.specs.Inputs.{events_kind, labels_kind, instance_most}
+use Rattle.wf_inputs.specs.RunTold.{TellsRun}
+use Rattle.wf_inputs.specs.LabelsTold.{TellsEntries}
+use Rattle.cmd_ask.specs.Answers.{IsAnswerOfRun}
+use Rattle.cmd_ask.specs.Does.{AnswersRun, AnswersLabels}
+use Rattle.cmd_ingest.specs.Ingested.{file_of}
+use Rattle.wf_top.specs.Outcome.{IsOutcome}
+
+-- words and files have one outcome at most: one end and one text
+abbrev pub OneOutcomeLaw : Type 0
+OneOutcomeLaw =
+    (files : List ℕ → File) (words : List (List ℕ)) (d e : End) (t s : List ℕ) →
+    IsOutcome files words d t → IsOutcome files words e s → (d ≡ e) × (t ≡ s)
+
+-- What the labels of a run tell, the run tells. Under a safe view a query is answered from the entries of the label file of an accepted run by a word exactly if this word answers it in each finishing of the run
+abbrev pub LabelsTellLaw : Type 0
+LabelsTellLaw =
+    (g : Grammar) (u : View) → IsWellFormed g → IsProper g → IsLinear g → ExpandsComposites g u → IsSafe g u →
+    (e : List Event) → IsAccepted g instance_most e → (entries : List Entry) → TellsEntries g (file_of g e) entries →
+    (first second word : List ℕ) → IsAnswerText g u entries first second word ↔ IsAnswerOfRun g u e first second word
+
+-- Under a safe view, queries are answered over the label file of a run, which is whole and not too long, as they are over its events: by the same text, to the same end. There is one such text and one such end
+abbrev pub LabelsAnswerLaw : Type 0
+LabelsAnswerLaw =
+    (g : Grammar) (u : View) → IsWellFormed g → IsProper g → IsLinear g → ExpandsComposites g u → IsSafe g u →
+    (events labels queries : File) (e : List Event) → IsTold events_kind events (TellsRun g instance_most) e → IsTold labels_kind labels Holds (file_of g e) →
+    ((d : End) (t : List ℕ) → AnswersRun g u events queries d t ↔ AnswersLabels g u labels queries d t) ×
+    ((d c : End) (t s : List ℕ) → AnswersRun g u events queries d t → AnswersLabels g u labels queries c s → (d ≡ c) × (t ≡ s))
+
+-- What `ask` writes over the label file that `ingest` wrote is what `trace` writes over the events, and both end in the same way. The label file is whole, and not too long
+abbrev pub AskIsTraceLaw : Type 0
+AskIsTraceLaw =
+    (files : List ℕ → File) (spec view events labels queries t s r : List ℕ) (d e : End) →
+    IsOutcome files (codes "ingest" ∷ spec ∷ events ∷ []) Done t → (files labels).bytes ≡ t → length t ≤ labels_kind.most → (files labels).broken ≡ false →
+    IsOutcome files (codes "trace" ∷ spec ∷ view ∷ events ∷ queries ∷ []) d s → IsOutcome files (codes "ask" ∷ spec ∷ view ∷ labels ∷ queries ∷ []) e r → (d ≡ e) × (s ≡ r)
+
+-- no line is open at the end of bytes: there are none, or the last is a newline
+abbrev pub EndWithALine : List ℕ → Type 0
+EndWithALine bytes = (bytes ≡ []) ⊎ ((front : List ℕ) × (bytes ≡ front ++ 10 ∷ []))
+
+-- What `ingest` writes of a run it writes of each run that goes on from it. In the first files all of EVENTS is taken, and no line is open at its end; in the later ones it has more bytes, and is neither too long nor broken
+abbrev pub IngestGrowsLaw : Type 0
+IngestGrowsLaw =
+    (files later : List ℕ → File) (spec events more t s : List ℕ) (e : End) →
+    later spec ≡ files spec → EndWithALine (files events).bytes → (later events).bytes ≡ (files events).bytes ++ more → length (later events).bytes ≤ events_kind.most → (later events).broken ≡ false →
+    IsOutcome files (codes "ingest" ∷ spec ∷ events ∷ []) Done t → IsOutcome later (codes "ingest" ∷ spec ∷ events ∷ []) e s → (rest : List ℕ) × (s ≡ t ++ rest)

@@ -1,0 +1,33 @@
+// Laws of what the program does: the contracts of functions that do nothing.
+ghost use Rattle.outcome_laws.specs.Laws.{AskIsTraceLaw, IngestGrowsLaw, LabelsAnswerLaw, LabelsTellLaw, OneOutcomeLaw};
+ghost use Rattle.outcome_laws.specs.SameInstances.{SameInstancesLaw};
+
+/// The words and the files leave one end and one text at most.
+pub fn one_outcome_law()
+    ensures { OneOutcomeLaw }
+{}
+
+/// What `ingest` writes of a run begins what it writes of each run that goes on from it.
+pub fn ingest_grows_law()
+    ensures { IngestGrowsLaw }
+{}
+
+/// A query is answered from the label file of a run as it is answered by the run, however the run is finished under a safe view.
+pub fn labels_tell_law()
+    ensures { LabelsTellLaw }
+{}
+
+/// Lines of queries are answered over the label file of a run as they are over its events: one text, and one end.
+pub fn labels_answer_law()
+    ensures { LabelsAnswerLaw }
+{}
+
+/// What `ask` writes over the label file that `ingest` wrote is what `trace` writes over the events.
+pub fn ask_is_trace_law()
+    ensures { AskIsTraceLaw }
+{}
+
+/// A run that `trace` reads and a run that `ingest` labels have the same instances after the same events: the same names, modules and children, in the same order.
+pub fn same_instances_law()
+    ensures { SameInstancesLaw }
+{}

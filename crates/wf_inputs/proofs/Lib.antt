@@ -1,0 +1,14 @@
+pub mod EventLines
+pub mod LoopsText
+pub mod OneFault
+pub mod OneLabels
+pub mod OneRefusal
+pub mod OneRunFault
+pub mod OneValue
+pub mod OneViewFault
+pub mod SpecSteps
+pub mod StoresTold
+pub mod Taking
+pub mod ToldGrammars
+pub mod ViewComposites
+pub mod ViewSteps

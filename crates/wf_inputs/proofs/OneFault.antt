@@ -1,0 +1,138 @@
+-- A specification has one fault at most, and none where it tells a grammar.
+use Rattle.std.proofs.Common.{◌≡◌, ℕ, ◌⊎◌, List, [], ◌∷◌, ◌++◌, length, get_or, refl, sym, ap, ◌∙◌, subst, inl, inr, ⊎_elim, arith}
+use Rattle.std.specs.Prelude.{codes, map}
+use Rattle.std.proofs.lemmas.Bool.{cases_lt}
+use Rattle.wf_model.specs.declared.parts.Parts.{Parts}
+use Rattle.wf_model.specs.declared.numbers.ProdNo.{ProdNo}
+use Rattle.wf_model.specs.Lists.{IsIn, Walk, here, onward}
+use Rattle.wf_model.specs.Grammar.{Grammar, body_of, module_at}
+use Rattle.wf_model.specs.Proper.{Becomes, IsProper}
+use Rattle.wf_json.specs.SpecForm.{spec_of}
+use Rattle.wf_form.specs.declared.fault.FormFault.{FormFault}
+use Rattle.wf_form.specs.Forming.{grammar_of, IsFormed}
+use Rattle.wf_spec.specs.FirstFaults.{AllHold, IsFirstFault}
+use Rattle.wf_form.specs.Rules.{AreKept, first_rules, body_rules, link_rules, IsFaultOf as IsFaultOfParts}
+use Rattle.wf_spec.proofs.FirstFaults.{no_fault, one_first}
+use Rattle.wf_form.proofs.Lawful.{law}
+use Rattle.wf_check.specs.declared.fault.CheckFault.{CheckFault}
+use Rattle.wf_check.specs.declared.fault.CheckFault.TheVariants.{Unreachable, Unproductive, UnitCycle, NoMemory}
+use Rattle.wf_check.specs.Improper.{IsLeastWithout, UnitPath, IsUnitCycle, IsFirstOf, IsToldCycle, IsFaultOf as IsFaultOfGrammar}
+use Rattle.wf_message.specs.Refusals.{numbers_text, check_text}
+use Rattle.wf_inputs.specs.Faults.{form_text}
+use Rattle.wf_inputs.specs.Specification.{TellsGrammar, RefusesGrammar, RefusesParts, RefusesSpec}
+use Rattle.wf_inputs.proofs.OneRefusal.{one_of_bytes, none_of_bytes}
+use Rattle.wf_recur.proofs.OneLoops.{none_of_linear}
+use Rattle.wf_inputs.proofs.LoopsText.{one_of_loops}
+
+-- parts have one fault
+one_of_parts : (parts : Parts) (f g : FormFault) → IsFaultOfParts parts f → IsFaultOfParts parts g → f ≡ g
+one_of_parts parts f g (inl p) (inl q) = one_first (first_rules parts) f g p q
+one_of_parts parts f g (inl p) (inr q) = absurd (no_fault (first_rules parts) f q.0 p)
+one_of_parts parts f g (inr p) (inl q) = absurd (no_fault (first_rules parts) g p.0 q)
+one_of_parts parts f g (inr p) (inr q) = go p.1 q.1
+  where
+    go : IsFirstFault (body_rules parts) f ⊎ (AllHold (body_rules parts) × IsFirstFault (link_rules parts) f) → IsFirstFault (body_rules parts) g ⊎ (AllHold (body_rules parts) × IsFirstFault (link_rules parts) g) → f ≡ g
+    go (inl a) (inl b) = one_first (body_rules parts) f g a b
+    go (inl a) (inr b) = absurd (no_fault (body_rules parts) f b.0 a)
+    go (inr a) (inl b) = absurd (no_fault (body_rules parts) g a.0 b)
+    go (inr a) (inr b) = one_first (link_rules parts) f g a.1 b.1
+
+-- parts that keep all rules have none
+none_of_kept : (parts : Parts) (f : FormFault) → AreKept parts → IsFaultOfParts parts f → ⊥
+none_of_kept parts f k (inl p) = no_fault (first_rules parts) f k.first p
+none_of_kept parts f k (inr p) = ⊎_elim (λ a. no_fault (body_rules parts) f k.bodies a) (λ a. no_fault (link_rules parts) f k.links a.1) p.1
+
+-- the least module without something is one
+one_least : (g : Grammar) (Holds : ℕ → Type 0) (m n : ℕ) → IsLeastWithout g Holds m → IsLeastWithout g Holds n → m ≡ n
+one_least g Holds m n p q =
+    ⊎_elim (λ h. absurd (p.fails (q.before m h p.composite)))
+    (λ h. ⊎_elim (λ l. absurd (q.fails (p.before n l q.composite))) (λ l. omega arith) (cases_lt n m)) (cases_lt m n)
+
+-- of two lists of one length, each the first, both are the same
+both_first : (ps qs : List ℕ) → length ps ≡ length qs → IsFirstOf ps qs → IsFirstOf qs ps → ps ≡ qs
+both_first [] [] e a b = refl
+both_first [] (q ∷ qs) e a b = absurd b
+both_first (p ∷ ps) [] e a b = absurd a
+both_first (p ∷ ps) (q ∷ qs) e (inl a) (inl b) = absurd (omega arith)
+both_first (p ∷ ps) (q ∷ qs) e (inl a) (inr b) = let h = b.0 in absurd (omega arith)
+both_first (p ∷ ps) (q ∷ qs) e (inr a) (inl b) = let h = a.0 in absurd (omega arith)
+both_first (p ∷ ps) (q ∷ qs) e (inr a) (inr b) = ap (λ x. x ∷ ps) a.0 ∙ ap (λ xs. q ∷ xs) (both_first ps qs (omega arith) a.1 b.1)
+
+module _ (g : Grammar) where
+  -- the cycle that is told is one
+  one_cycle : (ps qs : List ℕ) → IsToldCycle g ps → IsToldCycle g qs → ps ≡ qs
+  one_cycle ps qs p q =
+      let same : p.module_no ≡ q.module_no =
+      ⊎_elim (λ h. absurd (q.least p.module_no ps h p.cycle))
+      (λ h. ⊎_elim (λ l. absurd (p.least q.module_no qs l q.cycle)) (λ l. omega arith) (cases_lt q.module_no p.module_no)) (cases_lt p.module_no q.module_no) in
+      let there : IsUnitCycle g p.module_no qs = subst (λ m. IsUnitCycle g m qs) (sym same) q.cycle in
+      let back : IsUnitCycle g q.module_no ps = subst (λ m. IsUnitCycle g m ps) same p.cycle in
+      let short = p.shortest qs there in
+      let long = q.shortest ps back in
+      let e : length ps ≡ length qs = omega arith in
+      both_first ps qs e (p.first qs there (sym e)) (q.first ps back e)
+
+  -- a grammar has one fault, as far as its text tells
+  one_of_grammar : (f h : CheckFault) → IsFaultOfGrammar g f → IsFaultOfGrammar g h → check_text g f ≡ check_text g h
+  one_of_grammar (Unreachable m) (Unreachable n) p q = ap (λ k. codes "Unreachable " ++ (module_at g k).name) (one_least g _ m.0 n.0 p q)
+  one_of_grammar (Unreachable m) (Unproductive n) p q = absurd (p.fails (q.0 m.0 p.composite))
+  one_of_grammar (Unreachable m) (UnitCycle qs) p q = absurd (p.fails (q.0 m.0 p.composite))
+  one_of_grammar (Unreachable m) NoMemory p q = absurd q
+  one_of_grammar (Unproductive m) (Unreachable n) p q = absurd (q.fails (p.0 n.0 q.composite))
+  one_of_grammar (Unproductive m) (Unproductive n) p q = ap (λ k. codes "Unproductive " ++ (module_at g k).name) (one_least g _ m.0 n.0 p.1 q.1)
+  one_of_grammar (Unproductive m) (UnitCycle qs) p q = absurd (p.1.fails (q.1 m.0 p.1.composite))
+  one_of_grammar (Unproductive m) NoMemory p q = absurd q
+  one_of_grammar (UnitCycle ps) (Unreachable n) p q = absurd (q.fails (p.0 n.0 q.composite))
+  one_of_grammar (UnitCycle ps) (Unproductive n) p q = absurd (q.1.fails (p.1 n.0 q.1.composite))
+  one_of_grammar (UnitCycle ps) (UnitCycle qs) p q = ap (λ l. codes "UnitCycle productions" ++ numbers_text l) (one_cycle (map (λ (x : ProdNo). x.0) ps) (map (λ (x : ProdNo). x.0) qs) p.2 q.2)
+  one_of_grammar (UnitCycle ps) NoMemory p q = absurd q
+  one_of_grammar NoMemory h p q = absurd p
+
+  only_in : (xs : List ℕ) → length xs ≡ 1 → IsIn (get_or xs 0 0) xs
+  only_in [] e = absurd (omega arith)
+  only_in (x ∷ xs) e = inl refl
+
+  -- unit productions lead along
+  unit_walk : (ps : List ℕ) (a b : ℕ) → UnitPath g a ps b → Walk (Becomes g) a b
+  unit_walk [] a b h = subst (λ z. Walk (Becomes g) a z) h here
+  unit_walk (p ∷ ps) a b h = onward (p, h.0, h.1, only_in (body_of g p) h.1) (unit_walk ps (get_or (body_of g p) 0 0) b h.2)
+
+  no_cycle : (m : ℕ) (ps : List ℕ) → IsProper g → IsUnitCycle g m ps → ⊥
+  no_cycle m [] proper h = let none = h.0 in absurd (omega arith)
+  no_cycle m (p ∷ ps) proper h =
+      proper.no_unit_loop m (get_or (body_of g p) 0 0) (p, h.1.0, h.1.1, only_in (body_of g p) h.1.1) (unit_walk ps (get_or (body_of g p) 0 0) m h.1.2)
+
+  -- a proper grammar has none
+  none_of_proper : (f : CheckFault) → IsProper g → IsFaultOfGrammar g f → ⊥
+  none_of_proper (Unreachable m) proper h = h.fails (proper.reached m.0 h.composite)
+  none_of_proper (Unproductive m) proper h = h.1.fails (proper.ranked m.0 h.1.composite)
+  none_of_proper (UnitCycle ps) proper h = no_cycle h.2.module_no (map (λ (x : ProdNo). x.0) ps) proper h.2.cycle
+  none_of_proper NoMemory proper h = absurd h
+
+  one_refusal_of_grammar : (x y : List ℕ) → RefusesGrammar g x → RefusesGrammar g y → x ≡ y
+  one_refusal_of_grammar x y (inl p) (inl q) = p.2 ∙ (one_of_grammar p.0 q.0 p.1 q.1 ∙ sym q.2)
+  one_refusal_of_grammar x y (inl p) (inr q) = absurd (none_of_proper p.0 q.0 p.1)
+  one_refusal_of_grammar x y (inr p) (inl q) = absurd (none_of_proper q.0 p.0 q.1)
+  one_refusal_of_grammar x y (inr p) (inr q) = p.1.2 ∙ (one_of_loops g p.1.0 q.1.0 p.1.1 q.1.1 ∙ sym q.1.2)
+
+none_of_formed : (parts : Parts) (f : FormFault) → IsFormed parts → IsFaultOfParts parts f → ⊥
+none_of_formed parts f formed = none_of_kept parts f ((law parts).1 formed)
+
+one_refusal_of_parts : (parts : Parts) (x y : List ℕ) → RefusesParts parts x → RefusesParts parts y → x ≡ y
+one_refusal_of_parts parts x y (inl p) (inl q) = p.2 ∙ (ap form_text (one_of_parts parts p.0 q.0 p.1 q.1) ∙ sym q.2)
+one_refusal_of_parts parts x y (inl p) (inr q) = absurd (none_of_formed parts p.0 q.0 p.1)
+one_refusal_of_parts parts x y (inr p) (inl q) = absurd (none_of_formed parts q.0 p.0 q.1)
+one_refusal_of_parts parts x y (inr p) (inr q) = one_refusal_of_grammar (grammar_of parts) x y p.1 q.1
+
+-- the bytes of a specification have one refusal
+pub one_refusal : (bytes x y : List ℕ) → RefusesSpec bytes x → RefusesSpec bytes y → x ≡ y
+one_refusal = one_of_bytes spec_of RefusesParts one_refusal_of_parts
+
+no_refusal_of_parts : (bytes : List ℕ) (g : Grammar) (t : TellsGrammar bytes g) (x : List ℕ) → RefusesParts t.parts x → ⊥
+no_refusal_of_parts bytes g t x (inl p) = none_of_formed t.parts p.0 t.formed p.1
+no_refusal_of_parts bytes g t x (inr (_, inl q)) = none_of_proper (grammar_of t.parts) q.0 t.proper q.1
+no_refusal_of_parts bytes g t x (inr (_, inr q)) = none_of_linear (grammar_of t.parts) q.1.0 t.linear q.1.1
+
+-- bytes that tell a grammar have none
+pub no_refusal : (bytes x : List ℕ) (g : Grammar) → TellsGrammar bytes g → RefusesSpec bytes x → ⊥
+no_refusal bytes x g t = none_of_bytes spec_of RefusesParts t.parts (no_refusal_of_parts bytes g t) bytes x t.read

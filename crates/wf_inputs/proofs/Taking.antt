@@ -1,0 +1,65 @@
+-- How SPEC, VIEW, EVENTS and LABELS end a command, or are taken on.
+use Rattle.std.proofs.Common.{◌≡◌, ℕ, Bool, List, [], Option, sym, subst}
+use Rattle.wf_model.specs.declared.event.Event.{Event}
+use Rattle.wf_model.specs.Grammar.{Grammar}
+use Rattle.wf_model.specs.View.{View}
+use Rattle.wf_io.specs.Told.{File}
+use Rattle.wf_spec.specs.Held.{HeldGrammar}
+use Rattle.label_model.specs.Files.{Entry}
+use Rattle.wf_message.specs.Endings.{End}
+use Rattle.wf_stage.specs.Stages.{Stage, OfWhole}
+use Rattle.wf_stage.specs.Promises.{HasRead, HasStopped, Obeys}
+use Rattle.wf_stage.proofs.Ends.{begins_nothing}
+use Rattle.wf_stage.proofs.Obeying.{obeys_stop, obeys_on}
+use Rattle.wf_inputs.specs.Inputs.{spec_kind, view_kind, events_kind, labels_kind, instance_most, SpecStage, ViewStage}
+use Rattle.wf_inputs.specs.Specification.{TellsGrammar, RefusesSpec}
+use Rattle.wf_inputs.specs.ViewTold.{TellsView, RefusesView}
+use Rattle.wf_inputs.specs.RunTold.{TellsRun, RefusesRun}
+use Rattle.wf_inputs.specs.LabelsTold.{TellsEntries, RefusesLabels}
+use Rattle.wf_inputs.proofs.OneValue.{one_grammar, one_view, one_run}
+use Rattle.wf_inputs.proofs.OneFault.{no_refusal}
+use Rattle.wf_inputs.proofs.OneViewFault.{no_refusal_of_view}
+use Rattle.wf_inputs.proofs.OneRunFault.{no_refusal_of_run}
+use Rattle.wf_inputs.proofs.OneLabels.{one_entries, no_refusal_of_labels}
+
+module _ {S T : Type 0} {files : S → Option (List ℕ → File)} {faults : S → ℕ} {last : S → Bool} {bytes : T → Option (List ℕ)} {counts : T → ℕ} {out_last : T → Bool} {name : List ℕ} where
+  module _ (Next : (List ℕ → File) → Grammar → End → List ℕ → Type 0) where
+    -- SPEC ends the command
+    pub spec_stops : (s t : S) (o : T) (e : End) → HasStopped files faults last spec_kind name (OfWhole RefusesSpec) s t e → Obeys files faults last bytes counts out_last [] (λ f. SpecStage (f name) (Next f)) s t o o e
+    spec_stops = obeys_stop [] Next (λ f a. begins_nothing (Next f a))
+
+    -- the grammar of SPEC is taken on
+    pub spec_goes : (s t u : S) (o p : T) (e : End) (g : Grammar) → HasRead files faults spec_kind name TellsGrammar s t g → Obeys files faults last bytes counts out_last [] (λ f. Next f g) t u o p e → Obeys files faults last bytes counts out_last [] (λ f. SpecStage (f name) (Next f)) s u o p e
+    spec_goes = obeys_on [] Next one_grammar (λ b g line fault told r. no_refusal b fault g told r.1)
+
+  module _ (g : Grammar) where
+    module _ (Next : (List ℕ → File) → View → End → List ℕ → Type 0) where
+      -- VIEW ends the command
+      pub view_stops : (s t : S) (o : T) (e : End) → HasStopped files faults last view_kind name (OfWhole (RefusesView g)) s t e → Obeys files faults last bytes counts out_last [] (λ f. ViewStage g (f name) (Next f)) s t o o e
+      view_stops = obeys_stop [] Next (λ f a. begins_nothing (Next f a))
+
+      -- the view of VIEW is taken on
+      pub view_goes : (s t u : S) (o p : T) (e : End) (v : View) → HasRead files faults view_kind name (TellsView g) s t v → Obeys files faults last bytes counts out_last [] (λ f. Next f v) t u o p e → Obeys files faults last bytes counts out_last [] (λ f. ViewStage g (f name) (Next f)) s u o p e
+      view_goes = obeys_on [] Next (one_view g) (λ b v line fault told r. no_refusal_of_view g b fault v told r.1)
+
+    module _ (Next : (List ℕ → File) → List Event → End → List ℕ → Type 0) where
+      -- EVENTS ends the command
+      pub events_stop : (s t : S) (o : T) (e : End) → HasStopped files faults last events_kind name (RefusesRun g instance_most) s t e → Obeys files faults last bytes counts out_last [] (λ f. Stage events_kind [] (f name) (TellsRun g instance_most) (RefusesRun g instance_most) (Next f)) s t o o e
+      events_stop = obeys_stop [] Next (λ f a. begins_nothing (Next f a))
+
+      -- the run of EVENTS is taken on
+      pub events_go : (s t u : S) (o p : T) (e : End) (es : List Event) → HasRead files faults events_kind name (TellsRun g instance_most) s t es → Obeys files faults last bytes counts out_last [] (λ f. Next f es) t u o p e → Obeys files faults last bytes counts out_last [] (λ f. Stage events_kind [] (f name) (TellsRun g instance_most) (RefusesRun g instance_most) (Next f)) s u o p e
+      events_go = obeys_on [] Next (one_run g instance_most) (λ b es line fault told r. no_refusal_of_run g instance_most b es line fault told r)
+
+    module _ (Next : (List ℕ → File) → List Entry → End → List ℕ → Type 0) where
+      -- LABELS ends the command
+      pub labels_stop : (s t : S) (o : T) (e : End) → HasStopped files faults last labels_kind name (OfWhole (RefusesLabels g)) s t e → Obeys files faults last bytes counts out_last [] (λ f. Stage labels_kind [] (f name) (TellsEntries g) (OfWhole (RefusesLabels g)) (Next f)) s t o o e
+      labels_stop = obeys_stop [] Next (λ f a. begins_nothing (Next f a))
+
+      -- the entries of LABELS are taken on
+      pub labels_go : (s t u : S) (o p : T) (e : End) (es : List Entry) → HasRead files faults labels_kind name (TellsEntries g) s t es → Obeys files faults last bytes counts out_last [] (λ f. Next f es) t u o p e → Obeys files faults last bytes counts out_last [] (λ f. Stage labels_kind [] (f name) (TellsEntries g) (OfWhole (RefusesLabels g)) (Next f)) s u o p e
+      labels_go = obeys_on [] Next (one_entries g) (λ b es line fault told r. no_refusal_of_labels g b es line fault told r)
+
+-- the same by the same grammar
+pub with_grammar : {S T : Type 0} {files : S → Option (List ℕ → File)} {faults : S → ℕ} {last : S → Bool} {bytes : T → Option (List ℕ)} {counts : T → ℕ} {out_last : T → Bool} (first : List ℕ) (Next : (List ℕ → File) → Grammar → End → List ℕ → Type 0) (g h : HeldGrammar) (s t : S) (o p : T) (e : End) → g ≡ h → Obeys files faults last bytes counts out_last first (λ f. Next f g.core) s t o p e → Obeys files faults last bytes counts out_last first (λ f. Next f h.core) s t o p e
+with_grammar {files = files} {faults = faults} {last = last} {bytes = bytes} {counts = counts} {out_last = out_last} first Next g h s t o p e same = subst (λ (x : HeldGrammar). Obeys files faults last bytes counts out_last first (λ f. Next f x.core) s t o p e) same

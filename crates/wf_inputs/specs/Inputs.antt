@@ -1,0 +1,42 @@
+-- The kinds of files that several commands read, and SPEC and VIEW as every command takes them.
+use Rattle.std.specs.Prelude.{ℕ, List, [], codes}
+use Rattle.wf_model.specs.Grammar.{Grammar}
+use Rattle.wf_model.specs.View.{View}
+use Rattle.wf_io.specs.Told.{File}
+use Rattle.wf_message.specs.Endings.{End}
+use Rattle.wf_stage.specs.Kinds.{Kind}
+use Rattle.wf_stage.specs.Stages.{Stage, OfWhole}
+use Rattle.wf_inputs.specs.Specification.{TellsGrammar, RefusesSpec}
+use Rattle.wf_inputs.specs.ViewTold.{TellsView, RefusesView}
+
+-- a specification
+abbrev pub spec_kind : Kind
+spec_kind = record { word = codes "spec"; most = 16777216; long_fault = codes "TooLong" }
+
+-- a view
+abbrev pub view_kind : Kind
+view_kind = record { word = codes "view"; most = 16777216; long_fault = codes "TooLong" }
+
+-- the events of a run
+abbrev pub events_kind : Kind
+events_kind = record { word = codes "events"; most = 1073741824; long_fault = codes "NotBuilt" }
+
+-- a label file
+abbrev pub labels_kind : Kind
+labels_kind = record { word = codes "labels"; most = 1073741824; long_fault = codes "TooLong" }
+
+-- queries
+abbrev pub queries_kind : Kind
+queries_kind = record { word = codes "queries"; most = 1073741824; long_fault = codes "NotBuilt" }
+
+-- the greatest number of instances of a run
+abbrev pub instance_most : ℕ
+instance_most = 16777216
+
+-- SPEC, as every command takes it
+abbrev pub SpecStage : File → (Grammar → End → List ℕ → Type 0) → End → List ℕ → Type 0
+SpecStage spec = Stage spec_kind [] spec TellsGrammar (OfWhole RefusesSpec)
+
+-- VIEW of a grammar, as every command takes it
+abbrev pub ViewStage : Grammar → File → (View → End → List ℕ → Type 0) → End → List ℕ → Type 0
+ViewStage g view = Stage view_kind [] view (TellsView g) (OfWhole (RefusesView g))

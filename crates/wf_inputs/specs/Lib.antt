@@ -1,0 +1,7 @@
+pub mod Specification
+pub mod ViewTold
+pub mod Viewed
+pub mod RunTold
+pub mod LabelsTold
+pub mod Faults
+pub mod Inputs

@@ -1,0 +1,48 @@
+// LABELS: from bytes to the entries of a label file.
+ghost use Rattle.std.specs.Prelude.{◌≡◌, ◌⊎◌, ◌≤◌, ◌^◌, List, None, IfOk, IfErr, length, codes};
+ghost use Rattle.label_model.specs.Files.{Entry};
+ghost use Rattle.label_file.specs.Stored.{AreHeldOf};
+ghost use Rattle.wf_message.specs.Endings.{end_of, Refused, NoMemory};
+ghost use Rattle.wf_stage.specs.Stages.{Declines, OfWhole};
+ghost use Rattle.wf_inputs.specs.Faults.{store_name};
+ghost use Rattle.wf_inputs.specs.Viewed.{IsTaken};
+ghost use Rattle.wf_inputs.specs.LabelsTold.{TellsEntries, RefusesLabels};
+
+use crate::faults::store_refusal;
+use crate::kinds::LABELS;
+use crate::spec::Spec;
+use label_file::{Store, StoreFault};
+use std::alloc::Global;
+use wf_json::digest;
+use wf_message::{Stop, refused_whole};
+
+/// The stop at a fault of a label file.
+fn store_stop(fault: StoreFault) -> Stop
+    ensures memory { fault ≡ StoreFault.NoMemory → end_of result ≡ NoMemory }
+    ensures refused { (fault ≡ StoreFault.NoMemory) ⊎ (end_of result ≡ Refused (codes "labels") None (store_name fault)) }
+{
+    match fault {
+        StoreFault::NoMemory => Stop::NoMemory,
+        _ => refused_whole(LABELS.place, store_refusal(fault)),
+    }
+}
+
+/// The entries of a label file of a grammar, which lie in its bytes.
+///
+/// Refused with NotLabels, OtherSpec or Damaged, the first that there is. `NoMemory` may come at any time.
+///
+/// Cost: those of `digest` and of `Store::open`.
+pub fn store_of<'b>(alloc: Global, spec: &Spec, bytes: &'b [u8]) -> Result<Store<'b>, Stop>
+    requires spec { IsTaken spec.now }
+    requires few { length bytes.now ≤ 2 ^ 30 }
+    ensures store { IfOk result (λ s. (entries : List Entry) × TellsEntries spec.now.grammar.core bytes.now entries × AreHeldOf spec.now.grammar.core entries s) }
+    ensures declines { IfErr result (λ e. Declines (codes "labels") (OfWhole (RefusesLabels spec.now.grammar.core) bytes.now) (end_of e)) }
+{
+    let Ok(digest) = digest(alloc, &spec.grammar) else {
+        return Err(Stop::NoMemory);
+    };
+    match Store::open(alloc, &spec.grammar, &spec.cycles, &digest, bytes) {
+        Ok(store) => Ok(store),
+        Err(fault) => Err(store_stop(fault)),
+    }
+}

@@ -1,0 +1,6 @@
+pub mod Ends
+pub mod Obeying
+pub mod Reading
+pub mod Stages
+pub mod TwoStages
+pub mod Writing

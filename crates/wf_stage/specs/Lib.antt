@@ -1,0 +1,5 @@
+pub mod Kinds
+pub mod Stages
+pub mod Ends
+pub mod Causes
+pub mod Promises

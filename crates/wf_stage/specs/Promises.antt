@@ -1,0 +1,41 @@
+-- What each command, and each part of one, promises of the shelf and of out. Both are seen by their ghost members.
+use Rattle.std.specs.Prelude.{◌≡◌, ◌≤◌, ℕ, Bool, List, Option, Some, Result, MatchResult}
+use Rattle.wf_io.specs.Told.{File}
+use Rattle.wf_message.specs.declared.ending.Stop.{Stop}
+use Rattle.wf_message.specs.Endings.{End, end_of}
+use Rattle.wf_stage.specs.Kinds.{Kind}
+use Rattle.wf_stage.specs.Stages.{IsTold, StopsAt}
+use Rattle.wf_stage.specs.Ends.{EndsBehind}
+use Rattle.wf_stage.specs.Causes.{IsCause, IsReadingCause, IsWritingCause}
+
+-- a file was read: it tells this value, and the shelf is as it was
+pub record HasRead {A S : Type 0} (files : S → Option (List ℕ → File)) (faults : S → ℕ) (kind : Kind) (name : List ℕ) (Tells : List ℕ → A → Type 0) (old new : S) (value : A) : Type 0 where
+  pub told : (f : List ℕ → File) → files old ≡ Some f → IsTold kind (f name) Tells value
+  pub count : faults new ≡ faults old
+  pub same : files new ≡ files old
+
+-- a file was not read, or is refused: the end says why, it has its cause, and the shelf tells the same files
+pub record HasStopped {S : Type 0} (files : S → Option (List ℕ → File)) (faults : S → ℕ) (last : S → Bool) (kind : Kind) (name : List ℕ) (Refuses : List ℕ → Option ℕ → List ℕ → Type 0) (old new : S) (ending : End) : Type 0 where
+  pub stops : (f : List ℕ → File) → files old ≡ Some f → StopsAt kind (f name) Refuses ending
+  pub cause : IsReadingCause (faults old) (faults new) (last new) ending
+  pub same : files new ≡ files old
+  pub later : faults old ≤ faults new
+
+-- what a stage that reads the file of this name answers: a value that is seen so, or the ending of the program
+abbrev pub Reads : {A B S : Type 0} → (S → Option (List ℕ → File)) → (S → ℕ) → (S → Bool) → Kind → List ℕ → (List ℕ → A → Type 0) → (B → A) → (List ℕ → Option ℕ → List ℕ → Type 0) → S → S → Result B Stop → Type 0
+Reads files faults last kind name Tells seen Refuses old new result =
+    MatchResult result (λ v. HasRead files faults kind name Tells old new (seen v)) (λ e. HasStopped files faults last kind name Refuses old new (end_of e))
+
+-- What a step that writes and does not read promises, behind a text that was put first: how it ends, and its cause
+pub record Writes {T : Type 0} (bytes : T → Option (List ℕ)) (faults : T → ℕ) (last : T → Bool) (first : List ℕ) (Outcome : End → List ℕ → Type 0) (old new : T) (ending : End) : Type 0 where
+  pub ends : EndsBehind first Outcome ending (bytes old) (bytes new)
+  pub cause : IsWritingCause (faults old) (faults new) (last new) ending
+  pub later : faults old ≤ faults new
+
+-- What a command promises, or the rest of one behind a text that was put first: over a shelf that tells its files it ends by the outcome that they leave; its end has its cause; the shelf tells the same files; and no count falls
+pub record Obeys {S T : Type 0} (files : S → Option (List ℕ → File)) (faults : S → ℕ) (last : S → Bool) (bytes : T → Option (List ℕ)) (counts : T → ℕ) (out_last : T → Bool) (first : List ℕ) (Outcome : (List ℕ → File) → End → List ℕ → Type 0) (old new : S) (out_old out_new : T) (ending : End) : Type 0 where
+  pub ends : (f : List ℕ → File) → files old ≡ Some f → EndsBehind first (Outcome f) ending (bytes out_old) (bytes out_new)
+  pub cause : IsCause (faults old) (faults new) (last new) (counts out_old) (counts out_new) (out_last out_new) ending
+  pub same : files new ≡ files old
+  pub later : faults old ≤ faults new
+  pub put_later : counts out_old ≤ counts out_new
