@@ -12,7 +12,7 @@ trap 'rm -rf "$work"' EXIT
 git init -q "$work"
 cp HANDLES "$work"
 tar -c --exclude=out crates | tar -x -C "$work"
-{ cat crates.txt; echo "arena_use: wf_model wf_spec wf_json wf_recur wf_run bumpalo"; } >"$work/crates.txt"
+{ cat crates.txt; echo "arena_use: wf_model wf_spec wf_form wf_json wf_recur wf_run bumpalo"; } >"$work/crates.txt"
 mkdir -p "$work/crates/arena_use/src"
 
 # Compiles the crate with the code of a file and runs its test, and leaves what was told in the file told.

@@ -41,6 +41,8 @@ nothing=$(text nothing '')
 check "the line example is answered" answers line
 check "the phylogeny of one step is answered" answers phylogeny-once
 check "the recursive phylogeny is answered under its view" answers phylogeny
+check "each pair of items of the twisting grammar is answered" answers twisting
+check "each pair of items of the pair grammar is answered" answers pair
 
 check "no word is a usage" says 1 'usage: wfprov COMMAND WORDS\n'
 check "too few words are a usage" says 1 'usage: wfprov COMMAND WORDS\n' trace $line/spec
@@ -59,6 +61,8 @@ checks() {
 check "the line specification is accepted" checks line
 check "the phylogeny of one step is accepted" checks phylogeny-once
 check "the recursive phylogeny is accepted" checks phylogeny
+check "the twisting grammar is accepted" checks twisting
+check "the pair grammar is accepted" checks pair
 
 # Whether a view is safe and shows what stands beside it.
 shows() {
@@ -68,6 +72,8 @@ shows() {
 check "the view of the line is shown" shows line
 check "the view of the phylogeny of one step is shown" shows phylogeny-once
 check "the view of the recursive phylogeny is shown" shows phylogeny
+check "the view of the twisting grammar is shown" shows twisting
+check "the view of the pair grammar is shown" shows pair
 check "a view that is not safe is told with two expansions that disagree" \
     says 2 'refused: view: Unsafe module L one 2 other 1 input x1 output y1 joined one choice S=0 L=2\n' \
     view examples/skewed/spec examples/skewed/view
@@ -225,6 +231,8 @@ labels() {
 check "the line example is labelled" labels line
 check "the phylogeny of one step is labelled" labels phylogeny-once
 check "the recursive phylogeny is labelled" labels phylogeny
+check "the twisting grammar is labelled" labels twisting
+check "the pair grammar is labelled" labels pair
 
 # Whether a label file of so many bytes from the front of the line example's is written, with this end and message.
 labels_until() {
@@ -292,7 +300,7 @@ decides_alike() {
     done <"examples/$1/queries" >"$work/told"
     cmp -s "$work/told" "examples/$1/answers"
 }
-for example in line phylogeny-once phylogeny; do
+for example in line phylogeny-once phylogeny twisting pair; do
     check "two labels of $example tell what its run tells" decides_alike "$example"
 done
 check "bytes that are no label are refused" says 2 'refused: label 1: Malformed\n' decide $line/spec $line/view b1 20
@@ -305,7 +313,7 @@ asks_alike() {
     run ask "examples/$1/spec" "examples/$1/view" "examples/$1/labels" "examples/$1/queries" &&
         ended 0 "examples/$1/answers" "$nothing"
 }
-for example in line phylogeny-once phylogeny; do
+for example in line phylogeny-once phylogeny twisting pair; do
     check "the label file of $example answers as its run does" asks_alike "$example"
 done
 
@@ -331,8 +339,43 @@ labels_cut() {
 refuses_labels() {
     says 2 "refused: labels: $1\n" ask "$2" $line/view "$3" $line/queries
 }
-check "a file that is shorter than a head is no label file" refuses_labels NotLabels $line/spec "$(labels_cut 35)"
-check "an entry that is cut is told" refuses_labels Damaged $line/spec "$(labels_cut 57)"
+
+# Whether the label file of the line, cut at each length, is no label file where its head is not whole, is damaged where an entry is not whole, and else answers from the entries that it has.
+tells_cuts() {
+    local length queries
+    queries=$(text two_queries 'r.a i1.y\nr.a r.b\n')
+    for length in {0..58}; do
+        run ask $line/spec $line/view "$(labels_cut "$length")" "$queries"
+        case $length in
+            36 | 43) ended 0 "$(text expected_out 'unknown\nunknown\n')" "$nothing" ;;
+            50) ended 0 "$(text expected_out 'unknown\nyes\n')" "$nothing" ;;
+            58) ended 0 "$(text expected_out 'yes\nyes\n')" "$nothing" ;;
+            ? | [12]? | 3[0-5]) ended 2 "$nothing" "$(text expected 'refused: labels: NotLabels\n')" ;;
+            *) ended 2 "$nothing" "$(text expected 'refused: labels: Damaged\n')" ;;
+        esac || return 1
+    done
+}
+check "a label file that is cut is told at each length" tells_cuts
+
+# The label file of the line with this text in the place of what stands behind so many bytes.
+labels_with() {
+    printf '%b' "$2" >"$work/part"
+    { head -c "$1" $line/labels; cat "$work/part"; tail -c +"$(($1 + 1 + $(wc -c <"$work/part")))" $line/labels; } >"$work/changed"
+    echo "$work/changed"
+}
+check "another first byte is that of no label file" refuses_labels NotLabels $line/spec "$(labels_with 0 X)"
+check "another number of the form is that of no label file" refuses_labels NotLabels $line/spec "$(labels_with 3 2)"
+check "another bit of the digest is that of another grammar" refuses_labels OtherSpec $line/spec "$(labels_with 35 '\x8f')"
+check "a name without a dot is damage" refuses_labels Damaged $line/spec "$(labels_with 44 rxb)"
+check "a name that stands twice is damage" refuses_labels Damaged $line/spec "$(labels_with 44 r.a)"
+check "a bit behind a label is damage" refuses_labels Damaged $line/spec "$(labels_with 57 '\xb1')"
+
+# An item has the name that the label file gives it.
+renamed() {
+    run ask $line/spec $line/view "$(labels_with 51 k1.y)" "$(text renamed 'r.a i1.y\nr.a k1.y\n')" &&
+        ended 0 "$(text expected_out 'unknown\nyes\n')" "$nothing"
+}
+check "an item is found by the name in the label file" renamed
 check "labels of another grammar are told" refuses_labels OtherSpec examples/phylogeny/spec $line/labels
 check "absent labels are a fault of reading" says 3 'fault: reading labels\n' ask $line/spec $line/view "$work/absent" $line/queries
 check "labels are tried before queries are read" refuses_labels NotLabels $line/spec "$nothing"
@@ -343,12 +386,30 @@ asked_then_refused() {
 }
 check "a line that asks nothing is told by its number behind the answers before it" asked_then_refused
 
-long_query() {
-    (printf 'r.a r.b\n'; head -c 65537 /dev/zero | tr '\0' 'a'; echo) >"$work/long_query"
-    run ask $line/spec $line/view $line/labels "$work/long_query" &&
-        ended 2 "$(text expected_out 'yes\n')" "$(text expected 'refused: queries line 2: LineTooLong\n')"
+# Whether a second line of queries, of so many letters, is refused so, by the events and by the labels of the line.
+refuses_letters() {
+    local given
+    { printf 'r.a r.b\n'; head -c "$1" /dev/zero | tr '\0' 'a'; echo; } >"$work/letters"
+    for given in 'trace events' 'ask labels'; do
+        run "${given% *}" $line/spec $line/view "$line/${given#* }" "$work/letters"
+        ended 2 "$(text expected_out 'yes\n')" "$(text expected "refused: queries line 2: $2\n")" || return 1
+    done
 }
-check "a line of queries that is too long is told" long_query
+check "a line of queries of 65,536 letters is read" refuses_letters 65536 LineWrong
+check "a line of queries of 65,537 letters is too long" refuses_letters 65537 LineTooLong
+
+# Whether queries of an example under another view of it are answered so, by its events and by its labels.
+answers_under() {
+    local example=examples/$1 given
+    for given in 'trace events' 'ask labels'; do
+        run "${given% *}" "$example/spec" "$example/$2" "$example/${given#* }" "$(text under "$3")"
+        ended 0 "$(text expected_out "$4")" "$nothing" || return 1
+    done
+}
+check "a view that expands the start alone hides what is inside, and joins all ways through it" \
+    answers_under twisting outer 'r.a1 r.b1\nr.a1 r.b2\nw0.y1 r.b1\n' 'yes\nyes\nhidden\n'
+check "a view that expands one module of a cycle hides what is inside the other" \
+    answers_under pair first 'r.a x0.y\nr.a y1.y\n' 'yes\nhidden\n'
 
 # A label file of the phylogeny, made by hand: its two inputs, and what is made after the greatest number of repetitions.
 asks_far() {
@@ -358,6 +419,20 @@ asks_far() {
     run ask examples/phylogeny/spec examples/phylogeny/view "$work/far" "$work/far_queries" && ended 0 "$work/far_answers" "$nothing"
 }
 check "ten thousand questions on the longest chain are answered, though no run is so long" asks_far
+
+# A label file of the twisting grammar, made by hand: ports of its root, an item of its first instances, and three behind the longest chain.
+asks_behind_the_longest_chain() {
+    (
+        head -c 36 examples/twisting/labels
+        printf '\x04r.a1\x00\x01\x20\x04r.b1\x00\x01\x60\x04r.b2\x00\x01\x50\x05w0.y1\x00\x01\xfb'
+        printf '\x04w.y1\x00\x07\xf0\x00\x00\x08\x00\x00\x03\x04l.y1\x00\x08\xf0\x00\x00\x08\x00\x00\x02\xc0'
+        printf '\x04l.y2\x00\x08\xf0\x00\x00\x08\x00\x00\x02\x40'
+    ) >"$work/longest"
+    run ask examples/twisting/spec examples/twisting/view "$work/longest" \
+        "$(text longest_queries 'r.a1 w.y1\nr.a1 l.y1\nr.a1 l.y2\nw.y1 r.b1\nw.y1 r.b2\nw0.y1 l.y1\n')" &&
+        ended 0 "$(text expected_out 'yes\nyes\nno\nyes\nno\nno\n')" "$nothing"
+}
+check "items behind the longest chain are told from others by their ports" asks_behind_the_longest_chain
 
 full_verdict() {
     [ -w /dev/full ] || return 0

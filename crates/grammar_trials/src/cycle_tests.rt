@@ -37,11 +37,17 @@ fn places_of(alloc: Global, s: &Accepted) -> Result<Vec<(u16, u16, u16)>, AllocE
     Ok(list)
 }
 
+/// Whether the cycles of the grammar of a text have these places.
+fn has_places(alloc: Global, text: &str, places: &[(u16, u16, u16)]) -> Result<bool, Fail> {
+    let s = sample(alloc, text)?;
+    let found = places_of(alloc, &s)?;
+    Ok(found.as_slice() == places)
+}
+
 #[test]
 fn cycles_are_gone_round_from_their_least_modules(rt: HostRuntime) -> Result<(), Fail> {
     for (text, places) in PLACES {
-        let s = sample(rt.alloc(), text)?;
-        assert_eq!(rt; places_of(rt.alloc(), &s)?.as_slice(), places, "at {text}");
+        assert!(rt; has_places(rt.alloc(), text, places)?, "at {text}");
     }
     Ok(())
 }
@@ -77,11 +83,20 @@ fn stand_of(s: &Accepted, name: &str) -> Result<Option<(u16, u16, u16, u8)>, Fai
     Ok(Some((on.cycle.0, on.place, production.0, position.0)))
 }
 
+/// The same in the grammar of a text.
+fn stand_in(alloc: Global, text: &str, name: &str) -> Result<Option<(u16, u16, u16, u8)>, Fail> {
+    let s = sample(alloc, text)?;
+    stand_of(&s, name)
+}
+
 #[test]
 fn modules_stand_on_their_cycles(rt: HostRuntime) -> Result<(), Fail> {
     for (text, name, on) in STANDS {
-        let s = sample(rt.alloc(), text)?;
-        assert_eq!(rt; stand_of(&s, name)?, on, "at {name} of {text}");
+        assert_eq!(rt;
+            stand_in(rt.alloc(), text, name)?,
+            on,
+            "at {name} of {text}"
+        );
     }
     Ok(())
 }
@@ -93,15 +108,20 @@ fn step(production: u16, position: u8) -> Step {
     }
 }
 
+/// The fault of a grammar that is not strictly linear.
+fn fault_of(alloc: Global, text: &str) -> Result<Option<RecurFault>, Fail> {
+    let g = grammar(alloc, text)?;
+    Ok(cycles(alloc, &g).err())
+}
+
 /// L and K both have two steps that lead back, and L is the lesser. Its steps are to the L of production 2, to the K of production 3, which leads to an L again, and to the L of production 3: the first two of these are told, by production and then by position.
 #[test]
 fn two_loops_of_a_module_are_told(rt: HostRuntime) -> Result<(), Fail> {
-    let g = grammar(rt.alloc(), TWO_LOOPS)?;
     let fault = RecurFault::TwoLoops {
         module: ModNo(1),
         first: step(2, 1),
         second: step(3, 0),
     };
-    assert_eq!(rt; cycles(rt.alloc(), &g).err(), Some(fault));
+    assert_eq!(rt; fault_of(rt.alloc(), TWO_LOOPS)?, Some(fault));
     Ok(())
 }

@@ -2,9 +2,10 @@
 use std::alloc::Global;
 use std::process::Abort;
 use std::test::Fail;
+use wf_form::{FormFault, Spot, build};
 use wf_json::read_spec;
 use wf_samples::{LINE, grammar};
-use wf_spec::{Edge, FormFault, Grammar, Inner, ModNo, PortNo, PosNo, ProdNo, Spot};
+use wf_spec::{Edge, Grammar, Inner, ModNo, PortNo, PosNo, ProdNo};
 
 /// M, N and O, each with the inputs a and b and the outputs c and d. An M is done by an N, with entries and exits from the last port to the first, each to the port of its name. No pairs are given.
 const PAIRED: &str =
@@ -177,9 +178,7 @@ fn rows_hold_the_pairs_of_all_parts(rt: HostRuntime) -> Result<(), Fail> {
     Ok(())
 }
 
-#[test]
-fn alternatives_are_numbered_by_head(rt: HostRuntime) -> Result<(), Fail> {
-    let g = grammar(rt.alloc(), ALTERNATIVES)?;
+fn has_alternatives(rt: &impl Abort, g: &Grammar) -> Result<(), Fail> {
     let [first, second, third] = g.productions() else {
         return Err(Fail::new("three productions"));
     };
@@ -199,17 +198,32 @@ fn alternatives_are_numbered_by_head(rt: HostRuntime) -> Result<(), Fail> {
     Ok(())
 }
 
+#[test]
+fn alternatives_are_numbered_by_head(rt: HostRuntime) -> Result<(), Fail> {
+    let g = grammar(rt.alloc(), ALTERNATIVES)?;
+    has_alternatives(&rt, &g)
+}
+
 /// The fault of a specification that forms no grammar.
 fn fault_of(alloc: Global, text: &str) -> Result<Option<FormFault>, Fail> {
     let parts = read_spec(alloc, text.as_bytes())?;
-    Ok(Grammar::build(alloc, parts).err())
+    Ok(build(alloc, parts).err())
+}
+
+/// The fault of the line grammar with a piece of its text in another's place.
+fn fault_with(alloc: Global, piece: &str, other: &str) -> Result<Option<FormFault>, Fail> {
+    let text = LINE.replace(alloc, piece, other)?;
+    fault_of(alloc, &text)
 }
 
 #[test]
 fn faults_are_told(rt: HostRuntime) -> Result<(), Fail> {
     for (piece, other, fault) in FAULTS {
-        let text = LINE.replace(rt.alloc(), piece, other)?;
-        assert_eq!(rt; fault_of(rt.alloc(), &text)?, Some(fault), "at {fault:?}");
+        assert_eq!(rt;
+            fault_with(rt.alloc(), piece, other)?,
+            Some(fault),
+            "at {fault:?}"
+        );
     }
     let cycle = FormFault::BodyCycle { production: 0 };
     assert_eq!(rt; fault_of(rt.alloc(), LOOPED)?, Some(cycle));

@@ -1,7 +1,7 @@
 // Events, and the runs that take them.
 ghost use Rattle.std.specs.Prelude.{◌^◌, ◌≤◌, IfOk};
 ghost use Rattle.wf_model.specs.Linear.{IsLinear};
-ghost use Rattle.wf_flat.specs.Table.{IsRunOf};
+ghost use Rattle.wf_flat.specs.Table.{IsTableOf};
 ghost use Rattle.wf_recur.specs.Cycles.{AreCyclesOf};
 
 use bumpalo::Bump;
@@ -44,7 +44,7 @@ pub fn event(alloc: Global, given: Given) -> Result<Event, AllocError> {
 
 /// A table of at most so many instances that took these events.
 pub fn table(alloc: Global, g: &Grammar, most: u8, events: &[Given]) -> Result<PlainRun, Fail>
-    ensures { IfOk result (λ r. IsRunOf g.now.core r) }
+    ensures { IfOk result (λ r. IsTableOf g.now.core r) }
 {
     let mut run = PlainRun::new(alloc, u32::from(most));
     for given in events {

@@ -2,6 +2,7 @@
 ghost use Rattle.wf_model.specs.Linear.{IsLinear};
 ghost use Rattle.wf_recur.specs.Cycles.{AreCyclesOf};
 
+use std::alloc::Global;
 use std::test::Fail;
 use wf_label::{LabelRef, Mark};
 use wf_samples::{Accepted, LINE, TWISTING, sample};
@@ -57,7 +58,7 @@ const TOLD: [(&str, &[u8], u32, [Option<Mark>; 4]); 4] = [
 ];
 
 /// The length of a label, and what a cursor tells at its first four calls; None where the bytes are no label.
-fn told(s: &Accepted, bytes: &[u8]) -> Option<(u32, [Option<Mark>; 4])>
+fn told_by(s: &Accepted, bytes: &[u8]) -> Option<(u32, [Option<Mark>; 4])>
     requires linear { IsLinear s.now.grammar.core }
     requires cycles { AreCyclesOf s.now.grammar.core s.now.cycles }
 {
@@ -69,11 +70,16 @@ fn told(s: &Accepted, bytes: &[u8]) -> Option<(u32, [Option<Mark>; 4])>
     Some((label.length(), marks))
 }
 
+/// The same of a label of the grammar of a text.
+fn told(alloc: Global, text: &str, bytes: &[u8]) -> Result<Option<(u32, [Option<Mark>; 4])>, Fail> {
+    let s = sample(alloc, text)?;
+    Ok(told_by(&s, bytes))
+}
+
 #[test]
 fn bytes_that_are_no_label_are_refused(rt: HostRuntime) -> Result<(), Fail> {
     for (text, bytes) in REFUSED {
-        let s = sample(rt.alloc(), text)?;
-        assert_eq!(rt; told(&s, bytes), None, "at {bytes:?}");
+        assert_eq!(rt; told(rt.alloc(), text, bytes)?, None, "at {bytes:?}");
     }
     Ok(())
 }
@@ -81,8 +87,11 @@ fn bytes_that_are_no_label_are_refused(rt: HostRuntime) -> Result<(), Fail> {
 #[test]
 fn labels_are_told_mark_by_mark(rt: HostRuntime) -> Result<(), Fail> {
     for (text, bytes, length, marks) in TOLD {
-        let s = sample(rt.alloc(), text)?;
-        assert_eq!(rt; told(&s, bytes), Some((length, marks)), "at {bytes:?}");
+        assert_eq!(rt;
+            told(rt.alloc(), text, bytes)?,
+            Some((length, marks)),
+            "at {bytes:?}"
+        );
     }
     Ok(())
 }

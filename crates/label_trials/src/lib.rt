@@ -4,19 +4,11 @@
 #[cfg(test)]
 mod body_tests;
 #[cfg(test)]
-mod decide_tests;
-#[cfg(test)]
 mod events;
-#[cfg(test)]
-mod file_tests;
 #[cfg(test)]
 mod label_bits_tests;
 #[cfg(test)]
 mod label_tests;
-#[cfg(test)]
-mod labeller_tests;
-#[cfg(test)]
-mod products;
 #[cfg(test)]
 mod query_tests;
 #[cfg(test)]

@@ -2,7 +2,7 @@
 ghost use Rattle.wf_model.specs.Linear.{IsLinear};
 ghost use Rattle.wf_model.specs.Proper.{IsProper};
 ghost use Rattle.wf_check.specs.Proper.{IsRankingOf};
-ghost use Rattle.wf_flat.specs.Table.{IsRunOf};
+ghost use Rattle.wf_flat.specs.Table.{IsTableOf};
 ghost use Rattle.wf_recur.specs.Cycles.{AreCyclesOf};
 
 use crate::events::Given::{Expand, Start};
@@ -227,27 +227,41 @@ fn told_by_run(
     Ok((fault, run.instances() as usize, run.expands() as usize))
 }
 
+/// What comes of an event in a table, and in a run in an arena, of the grammar of a text that took others before.
+fn told(
+    alloc: Global,
+    text: &str,
+    most: u8,
+    before: &[Given],
+    given: Given,
+) -> Result<(Outcome, Outcome), Fail> {
+    let s = sample(alloc, text)?;
+    let event = event(alloc, given)?;
+    let in_table = told_by_table(alloc, &s, most, before, &event)?;
+    let in_run = told_by_run(alloc, &s, most, before, &event)?;
+    Ok((in_table, in_run))
+}
+
 #[test]
 fn both_kinds_of_run_take_and_refuse_events(rt: HostRuntime) -> Result<(), Fail> {
-    let alloc = rt.alloc();
     for (text, most, before, given, outcome) in EVENTS {
-        let s = sample(alloc, text)?;
-        let event = event(alloc, given)?;
-        let in_table = told_by_table(alloc, &s, most, before, &event)?;
-        assert_eq!(rt; in_table, outcome, "at {given:?}");
-        let in_run = told_by_run(alloc, &s, most, before, &event)?;
-        assert_eq!(rt; in_run, outcome, "at {given:?}");
+        let found = told(rt.alloc(), text, most, before, given)?;
+        assert_eq!(rt; found, (outcome, outcome), "at {given:?}");
     }
     Ok(())
 }
 
+/// The item of the whole run of the line grammar that has a name.
+fn item(alloc: Global, name: &str) -> Result<Option<Item>, Fail> {
+    let s = sample(alloc, LINE)?;
+    let run = table(alloc, &s.grammar, 3, WHOLE)?;
+    Ok(find_item(&s.grammar, &run, name.as_bytes()))
+}
+
 #[test]
 fn items_are_found_by_name(rt: HostRuntime) -> Result<(), Fail> {
-    let s = sample(rt.alloc(), LINE)?;
-    let run = table(rt.alloc(), &s.grammar, 3, WHOLE)?;
-    for (name, item) in ITEMS {
-        let found = find_item(&s.grammar, &run, name.as_bytes());
-        assert_eq!(rt; found, item, "at {name}");
+    for (name, wanted) in ITEMS {
+        assert_eq!(rt; item(rt.alloc(), name)?, wanted, "at {name}");
     }
     Ok(())
 }
@@ -261,7 +275,7 @@ fn told_by_view(
 ) -> Result<(bool, [bool; 3]), Fail>
     requires proper { IsProper s.now.grammar.core }
     requires ranking { IsRankingOf s.now.grammar.core s.now.ranking }
-    requires run { IsRunOf s.now.grammar.core run.now }
+    requires run { IsTableOf s.now.grammar.core run.now }
 {
     let view = view(alloc, &s.grammar, text)?;
     let full = full(alloc, s, &view)?;
@@ -272,13 +286,17 @@ fn told_by_view(
     Ok((flat.shows(&INNER), [across, along, back]))
 }
 
+/// The same of the whole run.
+fn shown(alloc: Global, text: &str) -> Result<(bool, [bool; 3]), Fail> {
+    let s = sample(alloc, LINE)?;
+    let run = table(alloc, &s.grammar, 3, WHOLE)?;
+    told_by_view(alloc, &s, &run, text)
+}
+
 #[test]
 fn views_show_items_and_join_ports(rt: HostRuntime) -> Result<(), Fail> {
-    let s = sample(rt.alloc(), LINE)?;
-    let run = table(rt.alloc(), &s.grammar, 3, WHOLE)?;
-    for (text, shown, joined) in VIEWS {
-        let told = told_by_view(rt.alloc(), &s, &run, text)?;
-        assert_eq!(rt; told, (shown, joined), "at {text}");
+    for (text, is_shown, joined) in VIEWS {
+        assert_eq!(rt; shown(rt.alloc(), text)?, (is_shown, joined), "at {text}");
     }
     Ok(())
 }

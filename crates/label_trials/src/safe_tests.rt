@@ -115,13 +115,29 @@ fn is_told(w: &Witness, (productions, pair, choice): Told) -> bool {
         && is_choice(w.choice.items(), choice)
 }
 
+/// Whether a view of the grammar of a text is safe, with these rows of its modules in order.
+fn is_safe_with(alloc: Global, text: &str, expanded: &str, rows: &[&[u64]]) -> Result<bool, Fail> {
+    let s = sample(alloc, text)?;
+    let v = view(alloc, &s.grammar, expanded)?;
+    let full = full(alloc, &s, &v)?;
+    Ok(has_rows(&s.grammar, &v, &full, rows))
+}
+
+/// Whether a view of the grammar of a text is not safe, with this witness.
+fn is_refused_with(alloc: Global, text: &str, expanded: &str, told: Told) -> Result<bool, Fail> {
+    let s = sample(alloc, text)?;
+    let v = view(alloc, &s.grammar, expanded)?;
+    let w = witness(alloc, &s, &v)?;
+    Ok(is_told(&w, told))
+}
+
 #[test]
 fn rows_of_safe_views_are_told(rt: HostRuntime) -> Result<(), Fail> {
     for (text, expanded, rows) in SAFE {
-        let s = sample(rt.alloc(), text)?;
-        let v = view(rt.alloc(), &s.grammar, expanded)?;
-        let full = full(rt.alloc(), &s, &v)?;
-        assert!(rt; has_rows(&s.grammar, &v, &full, rows), "at {expanded}");
+        assert!(rt;
+            is_safe_with(rt.alloc(), text, expanded, rows)?,
+            "at {expanded}"
+        );
     }
     Ok(())
 }
@@ -129,10 +145,10 @@ fn rows_of_safe_views_are_told(rt: HostRuntime) -> Result<(), Fail> {
 #[test]
 fn views_that_are_not_safe_are_refused(rt: HostRuntime) -> Result<(), Fail> {
     for (text, expanded, told) in UNSAFE {
-        let s = sample(rt.alloc(), text)?;
-        let v = view(rt.alloc(), &s.grammar, expanded)?;
-        let w = witness(rt.alloc(), &s, &v)?;
-        assert!(rt; is_told(&w, told), "at {expanded}");
+        assert!(rt;
+            is_refused_with(rt.alloc(), text, expanded, told)?,
+            "at {expanded}"
+        );
     }
     Ok(())
 }

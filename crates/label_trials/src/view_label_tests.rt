@@ -1,14 +1,14 @@
 // Labels of views, whose matrices were worked by hand. A row of a matrix is a number, in which bit `j` stands for column `j`: so the rows 1 and 2 keep two ports, and the rows 2 and 1 exchange them.
-ghost use Rattle.std.specs.Prelude.{◌<◌, IsTrue, length, get_or};
-ghost use Rattle.wf_recur.specs.Cycles.{round_at};
+ghost use Rattle.std.specs.Prelude.{IsTrue};
 ghost use Rattle.wf_body.specs.Matrices.{step_of};
 ghost use Rattle.wf_view.specs.Held.{IsHeldFor};
-ghost use Rattle.wf_vlabel.specs.Seen.{IsLabelOfView, Opens, OpensRound};
+ghost use Rattle.wf_vlabel.specs.Seen.{IsLabelOfView, Opens};
 
 use crate::viewed::{Viewed, viewed_by};
+use std::alloc::Global;
 use std::test::Fail;
 use wf_recur::CycleNo;
-use wf_samples::{PAIR, ROTATING, TWISTING, sample};
+use wf_samples::{PAIR, TWISTING, sample};
 use wf_spec::{PosNo, ProdNo, Step};
 use wf_vlabel::ViewLabel;
 
@@ -60,20 +60,6 @@ const BETWEEN: [(&str, &str, (u16, u8), u8, &[u64]); 7] = [
     (TWISTING, "{}", (1, 1), 1, UNJOINED),
     (PAIR, FIRST_ALONE, (0, 0), 1, ONE),
     (PAIR, FIRST_ALONE, (2, 0), 1, HIDDEN),
-];
-
-/// A specification, a view, a place of the first cycle, the number of rounds as a power of 2, and the rows of so many rounds down from the place and up to it. In the rotating grammar one round exchanges the first two ports and then the last two, or the other way about.
-const ROUNDS: [(&str, &str, u16, u8, &[u64], &[u64]); 10] = [
-    (TWISTING, "{}", 0, 0, EXCHANGED, EXCHANGED),
-    (TWISTING, "{}", 0, 1, KEPT, KEPT),
-    (TWISTING, "{}", 0, 23, KEPT, KEPT),
-    (ROTATING, "{}", 0, 0, &[4, 1, 2], &[2, 4, 1]),
-    (ROTATING, "{}", 1, 0, &[2, 4, 1], &[4, 1, 2]),
-    (ROTATING, "{}", 0, 1, &[2, 4, 1], &[4, 1, 2]),
-    (ROTATING, "{}", 1, 2, &[2, 4, 1], &[4, 1, 2]),
-    (PAIR, "{}", 0, 0, ONE, ONE),
-    (PAIR, FIRST_ALONE, 0, 0, HIDDEN, HIDDEN),
-    (PAIR, FIRST_ALONE, 1, 0, HIDDEN, HIDDEN),
 ];
 
 /// A specification, a view, a place of the first cycle, and how many continuing steps lead from there to the first module that is not expanded.
@@ -164,45 +150,60 @@ fn cut_at(label: &ViewLabel<'_>, place: u16) -> Result<Option<u32>, Fail> {
     Ok(label.cut(CycleNo(0), place))
 }
 
-/// Whether the first cycle is seen and expanded whole from a place on.
-fn is_whole(v: &Viewed<'_>, place: u16) -> bool
-    requires held { IsHeldFor v.now.label.grammar v.now.view }
-    requires label { IsLabelOfView v.now.label v.now.view.core }
-    ensures cycle { IsTrue result → 0 < length v.now.label.cycles.rounds }
-    ensures place { IsTrue result → place < length (round_at v.now.label.cycles 0) }
-    ensures round { IsTrue result → OpensRound v.now.label (get_or (round_at v.now.label.cycles 0) place 0) }
-{
-    let cycles = v.label.cycles();
-    let first = CycleNo(0);
-    if cycles.count() == 0 || place >= cycles.length(first) {
-        return false;
-    }
-    v.view.seen(cycles.at(first, place)) && v.label.cut(first, place).is_none()
+/// Whether these are the rows of the pairs of a module.
+fn has_full(
+    alloc: Global,
+    spec: &str,
+    view: &str,
+    module: &str,
+    want: &[u64],
+) -> Result<bool, Fail> {
+    let s = sample(alloc, spec)?;
+    let v = viewed_by(alloc, &s, view)?;
+    Ok(full_rows(&v, module.as_bytes()) == want)
 }
 
-/// The rows of so many rounds down from a place of the first cycle and up to it, as a power of 2; none where the view does not show the whole cycle.
-fn round_rows<'v>(v: &'v Viewed<'_>, place: u16, power: u8) -> (&'v [u64], &'v [u64])
-    requires held { IsHeldFor v.now.label.grammar v.now.view }
-    requires label { IsLabelOfView v.now.label v.now.view.core }
-    requires power { power < 24 }
-{
-    if !is_whole(v, place) {
-        return (HIDDEN, HIDDEN);
-    }
-    let first = CycleNo(0);
-    (
-        v.label.square_in(first, place, power).rows,
-        v.label.square_out(first, place, power).rows,
-    )
+/// Whether these are the rows of the way in and of the way out of a step.
+fn has_ways(
+    alloc: Global,
+    spec: &str,
+    view: &str,
+    s: Step,
+    into: &[u64],
+    out: &[u64],
+) -> Result<bool, Fail> {
+    let sample = sample(alloc, spec)?;
+    let v = viewed_by(alloc, &sample, view)?;
+    let ways = way_rows(&v, s);
+    Ok(ways.0 == into && ways.1 == out)
+}
+
+/// Whether these are the rows of the matrix from a position to another.
+fn has_between(
+    alloc: Global,
+    spec: &str,
+    view: &str,
+    s: Step,
+    to: PosNo,
+    want: &[u64],
+) -> Result<bool, Fail> {
+    let sample = sample(alloc, spec)?;
+    let v = viewed_by(alloc, &sample, view)?;
+    Ok(between_rows(&v, s, to) == want)
+}
+
+/// How many continuing steps lead from a place of the first cycle of a grammar to the first module that a view does not expand.
+fn cut(alloc: Global, spec: &str, view: &str, place: u16) -> Result<Option<u32>, Fail> {
+    let s = sample(alloc, spec)?;
+    let v = viewed_by(alloc, &s, view)?;
+    cut_at(&v.label, place)
 }
 
 #[test]
 fn modules_have_their_pairs(rt: HostRuntime) -> Result<(), Fail> {
     let alloc = rt.alloc();
     for (spec, view, module, want) in FULL {
-        let s = sample(alloc, spec)?;
-        let v = viewed_by(alloc, &s, view)?;
-        assert_eq!(rt; full_rows(&v, module.as_bytes()), want, "of {module}");
+        assert!(rt; has_full(alloc, spec, view, module, want)?, "of {module}");
     }
     Ok(())
 }
@@ -211,11 +212,10 @@ fn modules_have_their_pairs(rt: HostRuntime) -> Result<(), Fail> {
 fn bodies_have_their_ways_in_and_out(rt: HostRuntime) -> Result<(), Fail> {
     let alloc = rt.alloc();
     for (spec, view, at, into, out) in WAYS {
-        let s = sample(alloc, spec)?;
-        let v = viewed_by(alloc, &s, view)?;
-        let ways = way_rows(&v, step(at));
-        assert_eq!(rt; ways.0, into, "into {at:?}");
-        assert_eq!(rt; ways.1, out, "out of {at:?}");
+        assert!(rt;
+            has_ways(alloc, spec, view, step(at), into, out)?,
+            "at {at:?}"
+        );
     }
     Ok(())
 }
@@ -224,24 +224,10 @@ fn bodies_have_their_ways_in_and_out(rt: HostRuntime) -> Result<(), Fail> {
 fn bodies_have_their_ways_across(rt: HostRuntime) -> Result<(), Fail> {
     let alloc = rt.alloc();
     for (spec, view, at, to, want) in BETWEEN {
-        let s = sample(alloc, spec)?;
-        let v = viewed_by(alloc, &s, view)?;
-        let rows = between_rows(&v, step(at), PosNo(to));
-        assert_eq!(rt; rows, want, "from {at:?} to {to}");
-    }
-    Ok(())
-}
-
-#[test]
-fn cycles_have_their_rounds(rt: HostRuntime) -> Result<(), Fail> {
-    let alloc = rt.alloc();
-    for (spec, view, place, power, down, up) in ROUNDS {
-        let s = sample(alloc, spec)?;
-        let v = viewed_by(alloc, &s, view)?;
-        assert!(rt; power < 24);
-        let rows = round_rows(&v, place, power);
-        assert_eq!(rt; rows.0, down, "down from {place} by {power}");
-        assert_eq!(rt; rows.1, up, "up to {place} by {power}");
+        assert!(rt;
+            has_between(alloc, spec, view, step(at), PosNo(to), want)?,
+            "from {at:?} to {to}"
+        );
     }
     Ok(())
 }
@@ -250,9 +236,11 @@ fn cycles_have_their_rounds(rt: HostRuntime) -> Result<(), Fail> {
 fn chains_are_cut(rt: HostRuntime) -> Result<(), Fail> {
     let alloc = rt.alloc();
     for (spec, view, place, want) in CUTS {
-        let s = sample(alloc, spec)?;
-        let v = viewed_by(alloc, &s, view)?;
-        assert_eq!(rt; cut_at(&v.label, place)?, want, "at {place} under {view}");
+        assert_eq!(rt;
+            cut(alloc, spec, view, place)?,
+            want,
+            "at {place} under {view}"
+        );
     }
     Ok(())
 }

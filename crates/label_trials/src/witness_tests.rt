@@ -67,25 +67,41 @@ fn made(
     })
 }
 
+/// Whether a witness that is made of these parts is true.
+fn is_true(
+    alloc: Global,
+    choice: Chosen,
+    productions: (u16, u16, u16),
+    pair: (u8, u8, bool),
+) -> Result<bool, Fail> {
+    let g = grammar(alloc, CIRCLING)?;
+    let v = view(alloc, &g, r#"{"expand":["S","L","W"]}"#)?;
+    let w = made(alloc, choice, productions, pair)?;
+    Ok(check_witness(alloc, &g, &v, &w)?)
+}
+
 #[test]
 fn made_witnesses_are_checked(rt: HostRuntime) -> Result<(), Fail> {
-    let g = grammar(rt.alloc(), CIRCLING)?;
-    let v = view(rt.alloc(), &g, r#"{"expand":["S","L","W"]}"#)?;
     for (choice, productions, pair, wanted) in MADE {
-        let w = made(rt.alloc(), choice, productions, pair)?;
-        let found = check_witness(rt.alloc(), &g, &v, &w)?;
+        let found = is_true(rt.alloc(), choice, productions, pair)?;
         assert_eq!(rt; found, wanted, "{choice:?} {productions:?} {pair:?}");
     }
     Ok(())
 }
 
+/// Whether a witness that is told is true, and whether it still is once it tells the other expansion.
+fn told_and_changed(alloc: Global) -> Result<(bool, bool), Fail> {
+    let s = sample(alloc, SKEWED)?;
+    let v = view(alloc, &s.grammar, S_AND_L)?;
+    let mut w = witness(alloc, &s, &v)?;
+    let told = check_witness(alloc, &s.grammar, &v, &w)?;
+    w.joined_by_one = !w.joined_by_one;
+    let changed = check_witness(alloc, &s.grammar, &v, &w)?;
+    Ok((told, changed))
+}
+
 #[test]
 fn told_witnesses_are_true(rt: HostRuntime) -> Result<(), Fail> {
-    let s = sample(rt.alloc(), SKEWED)?;
-    let v = view(rt.alloc(), &s.grammar, S_AND_L)?;
-    let mut w = witness(rt.alloc(), &s, &v)?;
-    assert!(rt; check_witness(rt.alloc(), &s.grammar, &v, &w)?);
-    w.joined_by_one = false;
-    assert!(rt; !check_witness(rt.alloc(), &s.grammar, &v, &w)?);
+    assert_eq!(rt; told_and_changed(rt.alloc())?, (true, false));
     Ok(())
 }

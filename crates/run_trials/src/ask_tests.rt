@@ -1,14 +1,14 @@
 // Queries on the items of label files, worked by hand.
 //
 // Of LINE 20 is the label of the input, 60 that of the output, and B0 that of the edge. Of FORKING B0 is the edge of the first way to do S, and 94 that of the second.
-use crate::word_tests::{name, words};
+use crate::called::{called, file};
 use std::alloc::{AllocError, Global};
 use std::test::Fail;
-use wf_io::{MemFile, MemShelf, MemSink};
+use wf_io::MemShelf;
 use wf_model::Seq;
 use wf_samples::{FORKING, LINE, LOOP};
+use wf_top::Status;
 use wf_top::Status::{Done, ReadFault, Refused, WriteFault};
-use wf_top::{Status, run};
 
 /// The head of the label files of LINE, without its last byte.
 const SHORT: &[u8] =
@@ -189,14 +189,6 @@ const FAULTS: [(&str, bool, usize, Status, &str, &str); 5] = [
     ),
 ];
 
-fn file(alloc: Global, called: &str, bytes: &[u8], broken: bool) -> Result<MemFile, AllocError> {
-    Ok(MemFile {
-        name: name(alloc, called)?,
-        bytes: Seq::from_vec(Vec::from_slice(alloc, bytes)?),
-        broken,
-    })
-}
-
 fn shelf(
     alloc: Global,
     texts: (&str, &str, &[u8], &str),
@@ -211,34 +203,54 @@ fn shelf(
     Ok(MemShelf::new(Seq::from_vec(files), 5))
 }
 
+/// Whether the queries of a label file are answered so.
+fn are_answered(
+    alloc: Global,
+    texts: (&str, &str, &[u8], &str),
+    status: Status,
+    answers: &str,
+    message: &str,
+) -> Result<bool, AllocError> {
+    let mut shelf = shelf(alloc, texts, false)?;
+    let ended = called(alloc, &mut shelf, "ask spec view labels queries", (64, 64))?;
+    Ok(ended.is(status, answers.as_bytes(), message.as_bytes()))
+}
+
 #[test]
 fn labels_answer_queries(rt: HostRuntime) -> Result<(), Fail> {
-    let alloc = rt.alloc();
     for (spec, view, labels, queries, status, answers, message) in ROWS {
-        let mut shelf = shelf(alloc, (spec, view, labels, queries), false)?;
-        let mut out = MemSink::new(alloc, 64)?;
-        let mut err = MemSink::new(alloc, 64)?;
-        let words = words(alloc, "ask spec view labels queries")?;
-        let got = run(alloc, &words, &mut shelf, &mut out, &mut err);
-        assert_eq!(rt; got, status, "at {queries:?}");
-        assert_eq!(rt; out.bytes(), answers.as_bytes(), "at {queries:?}");
-        assert_eq!(rt; err.bytes(), message.as_bytes(), "at {queries:?}");
+        let texts = (spec, view, labels, queries);
+        assert!(rt;
+            are_answered(rt.alloc(), texts, status, answers, message)?,
+            "at {queries:?}"
+        );
     }
     Ok(())
 }
 
+/// Whether a call ends so where the label file may break, with room for so many bytes on out.
+fn ends_so(
+    alloc: Global,
+    line: &str,
+    broken: bool,
+    room: usize,
+    status: Status,
+    answers: &str,
+    message: &str,
+) -> Result<bool, AllocError> {
+    let mut shelf = shelf(alloc, (LINE, "{}", WHOLE, QUERIES), broken)?;
+    let ended = called(alloc, &mut shelf, line, (room, 64))?;
+    Ok(ended.is(status, answers.as_bytes(), message.as_bytes()))
+}
+
 #[test]
 fn files_may_break_and_a_sink_may_be_full(rt: HostRuntime) -> Result<(), Fail> {
-    let alloc = rt.alloc();
     for (line, broken, room, status, answers, message) in FAULTS {
-        let mut shelf = shelf(alloc, (LINE, "{}", WHOLE, QUERIES), broken)?;
-        let mut out = MemSink::new(alloc, room)?;
-        let mut err = MemSink::new(alloc, 64)?;
-        let words = words(alloc, line)?;
-        let got = run(alloc, &words, &mut shelf, &mut out, &mut err);
-        assert_eq!(rt; got, status, "at {line:?}");
-        assert_eq!(rt; out.bytes(), answers.as_bytes(), "at {line:?}");
-        assert_eq!(rt; err.bytes(), message.as_bytes(), "at {line:?}");
+        let alloc = rt.alloc();
+        assert!(rt;
+            ends_so(alloc, line, broken, room, status, answers, message)?,
+            "at {line:?}"
+        );
     }
     Ok(())
 }

@@ -1,14 +1,12 @@
 // Two labels under a view, worked by hand: words that are no labels, and bytes that are none.
 //
 // Of LINE 20 is the label of the input, 60 that of the output, and B0 that of the edge.
-use crate::word_tests::{contents, name, words};
+use crate::called::{called, called_with, shelf_of};
 use std::alloc::{AllocError, Global};
 use std::test::Fail;
-use wf_io::{MemFile, MemShelf, MemSink};
-use wf_model::Seq;
 use wf_samples::LINE;
+use wf_top::Status;
 use wf_top::Status::{ReadFault, Refused, Usage};
-use wf_top::{Status, run};
 
 const USAGE: &str = "usage: wfprov COMMAND WORDS\n";
 
@@ -74,45 +72,35 @@ const ROWS: [(&str, Status, &str); 24] = [
     ("decide spec view bO b0", Usage, USAGE),
 ];
 
-fn shelf(alloc: Global) -> Result<MemShelf, AllocError> {
-    let mut files = Vec::new(alloc);
-    for (called, text) in [("spec", LINE), ("view", "{}"), ("empty", "")] {
-        files.push(MemFile {
-            name: name(alloc, called)?,
-            bytes: contents(alloc, text)?,
-            broken: false,
-        })?;
-    }
-    Ok(MemShelf::new(Seq::from_vec(files), 7))
+/// The files of a shelf.
+const FILES: [(&str, &str); 3] = [("spec", LINE), ("view", "{}"), ("empty", "")];
+
+/// Whether a call ends so, and puts nothing into out.
+fn ends_so(alloc: Global, line: &str, status: Status, message: &str) -> Result<bool, AllocError> {
+    let mut shelf = shelf_of(alloc, &FILES, 7)?;
+    let ended = called(alloc, &mut shelf, line, (16, 64))?;
+    Ok(ended.is(status, b"", message.as_bytes()))
 }
 
 #[test]
 fn words_that_are_no_labels_are_refused(rt: HostRuntime) -> Result<(), Fail> {
-    let alloc = rt.alloc();
     for (line, status, message) in ROWS {
-        let mut shelf = shelf(alloc)?;
-        let mut out = MemSink::new(alloc, 16)?;
-        let mut err = MemSink::new(alloc, 64)?;
-        let words = words(alloc, line)?;
-        let got = run(alloc, &words, &mut shelf, &mut out, &mut err);
-        assert_eq!(rt; got, status, "at {line:?}");
-        assert_eq!(rt; out.bytes().len(), 0, "at {line:?}");
-        assert_eq!(rt; err.bytes(), message.as_bytes(), "at {line:?}");
+        assert!(rt; ends_so(rt.alloc(), line, status, message)?, "at {line:?}");
     }
     Ok(())
+}
+
+/// Whether a word of no digits is refused as a label.
+fn is_no_label(alloc: Global) -> Result<bool, AllocError> {
+    let mut shelf = shelf_of(alloc, &FILES, 7)?;
+    let words = ["decide", "spec", "view", "60", ""];
+    let ended = called_with(alloc, &mut shelf, &words, (16, 64))?;
+    Ok(ended.is(Refused, b"", b"refused: label 2: Malformed\n"))
 }
 
 /// A word of no digits tells no bytes, which are no label.
 #[test]
 fn no_bytes_are_no_label(rt: HostRuntime) -> Result<(), Fail> {
-    let alloc = rt.alloc();
-    let mut shelf = shelf(alloc)?;
-    let mut out = MemSink::new(alloc, 16)?;
-    let mut err = MemSink::new(alloc, 64)?;
-    let words = ["decide", "spec", "view", "60", ""];
-    let got = run(alloc, &words, &mut shelf, &mut out, &mut err);
-    assert_eq!(rt; got, Refused);
-    assert_eq!(rt; out.bytes().len(), 0);
-    assert_eq!(rt; err.bytes(), b"refused: label 2: Malformed\n".as_slice());
+    assert!(rt; is_no_label(rt.alloc())?);
     Ok(())
 }

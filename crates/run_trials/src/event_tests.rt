@@ -1,11 +1,10 @@
 // Lines of events that are refused, each for the first fault in the order of trial, with a later fault present too.
-use crate::word_tests::{contents, name};
+use crate::called::{called, file};
 use std::alloc::{AllocError, Global};
 use std::test::Fail;
-use wf_io::{MemFile, MemShelf, MemSink};
+use wf_io::MemShelf;
 use wf_model::Seq;
 use wf_samples::LOOP;
-use wf_top::{Status, run};
 
 /// Two lines that are taken.
 const TAKEN: &str = "{\"start\":\"r\"}\n{\"expand\":\"r\",\"production\":0,\"names\":[\"l0\"]}\n";
@@ -62,50 +61,55 @@ const ROWS: [(&str, &str, &str); 12] = [
     (TAKEN, r#"{"start":"?","#, " line 3: NotJson"),
 ];
 
-fn file(alloc: Global, called: &str, bytes: Seq<u8>) -> Result<MemFile, AllocError> {
-    Ok(MemFile {
-        name: name(alloc, called)?,
-        bytes,
-        broken: false,
-    })
+/// Whether events are refused with this line.
+fn are_refused(alloc: Global, events: &[u8], line: &str) -> Result<bool, AllocError> {
+    let mut files = Vec::new(alloc);
+    files.push(file(alloc, "spec", LOOP.as_bytes(), false)?)?;
+    files.push(file(alloc, "view", b"{}", false)?)?;
+    files.push(file(alloc, "events", events, false)?)?;
+    let mut shelf = MemShelf::new(Seq::from_vec(files), 65536);
+    let ended = called(
+        alloc,
+        &mut shelf,
+        "trace spec view events queries",
+        (64, 64),
+    )?;
+    Ok(ended.err.bytes() == line.as_bytes())
 }
 
-/// What is told of events.
-fn told(alloc: Global, events: Seq<u8>) -> Result<MemSink, AllocError> {
-    let mut files = Vec::new(alloc);
-    files.push(file(alloc, "spec", contents(alloc, LOOP)?)?)?;
-    files.push(file(alloc, "view", contents(alloc, "{}")?)?)?;
-    files.push(file(alloc, "events", events)?)?;
-    let mut shelf = MemShelf::new(Seq::from_vec(files), 65536);
-    let mut out = MemSink::new(alloc, 64)?;
-    let mut err = MemSink::new(alloc, 64)?;
-    let words = ["trace", "spec", "view", "events", "queries"];
-    let _status = run(alloc, &words, &mut shelf, &mut out, &mut err);
-    Ok(err)
+/// Whether an event behind others is refused for this fault.
+fn is_refused(alloc: Global, before: &str, event: &str, fault: &str) -> Result<bool, AllocError> {
+    let text = format!(in alloc; "{before}{event}\nx\n")?;
+    let line = format!(in alloc; "refused: events{fault}\n")?;
+    are_refused(alloc, text.as_bytes(), &line)
 }
 
 /// A start event, and a line of so many bytes that are no JSON.
-fn with_long_line(alloc: Global, size: usize) -> Result<Seq<u8>, AllocError> {
+fn with_long_line(alloc: Global, size: usize) -> Result<Vec<u8>, AllocError> {
     let mut line = Vec::new(alloc);
     line.resize(size, b'x')?;
     let mut bytes = Vec::from_slice(alloc, b"{\"start\":\"r\"}\n")?;
     bytes.extend_from_slice(&line)?;
-    Ok(Seq::from_vec(bytes))
+    Ok(bytes)
+}
+
+/// Whether a line of so many bytes behind a start event is refused for this fault.
+fn is_long_refused(alloc: Global, size: usize, fault: &str) -> Result<bool, AllocError> {
+    let events = with_long_line(alloc, size)?;
+    let line = format!(in alloc; "refused: events line 2: {fault}\n")?;
+    are_refused(alloc, &events, &line)
 }
 
 #[test]
 fn the_first_refused_event_is_told(rt: HostRuntime) -> Result<(), Fail> {
-    let alloc = rt.alloc();
     for (before, event, fault) in ROWS {
-        let text = format!(in alloc; "{before}{event}\nx\n")?;
-        let got = told(alloc, contents(alloc, &text)?)?;
-        let line = format!(in alloc; "refused: events{fault}\n")?;
-        assert_eq!(rt; got.bytes(), line.as_bytes(), "at {event:?}");
+        assert!(rt;
+            is_refused(rt.alloc(), before, event, fault)?,
+            "at {event:?}"
+        );
     }
     for (size, fault) in [(65536, "NotJson"), (65537, "LineTooLong")] {
-        let got = told(alloc, with_long_line(alloc, size)?)?;
-        let line = format!(in alloc; "refused: events line 2: {fault}\n")?;
-        assert_eq!(rt; got.bytes(), line.as_bytes(), "at {size}");
+        assert!(rt; is_long_refused(rt.alloc(), size, fault)?, "at {size}");
     }
     Ok(())
 }

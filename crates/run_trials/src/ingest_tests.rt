@@ -1,12 +1,12 @@
 // Label files, with bytes that were worked by hand.
-use crate::word_tests::{contents, name, words};
+use crate::called::{Ended, called, file};
 use std::alloc::{AllocError, Global};
 use std::test::Fail;
-use wf_io::{MemFile, MemShelf, MemSink};
+use wf_io::MemShelf;
 use wf_model::Seq;
 use wf_samples::{LINE, LOOP};
+use wf_top::Status;
 use wf_top::Status::{Done, ReadFault, Refused, WriteFault};
-use wf_top::{Status, run};
 
 /// The head of each label file of the grammar `LINE`: four letters and the digest of its canonical text.
 const HEAD: &[u8] =
@@ -69,61 +69,73 @@ const ROWS: [(&str, &str, bool, Status, &[u8], &str); 8] = [
     (LOOP, ROUND_EVENTS, false, Done, ROUNDS, ""),
 ];
 
-fn file(alloc: Global, called: &str, text: &str, broken: bool) -> Result<MemFile, AllocError> {
-    Ok(MemFile {
-        name: name(alloc, called)?,
-        bytes: contents(alloc, text)?,
-        broken,
-    })
-}
-
-/// What a call writes to a sink of this room, how it ends, and what it tells.
+/// How `ingest` ends, with room for so many bytes on out.
 fn ingested(
     alloc: Global,
     spec: &str,
     events: &str,
     broken: bool,
     room: usize,
-) -> Result<(Status, MemSink, MemSink), AllocError> {
+) -> Result<Ended, AllocError> {
     let mut files = Vec::new(alloc);
-    files.push(file(alloc, "spec", spec, false)?)?;
-    files.push(file(alloc, "events", events, broken)?)?;
+    files.push(file(alloc, "spec", spec.as_bytes(), false)?)?;
+    files.push(file(alloc, "events", events.as_bytes(), broken)?)?;
     let mut shelf = MemShelf::new(Seq::from_vec(files), 7);
-    let mut out = MemSink::new(alloc, room)?;
-    let mut err = MemSink::new(alloc, 64)?;
-    let words = words(alloc, "ingest spec events")?;
-    let status = run(alloc, &words, &mut shelf, &mut out, &mut err);
-    Ok((status, out, err))
+    called(alloc, &mut shelf, "ingest spec events", (room, 64))
+}
+
+/// Whether bytes are a head, that of the line grammar or another, and then these entries.
+fn is_file(bytes: &[u8], of_line: bool, entries: &[u8]) -> bool {
+    match bytes.split_at_checked(36) {
+        Some((head, behind)) => {
+            head.starts_with(b"WFL1") && (head == HEAD) == of_line && behind == entries
+        }
+        None => false,
+    }
+}
+
+/// Whether the items of events are labelled so.
+fn are_labelled(
+    alloc: Global,
+    spec: &str,
+    events: &str,
+    broken: bool,
+    status: Status,
+    entries: &[u8],
+    message: &str,
+) -> Result<bool, AllocError> {
+    let ended = ingested(alloc, spec, events, broken, 128)?;
+    let is_told = ended.status == status && ended.err.bytes() == message.as_bytes();
+    Ok(is_told && is_file(ended.out.bytes(), spec == LINE, entries))
 }
 
 #[test]
 fn items_are_labelled_line_by_line(rt: HostRuntime) -> Result<(), Fail> {
-    let alloc = rt.alloc();
     for (spec, events, broken, status, entries, message) in ROWS {
-        let (got, out, err) = ingested(alloc, spec, events, broken, 128)?;
-        assert_eq!(rt; got, status, "at {events:?}");
-        let Some((head, behind)) = out.bytes().split_at_checked(36) else {
-            return Err(Fail::new("a head"));
-        };
-        assert_eq!(rt; head.starts_with(b"WFL1"), true, "at {events:?}");
-        assert_eq!(rt; head == HEAD, spec == LINE, "at {events:?}");
-        assert_eq!(rt; behind, entries, "at {events:?}");
-        assert_eq!(rt; err.bytes(), message.as_bytes(), "at {events:?}");
+        let alloc = rt.alloc();
+        assert!(rt;
+            are_labelled(alloc, spec, events, broken, status, entries, message)?,
+            "at {events:?}"
+        );
     }
     Ok(())
 }
 
-#[test]
-fn a_full_sink_has_the_first_bytes(rt: HostRuntime) -> Result<(), Fail> {
-    let alloc = rt.alloc();
+/// Whether a sink of so many bytes gets the first ones of the label file of the line grammar.
+fn gets_first(alloc: Global, room: usize) -> Result<bool, AllocError> {
     let mut whole = Vec::from_slice(alloc, HEAD)?;
     whole.extend_from_slice(EDGE)?;
-    assert_eq!(rt; whole.len(), 58);
+    let ended = ingested(alloc, LINE, EVENTS, false, room)?;
+    match whole.get(..room) {
+        Some(first) => Ok(ended.is(WriteFault, first, b"fault: writing\n")),
+        None => Ok(false),
+    }
+}
+
+#[test]
+fn a_full_sink_has_the_first_bytes(rt: HostRuntime) -> Result<(), Fail> {
     for room in 0..58 {
-        let (got, out, err) = ingested(alloc, LINE, EVENTS, false, room)?;
-        assert_eq!(rt; got, WriteFault, "at {room}");
-        assert_eq!(rt; Some(out.bytes()), whole.get(..room), "at {room}");
-        assert_eq!(rt; err.bytes(), b"fault: writing\n".as_slice(), "at {room}");
+        assert!(rt; gets_first(rt.alloc(), room)?, "at {room}");
     }
     Ok(())
 }

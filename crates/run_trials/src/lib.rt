@@ -4,6 +4,8 @@
 #[cfg(test)]
 mod ask_tests;
 #[cfg(test)]
+mod called;
+#[cfg(test)]
 mod decide_tests;
 #[cfg(test)]
 mod event_tests;

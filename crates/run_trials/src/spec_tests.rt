@@ -1,11 +1,8 @@
 // Specifications that are refused for their form or for a size, each for the first fault in the order of trial, with the next one present too.
-use crate::word_tests::{contents, name, words};
+use crate::called::{called, shelf_of};
 use std::alloc::{AllocError, Global};
 use std::test::Fail;
-use wf_io::{MemFile, MemShelf, MemSink};
-use wf_model::Seq;
 use wf_top::Status::Refused;
-use wf_top::{Status, run};
 
 /// Texts that say no parts, and the fault that is told.
 const TEXTS: [(&str, &str); 12] = [
@@ -35,27 +32,12 @@ const TEXTS: [(&str, &str); 12] = [
     ),
 ];
 
-/// How `check` ends on a specification, and what it writes.
-#[derive(Drop)]
-struct Ended {
-    status: Status,
-    out: MemSink,
-    err: MemSink,
-}
-
-fn checked(alloc: Global, text: &str) -> Result<Ended, AllocError> {
-    let mut files = Vec::new(alloc);
-    files.push(MemFile {
-        name: name(alloc, "spec")?,
-        bytes: contents(alloc, text)?,
-        broken: false,
-    })?;
-    let mut shelf = MemShelf::new(Seq::from_vec(files), 65536);
-    let mut out = MemSink::new(alloc, 64)?;
-    let mut err = MemSink::new(alloc, 64)?;
-    let words = words(alloc, "check spec")?;
-    let status = run(alloc, &words, &mut shelf, &mut out, &mut err);
-    Ok(Ended { status, out, err })
+/// Whether `check` refuses a specification for this fault, and writes nothing.
+fn is_refused(alloc: Global, text: &str, fault: &str) -> Result<bool, AllocError> {
+    let mut shelf = shelf_of(alloc, &[("spec", text)], 65536)?;
+    let ended = called(alloc, &mut shelf, "check spec", (64, 64))?;
+    let line = format!(in alloc; "refused: spec: {fault}\n")?;
+    Ok(ended.is(Refused, b"", line.as_bytes()))
 }
 
 /// The numbers below a count, each with a text before and behind it, with commas between.
@@ -84,13 +66,8 @@ fn specification(
 
 #[test]
 fn texts_that_say_no_parts_are_refused(rt: HostRuntime) -> Result<(), Fail> {
-    let alloc = rt.alloc();
     for (text, fault) in TEXTS {
-        let got = checked(alloc, text)?;
-        let line = format!(in alloc; "refused: spec: {fault}\n")?;
-        assert_eq!(rt; got.status, Refused, "at {text:?}");
-        assert_eq!(rt; got.out.bytes(), b"".as_slice(), "at {text:?}");
-        assert_eq!(rt; got.err.bytes(), line.as_bytes(), "at {text:?}");
+        assert!(rt; is_refused(rt.alloc(), text, fault)?, "at {text:?}");
     }
     Ok(())
 }
@@ -132,10 +109,7 @@ fn sizes_are_tried_in_order(rt: HostRuntime) -> Result<(), Fail> {
         ("S", two, full_and_twice.as_str(), "BodiesTooLarge"),
     ] {
         let text = specification(alloc, start, modules, productions, "")?;
-        let got = checked(alloc, &text)?;
-        let line = format!(in alloc; "refused: spec: {fault}\n")?;
-        assert_eq!(rt; got.status, Refused, "at {fault:?}");
-        assert_eq!(rt; got.err.bytes(), line.as_bytes(), "at {fault:?}");
+        assert!(rt; is_refused(alloc, &text, fault)?, "at {fault:?}");
     }
     Ok(())
 }

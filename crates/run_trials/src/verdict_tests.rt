@@ -1,12 +1,9 @@
 // Verdicts on labels of four grammars, each worked by hand or by another program. The chain numbers reach the greatest, 2^24 - 1.
-use crate::word_tests::{contents, name, words};
+use crate::called::{called, shelf_of};
 use std::alloc::{AllocError, Global};
 use std::test::Fail;
-use wf_io::{MemFile, MemShelf, MemSink};
-use wf_model::Seq;
 use wf_samples::{FORKING, PAIR, ROTATING, TWISTING};
 use wf_top::Status::Done;
-use wf_top::{Status, run};
 
 /// Each line: the specification, the view, the words, and the words of the verdict.
 const ROWS: [(&str, &str, &str, &str); 41] = [
@@ -133,33 +130,26 @@ const ROWS: [(&str, &str, &str, &str); 41] = [
     (PAIR, "{}", "decide spec view 20 80000f424060", "yes\n"),
 ];
 
-fn file(alloc: Global, called: &str, text: &str) -> Result<MemFile, AllocError> {
-    Ok(MemFile {
-        name: name(alloc, called)?,
-        bytes: contents(alloc, text)?,
-        broken: false,
-    })
-}
-
-fn shelf(alloc: Global, spec: &str, view: &str) -> Result<MemShelf, AllocError> {
-    let mut files = Vec::new(alloc);
-    files.push(file(alloc, "spec", spec)?)?;
-    files.push(file(alloc, "view", view)?)?;
-    Ok(MemShelf::new(Seq::from_vec(files), 1024))
+/// Whether the verdict on the labels of a line is this text.
+fn is_verdict(
+    alloc: Global,
+    spec: &str,
+    view: &str,
+    line: &str,
+    text: &str,
+) -> Result<bool, AllocError> {
+    let mut shelf = shelf_of(alloc, &[("spec", spec), ("view", view)], 1024)?;
+    let ended = called(alloc, &mut shelf, line, (16, 16))?;
+    Ok(ended.is(Done, text.as_bytes(), b""))
 }
 
 #[test]
 fn labels_have_verdicts(rt: HostRuntime) -> Result<(), Fail> {
-    let alloc = rt.alloc();
     for (spec, view, line, text) in ROWS {
-        let mut shelf = shelf(alloc, spec, view)?;
-        let mut out = MemSink::new(alloc, 16)?;
-        let mut err = MemSink::new(alloc, 16)?;
-        let words = words(alloc, line)?;
-        let got = run(alloc, &words, &mut shelf, &mut out, &mut err);
-        assert_eq!(rt; got, Done, "at {line:?}");
-        assert_eq!(rt; out.bytes(), text.as_bytes(), "at {line:?}");
-        assert_eq!(rt; err.bytes(), b"".as_slice(), "at {line:?}");
+        assert!(rt;
+            is_verdict(rt.alloc(), spec, view, line, text)?,
+            "at {line:?}"
+        );
     }
     Ok(())
 }

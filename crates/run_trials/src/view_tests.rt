@@ -1,12 +1,10 @@
 // The texts of views, and views that are refused, each worked by hand.
-use crate::word_tests::{contents, name, words};
+use crate::called::{called, plainly_called, shelf_of};
 use std::alloc::{AllocError, Global};
 use std::test::Fail;
-use wf_io::{MemFile, MemShelf, MemSink, PlainFile, PlainShelf, PlainSink};
-use wf_model::Seq;
 use wf_samples::{LINE, TWISTING};
+use wf_top::Status;
 use wf_top::Status::{Done, Refused, WriteFault};
-use wf_top::{Status, run};
 
 /// Each line: the specification, the view, the room of out, the status, the text on out and the line on err.
 const ROWS: [(&str, &str, usize, Status, &str, &str); 7] = [
@@ -68,50 +66,37 @@ const ROWS: [(&str, &str, usize, Status, &str, &str); 7] = [
     ),
 ];
 
-fn file(alloc: Global, called: &str, text: &str) -> Result<MemFile, AllocError> {
-    Ok(MemFile {
-        name: name(alloc, called)?,
-        bytes: contents(alloc, text)?,
-        broken: false,
-    })
+/// Whether the command `view` ends so, with room for so many bytes on out.
+fn ends_so(
+    alloc: Global,
+    spec: &str,
+    view: &str,
+    room: usize,
+    status: Status,
+    text: &str,
+    message: &str,
+) -> Result<bool, AllocError> {
+    let mut shelf = shelf_of(alloc, &[("spec", spec), ("view", view)], 7)?;
+    let ended = called(alloc, &mut shelf, "view spec view", (room, 128))?;
+    Ok(ended.is(status, text.as_bytes(), message.as_bytes()))
 }
 
 #[test]
 fn views_are_written_or_refused(rt: HostRuntime) -> Result<(), Fail> {
-    let alloc = rt.alloc();
     for (spec, view, room, status, text, message) in ROWS {
-        let mut files = Vec::new(alloc);
-        files.push(file(alloc, "spec", spec)?)?;
-        files.push(file(alloc, "view", view)?)?;
-        let mut shelf = MemShelf::new(Seq::from_vec(files), 7);
-        let mut out = MemSink::new(alloc, room)?;
-        let mut err = MemSink::new(alloc, 128)?;
-        let words = words(alloc, "view spec view")?;
-        let got = run(alloc, &words, &mut shelf, &mut out, &mut err);
-        assert_eq!(rt; got, status, "at {view:?}");
-        assert_eq!(rt; out.bytes(), text.as_bytes(), "at {view:?}");
-        assert_eq!(rt; err.bytes(), message.as_bytes(), "at {view:?}");
+        let alloc = rt.alloc();
+        assert!(rt;
+            ends_so(alloc, spec, view, room, status, text, message)?,
+            "at {view:?}"
+        );
     }
     Ok(())
 }
 
 #[test]
 fn plain_files_have_views(rt: HostRuntime) -> Result<(), Fail> {
-    let alloc = rt.alloc();
-    let mut files = Vec::new(alloc);
-    for (called, text) in [("spec", TWISTING), ("view", "{}")] {
-        files.push(PlainFile {
-            name: name(alloc, called)?,
-            bytes: contents(alloc, text)?,
-        })?;
-    }
-    let mut shelf = PlainShelf::new(Seq::from_vec(files));
-    let mut out = PlainSink::new();
-    let mut err = PlainSink::new();
-    let words = ["view", "spec", "view"];
-    let got = run(alloc, &words, &mut shelf, &mut out, &mut err);
-    assert_eq!(rt; got, Done);
-    assert_eq!(rt; out.length(), 86);
-    assert_eq!(rt; err.length(), 0);
+    let files = [("spec", TWISTING), ("view", "{}")];
+    let ended = plainly_called(rt.alloc(), &files, "view spec view")?;
+    assert_eq!(rt; ended, (Done, 86, 0));
     Ok(())
 }

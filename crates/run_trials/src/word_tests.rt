@@ -1,13 +1,14 @@
 // The program over files in memory, with outputs that were worked by hand.
 ghost use Rattle.std.specs.Prelude.{◌≤◌};
 
+use crate::called::{called, file, plainly_called};
 use std::alloc::{AllocError, Global};
 use std::test::Fail;
-use wf_io::{MemFile, MemShelf, MemSink, PlainFile, PlainShelf, PlainSink};
-use wf_model::{Name, Seq};
+use wf_io::MemShelf;
+use wf_model::Seq;
 use wf_samples::{LINE, LOOP, PAIR};
+use wf_top::Status;
 use wf_top::Status::{Done, ReadFault, Refused, Usage, WriteFault};
-use wf_top::{Status, run};
 
 /// The same with blanks, with members that are ignored or empty, and with pairs.
 const LINE_LOOSELY: &str =
@@ -91,34 +92,14 @@ const FILES: [(&str, &str, bool); 25] = [
     ("two-ends", "r.a r.b\r\n\nr.b r.b", false),
 ];
 
-pub(crate) fn name(alloc: Global, text: &str) -> Result<Name, AllocError> {
-    Ok(Name::from_vec(Vec::from_slice(alloc, text.as_bytes())?))
-}
-
-pub(crate) fn contents(alloc: Global, text: &str) -> Result<Seq<u8>, AllocError> {
-    Ok(Seq::from_vec(Vec::from_slice(alloc, text.as_bytes())?))
-}
-
 fn shelf(alloc: Global, piece: u32) -> Result<MemShelf, AllocError>
     requires { 1 ≤ piece }
 {
     let mut files = Vec::new(alloc);
     for (called, text, broken) in FILES {
-        files.push(MemFile {
-            name: name(alloc, called)?,
-            bytes: contents(alloc, text)?,
-            broken,
-        })?;
+        files.push(file(alloc, called, text.as_bytes(), broken)?)?;
     }
     Ok(MemShelf::new(Seq::from_vec(files), piece))
-}
-
-pub(crate) fn words<'a>(alloc: Global, line: &'a str) -> Result<Vec<&'a str>, AllocError> {
-    let mut words = Vec::new(alloc);
-    for word in line.split_whitespace() {
-        words.push(word)?;
-    }
-    Ok(words)
 }
 
 /// Each line: the words, the status, the text on out and the line on err.
@@ -307,25 +288,46 @@ const ROWS: [(&str, Status, &str, &str); 41] = [
     ),
 ];
 
+/// Whether a call ends so over a shelf that is read in pieces of so many bytes, and meets one fault of reading or none.
+fn ends_so(
+    alloc: Global,
+    piece: u32,
+    line: &str,
+    status: Status,
+    answers: &str,
+    message: &str,
+) -> Result<bool, AllocError>
+    requires { 1 ≤ piece }
+{
+    let mut shelf = shelf(alloc, piece)?;
+    let ended = called(alloc, &mut shelf, line, (128, 64))?;
+    let faults = u64::from(status == ReadFault);
+    let is_told = ended.is(status, answers.as_bytes(), message.as_bytes());
+    Ok(is_told && shelf.faults() == faults)
+}
+
 #[test]
 fn words_end_as_they_should(rt: HostRuntime) -> Result<(), Fail> {
-    let alloc = rt.alloc();
-    for piece in [2, 65536] {
-        assert!(rt; piece >= 1);
-        for (line, status, answers, message) in ROWS {
-            let mut shelf = shelf(alloc, piece)?;
-            let mut out = MemSink::new(alloc, 128)?;
-            let mut err = MemSink::new(alloc, 64)?;
-            let words = words(alloc, line)?;
-            let got = run(alloc, &words, &mut shelf, &mut out, &mut err);
-            assert_eq!(rt; got, status, "at {line:?}");
-            assert_eq!(rt; out.bytes(), answers.as_bytes(), "at {line:?}");
-            assert_eq!(rt; err.bytes(), message.as_bytes(), "at {line:?}");
-            let faults = if status == ReadFault { 1 } else { 0 };
-            assert_eq!(rt; shelf.faults(), faults, "at {line:?}");
-        }
+    for (line, status, answers, message) in ROWS {
+        let alloc = rt.alloc();
+        assert!(rt;
+            ends_so(alloc, 2, line, status, answers, message)?,
+            "at {line:?}"
+        );
+        assert!(rt;
+            ends_so(alloc, 65536, line, status, answers, message)?,
+            "at {line:?}"
+        );
     }
     Ok(())
+}
+
+/// Whether `check` writes a canonical text and lines for its composite modules.
+fn is_checked(alloc: Global, line: &str, text: &str, lines: &str) -> Result<bool, AllocError> {
+    let mut shelf = shelf(alloc, 7)?;
+    let ended = called(alloc, &mut shelf, line, (1024, 64))?;
+    let expected = format!(in alloc; "{text}\n{lines}")?;
+    Ok(ended.is(Done, expected.as_bytes(), b""))
 }
 
 #[test]
@@ -338,17 +340,23 @@ fn check_writes_the_canonical_text_the_ranks_and_the_cycles(rt: HostRuntime) -> 
         ("check loop", LOOP, LOOP_CHECKED),
         ("check pair", PAIR, PAIR_CHECKED),
     ] {
-        let mut shelf = shelf(alloc, 7)?;
-        let mut out = MemSink::new(alloc, 1024)?;
-        let mut err = MemSink::new(alloc, 64)?;
-        let words = words(alloc, line)?;
-        let got = run(alloc, &words, &mut shelf, &mut out, &mut err);
-        assert_eq!(rt; got, Done, "at {line:?}");
-        let expected = format!(in alloc; "{text}\n{lines}")?;
-        assert_eq!(rt; out.bytes(), expected.as_bytes(), "at {line:?}");
-        assert_eq!(rt; err.bytes(), b"".as_slice(), "at {line:?}");
+        assert!(rt; is_checked(alloc, line, text, lines)?, "at {line:?}");
     }
     Ok(())
+}
+
+/// Whether a call ends so over sinks with room for so many bytes.
+fn ends_in(
+    alloc: Global,
+    line: &str,
+    rooms: (usize, usize),
+    status: Status,
+    answers: &str,
+    message: &str,
+) -> Result<bool, AllocError> {
+    let mut shelf = shelf(alloc, 7)?;
+    let ended = called(alloc, &mut shelf, line, rooms)?;
+    Ok(ended.is(status, answers.as_bytes(), message.as_bytes()))
 }
 
 #[test]
@@ -428,35 +436,24 @@ fn sinks_may_be_full(rt: HostRuntime) -> Result<(), Fail> {
             "fau",
         ),
     ] {
-        let mut shelf = shelf(alloc, 7)?;
-        let mut out = MemSink::new(alloc, out_room)?;
-        let mut err = MemSink::new(alloc, err_room)?;
-        let words = words(alloc, line)?;
-        let got = run(alloc, &words, &mut shelf, &mut out, &mut err);
-        assert_eq!(rt; got, status, "at {line:?}");
-        assert_eq!(rt; out.bytes(), answers.as_bytes(), "at {line:?}");
-        assert_eq!(rt; err.bytes(), message.as_bytes(), "at {line:?}");
+        let rooms = (out_room, err_room);
+        assert!(rt;
+            ends_in(alloc, line, rooms, status, answers, message)?,
+            "at {line:?}"
+        );
     }
     Ok(())
 }
 
 #[test]
 fn plain_files_and_sinks_will_do(rt: HostRuntime) -> Result<(), Fail> {
-    let alloc = rt.alloc();
-    let mut files = Vec::new(alloc);
-    for (called, text, _) in FILES {
-        files.push(PlainFile {
-            name: name(alloc, called)?,
-            bytes: contents(alloc, text)?,
-        })?;
-    }
-    let mut shelf = PlainShelf::new(Seq::from_vec(files));
-    let mut out = PlainSink::new();
-    let mut err = PlainSink::new();
-    let words = ["trace", "spec", "view", "events", "queries"];
-    let got = run(alloc, &words, &mut shelf, &mut out, &mut err);
-    assert_eq!(rt; got, Done);
-    assert_eq!(rt; out.length(), 22);
-    assert_eq!(rt; err.length(), 0);
+    let files = [
+        ("spec", LINE),
+        ("view", "{}"),
+        ("events", EVENTS),
+        ("queries", QUERIES),
+    ];
+    let ended = plainly_called(rt.alloc(), &files, "trace spec view events queries")?;
+    assert_eq!(rt; ended, (Done, 22, 0));
     Ok(())
 }

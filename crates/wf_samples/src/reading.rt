@@ -11,6 +11,7 @@ ghost use Rattle.wf_view.specs.Held.{IsHeldFor};
 use std::alloc::Global;
 use std::test::Fail;
 use wf_check::{Proper, proper};
+use wf_form::build;
 use wf_json::{read_spec, read_view};
 use wf_recur::{Cycles, cycles};
 use wf_safe::{FullDeps, full_deps};
@@ -28,7 +29,7 @@ pub struct Accepted {
 /// The grammar of a specification.
 pub fn grammar(alloc: Global, text: &str) -> Result<Grammar, Fail> {
     let parts = read_spec(alloc, text.as_bytes())?;
-    Ok(Grammar::build(alloc, parts)?)
+    Ok(build(alloc, parts)?)
 }
 
 /// The grammar of a specification, with what commands take of it.

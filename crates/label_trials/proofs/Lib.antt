@@ -1,2 +1,0 @@
-pub mod WholeRounds
-pub mod Components
