@@ -21,6 +21,11 @@ pub record Stock : Type 0 where
   pub piece : ℕ
   pub faults : ℕ
 
+-- a shelf in memory with a fuse: the shelf, and how many calls are still passed on to it
+pub record Fuse : Type 0 where
+  pub stock : Stock
+  pub calls : ℕ
+
 -- a sink in memory: the bytes that were put, its room, and how often a call failed
 pub record Written : Type 0 where
   pub bytes : List ℕ

@@ -1,6 +1,7 @@
 //! The outside: files that are read in pieces, a sink for text, and the lines of bytes.
 #![tactic(auto)]
 
+mod fuse_shelf;
 mod lines;
 mod mem_shelf;
 mod mem_sink;
@@ -9,8 +10,10 @@ mod piece;
 mod plain_shelf;
 mod plain_sink;
 mod whole;
+mod window;
 
-pub use lines::{LineFault, WholeLines};
+pub use fuse_shelf::FuseShelf;
+pub use lines::{LineFault, Lines};
 pub use mem_shelf::{MemFile, MemShelf};
 pub use mem_sink::MemSink;
 pub use outside::{Failed, Shelf, Sink};

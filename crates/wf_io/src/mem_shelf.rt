@@ -57,6 +57,14 @@ impl MemShelf {
     {
         self.faults
     }
+
+    /// Counts a call that failed.
+    pub(crate) fn count_fault(&mut self)
+        ensures count { self.new ≡ record { files = self.old.files; piece = self.old.piece; faults = min (self.old.faults + 1) (2 ^ 64 - 1) } }
+        ensures later { self.old.faults ≤ self.new.faults }
+    {
+        self.faults = self.faults.saturating_add(1);
+    }
 }
 
 fn find<'a>(files: &'a [MemFile], name: &str) -> Option<&'a MemFile>
@@ -122,7 +130,7 @@ impl Shelf for MemShelf {
     {
         let answer = read(self.files.items(), name, at, buf, self.piece as usize);
         if answer.is_err() {
-            self.faults = self.faults.saturating_add(1);
+            self.count_fault();
         }
         answer
     }

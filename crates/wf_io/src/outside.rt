@@ -29,6 +29,12 @@ pub trait Shelf {
         ensures ok { OnOk result (faults self.new ≡ faults self.old) }
         ensures cause { IsErr result → Rose (faults self.old) (faults self.new) (at_last self.new) }
         ensures bytes { (f : List ℕ → File) → files self.old ≡ Some f → Reads (f name.now) at (length buf.old) result buf.new };
+
+    /// A number that those who write the files do not know, and 0 where the shelf has none. Tables of names are hashed
+    /// with it. No clause says anything of it: no answer, no order and no text rests on it.
+    fn hash_key(&self) -> u64 {
+        0
+    }
 }
 
 /// Text is put into it, one piece after the other.
