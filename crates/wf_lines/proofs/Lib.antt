@@ -1,0 +1,9 @@
+pub mod Causes
+pub mod Dues
+pub mod LineStages
+pub mod Growing
+pub mod Openings
+pub mod Makings
+pub mod Seekings
+pub mod SoFar
+pub mod Stoppings

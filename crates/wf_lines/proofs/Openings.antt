@@ -1,0 +1,16 @@
+-- A reader of lines as it is opened.
+use Rattle.std.proofs.Common.{◌≡◌, ℕ, true, false, List, [], refl, sym, subst, arith, true≢false}
+use Rattle.wf_io.specs.Told.{File}
+use Rattle.wf_io.specs.Lines.{FileLines, lines_in}
+use Rattle.wf_io.specs.Readers.{Reader, Stands, left_in}
+
+abbrev pub opened : List ℕ → Reader
+opened name = record { name = name; place = 0; kept = []; number = 1; line = 0; held = []; live = true; wants = false; ended = false }
+
+-- it stands in each file
+opened_in : (file : File) (name : List ℕ) → Stands file (opened name)
+opened_in file name = record { rest = file.bytes; bytes = refl; within = omega arith; whole = λ e. absurd (true≢false (sym e)) }
+
+-- what is so of what is left of a file where the reader stands is so of all its lines
+pub told_opened : (P : FileLines → Type 0) (f : List ℕ → File) (name : List ℕ) (r : Reader) → r ≡ opened name → (Stands (f r.name) r → P (left_in (f r.name) r)) → P (lines_in (f name))
+told_opened P f name r is = subst (λ (z : Reader). (Stands (f z.name) z → P (left_in (f z.name) z)) → P (lines_in (f name))) (sym is) (λ h. h (opened_in (f name) name))

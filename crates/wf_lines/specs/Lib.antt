@@ -1,0 +1,2 @@
+pub mod LineStages
+pub mod Taking
