@@ -154,14 +154,21 @@ impl PlainRun {
     ghost use Rattle.wf_model.specs.Lists.{IsIn};
     ghost use Rattle.wf_flat.specs.declared.table.Opened.{Opened};
 
-    /// A run before its start, of at most `most` instances. Takes no memory.
+    /// A run before its start, of at most `most` instances, as `with_key` with the key 0. Takes no memory.
     pub fn new(alloc: Global, most: u32) -> PlainRun
+        ensures { result ≡ record { most = most; instances = []; order = [] } }
+    {
+        PlainRun::with_key(alloc, 0, most)
+    }
+
+    /// A run before its start, of at most `most` instances, whose names are hashed with this key. Takes no memory.
+    pub fn with_key(alloc: Global, key: u64, most: u32) -> PlainRun
         ensures { result ≡ record { most = most; instances = []; order = [] } }
     {
         PlainRun {
             alloc,
             most,
-            names: Names::new(alloc),
+            names: Names::with_key(alloc, key),
             instances: Vec::new(alloc),
             order: Vec::new(alloc),
         }

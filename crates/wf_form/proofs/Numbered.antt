@@ -1,6 +1,6 @@
 -- Names and their places among names.
 use Rattle.wf_spec.proofs.Finding.{place_at, place_within, same_name}
-use Rattle.std.proofs.Common.{◌≡◌, ◌↔◌, ℕ, ◌+◌, ◌<◌, List, [], ◌∷◌, length, get_or, map, sym, subst}
+use Rattle.std.proofs.Common.{◌≡◌, ◌↔◌, ℕ, ◌<◌, List, [], length, get_or, map, sym, subst}
 use Rattle.wf_model.specs.Lists.{IsIn, AllDiffer}
 use Rattle.wf_model.proofs.Lists.{in_map, in_map_from}
 use Rattle.wf_spec.specs.Naming.{place_of}

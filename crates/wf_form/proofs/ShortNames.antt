@@ -1,5 +1,5 @@
 -- Names of parts that are short, as tests.
-use Rattle.std.proofs.Common.{◌≡◌, Bool, true, ◌&&◌, ◌∙◌, true≢false}
+use Rattle.std.proofs.Common.{◌≡◌, Bool, true, ◌&&◌}
 use Rattle.std.specs.List.{list_all}
 use Rattle.wf_model.specs.declared.parts.ModulePart.{ModulePart}
 use Rattle.wf_model.specs.declared.parts.PosPart.{PosPart}

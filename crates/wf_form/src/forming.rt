@@ -13,14 +13,14 @@ use std::alloc::Global;
 use wf_model::Parts;
 use wf_spec::Grammar;
 
-fn built(alloc: Global, parts: &Parts) -> Result<Grammar, FormFault>
+fn built(alloc: Global, key: u64, parts: &Parts) -> Result<Grammar, FormFault>
     ensures accepted { IfOk result (λ g. (g.core ≡ grammar_of parts.now) × IsFormed parts.now) }
     ensures refused { IfErr result (λ f. (f ≡ NoMemory) ⊎ IsFaultOf parts.now f) }
 {
-    let names = check_modules(alloc, parts)?;
+    let names = check_modules(alloc, key, parts)?;
     check_bodies(alloc, &names, parts)?;
     let modules = modules_from(alloc, parts.modules.items())?;
-    let wirings = wired(alloc, &names, &modules, parts)?;
+    let wirings = wired(alloc, key, &names, &modules, parts)?;
     let grammar = assemble(alloc, parts, names, modules, wirings)?;
     Ok(grammar)
 }
@@ -30,9 +30,19 @@ fn built(alloc: Global, parts: &Parts) -> Result<Grammar, FormFault>
 /// A name in `parts` may hold any bytes; this call is the test. Errors: the fault of the first rule that the parts break, at the first place, in the order of `FormFault`; `NoMemory` may come at any time.
 ///
 /// Cost: linear in the size of the parts, as a module is found by hashing, and a position or a port among at most 64; the copies of all names, and 8 bytes for each input of a module.
+///
+/// Names are hashed with the key, here and by the grammar.
+pub fn build_with_key(alloc: Global, key: u64, parts: Parts) -> Result<Grammar, FormFault>
+    ensures accepted { IfOk result (λ g. (g.core ≡ grammar_of parts) × IsFormed parts) }
+    ensures refused { IfErr result (λ f. (f ≡ NoMemory) ⊎ IsFaultOf parts f) }
+{
+    built(alloc, key, &parts)
+}
+
+/// The grammar that parts describe, as `build_with_key` with the key 0.
 pub fn build(alloc: Global, parts: Parts) -> Result<Grammar, FormFault>
     ensures accepted { IfOk result (λ g. (g.core ≡ grammar_of parts) × IsFormed parts) }
     ensures refused { IfErr result (λ f. (f ≡ NoMemory) ⊎ IsFaultOf parts f) }
 {
-    built(alloc, &parts)
+    build_with_key(alloc, 0, parts)
 }

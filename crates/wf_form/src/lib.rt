@@ -10,5 +10,5 @@ mod links;
 mod wiring;
 
 pub use fault::{FormFault, Spot};
-pub use forming::build;
+pub use forming::{build, build_with_key};
 pub use law::forming_law;

@@ -32,6 +32,7 @@ use wf_spec::Module;
 /// The links of all productions by numbers, where the rules on links and pairs hold.
 fn wired_from(
     alloc: Global,
+    key: u64,
     names: &Names,
     modules: &[Module],
     productions: &[ProdPart],
@@ -49,7 +50,7 @@ fn wired_from(
         });
     }
     check_wirings(alloc, modules, &wirings)?;
-    if let Some(k) = first_on_composite(alloc, productions, deps)? {
+    if let Some(k) = first_on_composite(alloc, key, productions, deps)? {
         return Err(FormFault::DepsOnComposite { deps: k as u64 });
     }
     Ok(wirings)
@@ -64,6 +65,7 @@ fn wired_from(
 /// Cost: for each link and each pair a look at no more than 64 positions and 128 ports; for each head, position and deps part a look-up by hashing; and, once each port has one link, for each position of a body two looks at each of its edges.
 pub fn wired(
     alloc: Global,
+    key: u64,
     names: &Names,
     modules: &[Module],
     parts: &Parts,
@@ -78,6 +80,7 @@ pub fn wired(
 {
     wired_from(
         alloc,
+        key,
         names,
         modules,
         parts.productions.items(),

@@ -3,18 +3,23 @@ ghost use Rattle.std.specs.Prelude.{◌≡◌, ◌<◌, ◌++◌, ◌∷◌, [],
 ghost use Rattle.wf_model.specs.Faults.{is_one_of, some_twice};
 ghost use Rattle.wf_names.specs.Names.{bytes_of};
 
+use crate::keyed::KeyedHash;
 use indexmap::IndexSet;
 use std::alloc::{AllocError, Global};
 use std::marker::Model;
 use wf_model::Name;
 
-fn holds(names: &IndexSet<Vec<u8>>, name: &[u8]) -> bool
+fn holds(names: &IndexSet<Vec<u8>, KeyedHash>, name: &[u8]) -> bool
     ensures { result ≡ is_one_of (bytes_of names.now.keys) name.now }
 {
     names.contains(name)
 }
 
-fn put(alloc: Global, names: &mut IndexSet<Vec<u8>>, name: &[u8]) -> Result<(), AllocError>
+fn put(
+    alloc: Global,
+    names: &mut IndexSet<Vec<u8>, KeyedHash>,
+    name: &[u8],
+) -> Result<(), AllocError>
     requires { is_one_of (bytes_of names.old.keys) name.now ≡ false }
     ensures added { OnOk result (bytes_of names.new.keys ≡ bytes_of names.old.keys ++ name.now ∷ []) }
     ensures err { OnErr result (names.new.keys ≡ names.old.keys) }
@@ -28,7 +33,7 @@ fn put(alloc: Global, names: &mut IndexSet<Vec<u8>>, name: &[u8]) -> Result<(), 
 #[derive(Drop)]
 pub struct Names {
     alloc: Global,
-    numbers: IndexSet<Vec<u8>>,
+    numbers: IndexSet<Vec<u8>, KeyedHash>,
 }
 
 impl Model for Names {
@@ -40,12 +45,20 @@ impl Model for Names {
 }
 
 impl Names {
+    /// No names, in a table with the key 0.
     pub fn new(alloc: Global) -> Names
+        ensures { result ≡ [] }
+    {
+        Names::with_key(alloc, 0)
+    }
+
+    /// No names, in a table with this key.
+    pub fn with_key(alloc: Global, key: u64) -> Names
         ensures { result ≡ [] }
     {
         Names {
             alloc,
-            numbers: IndexSet::new(alloc),
+            numbers: IndexSet::with_hasher(alloc, KeyedHash::new(key)),
         }
     }
 

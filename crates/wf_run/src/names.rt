@@ -8,21 +8,27 @@ use indexmap::IndexSet;
 use run_faults::Taken;
 use std::alloc::{AllocError, Global};
 use std::marker::Model;
+use wf_names::{KeyedHash, NameKey};
 use wf_spec::Name;
 
-fn holds(names: &IndexSet<&[u8]>, name: &[u8]) -> bool
+fn holds(names: &IndexSet<NameKey, KeyedHash>, name: &[u8]) -> bool
     ensures { result ≡ is_one_of (placed names.now.keys) name.now }
 {
-    names.contains(name)
+    let key = NameKey { bytes: name };
+    names.contains(&key)
 }
 
-fn put<'a>(arena: &'a Bump, names: &mut IndexSet<&'a [u8]>, name: &[u8]) -> Result<(), AllocError>
+fn put<'a>(
+    arena: &'a Bump,
+    names: &mut IndexSet<NameKey<'a>, KeyedHash>,
+    name: &[u8],
+) -> Result<(), AllocError>
     requires { is_one_of (placed names.old.keys) name.now ≡ false }
     ensures added { OnOk result (placed names.new.keys ≡ placed names.old.keys ++ name.now ∷ []) }
     ensures err { OnErr result (names.new.keys ≡ names.old.keys) }
 {
-    let key: &'a [u8] = arena.try_alloc_slice_copy(name)?;
-    names.insert(key)?;
+    let bytes: &'a [u8] = arena.try_alloc_slice_copy(name)?;
+    names.insert(NameKey { bytes })?;
     Ok(())
 }
 
@@ -30,7 +36,7 @@ fn put<'a>(arena: &'a Bump, names: &mut IndexSet<&'a [u8]>, name: &[u8]) -> Resu
 #[derive(Drop)]
 pub(crate) struct PlacedNames<'a> {
     arena: &'a Bump,
-    numbers: IndexSet<&'a [u8]>,
+    numbers: IndexSet<NameKey<'a>, KeyedHash>,
 }
 
 impl<'a> Model for PlacedNames<'a> {
@@ -38,16 +44,17 @@ impl<'a> Model for PlacedNames<'a> {
 
     ghost Value = { List (List ℕ) };
 
-    ghost view = { λ t. map (λ k. k.now) t.numbers.keys };
+    ghost view = { λ t. map (λ k. k.bytes.now) t.numbers.keys };
 }
 
 impl<'a> PlacedNames<'a> {
-    pub(crate) fn new(alloc: Global, arena: &'a Bump) -> PlacedNames<'a>
+    /// No names, in a table with this key.
+    pub(crate) fn with_key(alloc: Global, key: u64, arena: &'a Bump) -> PlacedNames<'a>
         ensures { result ≡ [] }
     {
         PlacedNames {
             arena,
-            numbers: IndexSet::new(alloc),
+            numbers: IndexSet::with_hasher(alloc, KeyedHash::new(key)),
         }
     }
 
@@ -56,7 +63,8 @@ impl<'a> PlacedNames<'a> {
         ensures place { result ≡ position (bytes_eq name.now) self.now }
         ensures within { IfSome result (λ i. i < length self.now) }
     {
-        self.numbers.get_index_of(name)
+        let key = NameKey { bytes: name };
+        self.numbers.get_index_of(&key)
     }
 
     /// The name of a number.
@@ -64,7 +72,7 @@ impl<'a> PlacedNames<'a> {
         requires { i < length self.now }
         ensures { result.now ≡ get_or self.now i [] }
     {
-        self.numbers[i]
+        self.numbers[i].bytes
     }
 
     /// Adds a new name. After an error its bytes may lie in the arena, where nothing finds them.

@@ -50,9 +50,28 @@ impl<'a> Model for Run<'a> {
 }
 
 impl<'a> Run<'a> {
-    /// A run before its start, of at most `most` instances. Takes no memory.
+    /// A run before its start, of at most `most` instances, as `with_key` with the key 0. Takes no memory.
     pub fn new(
         alloc: Global,
+        arena: &'a Bump,
+        grammar: &'a Grammar,
+        cycles: &'a Cycles,
+        most: u32,
+    ) -> Run<'a>
+        requires linear { IsLinear grammar.now.core }
+        requires cycles { AreCyclesOf grammar.now.core cycles.now }
+        requires most { most ≤ 2 ^ 24 }
+        ensures run { IsRunOf result [] }
+        ensures grammar { result.grammar ≡ grammar.now }
+        ensures most { result.most ≡ most }
+    {
+        Run::with_key(alloc, 0, arena, grammar, cycles, most)
+    }
+
+    /// A run before its start, of at most `most` instances, whose names are hashed with this key. Takes no memory.
+    pub fn with_key(
+        alloc: Global,
+        key: u64,
         arena: &'a Bump,
         grammar: &'a Grammar,
         cycles: &'a Cycles,
@@ -72,12 +91,12 @@ impl<'a> Run<'a> {
             cycles,
             most,
             expands: 0,
-            names: PlacedNames::new(alloc, arena),
+            names: PlacedNames::with_key(alloc, key, arena),
             nodes: Vec::new(alloc),
         }
     }
 
-    /// The grammar that `new` was given.
+    /// The grammar that the run was given at its making.
     pub fn grammar(&self) -> &'a Grammar
         ensures grammar { result.now ≡ self.now.grammar }
         ensures linear { IsLinear self.now.grammar.core }

@@ -26,10 +26,15 @@ fn take_new(taken: &mut Names, names: &[Name]) -> Result<bool, AllocError>
 }
 
 /// Whether the names of ports differ, those of both sides together.
-fn ports_differ(alloc: Global, inputs: &[Name], outputs: &[Name]) -> Result<bool, AllocError>
+fn ports_differ(
+    alloc: Global,
+    key: u64,
+    inputs: &[Name],
+    outputs: &[Name],
+) -> Result<bool, AllocError>
     ensures { IfOk result (λ b. b ≡ not (some_twice [] (inputs.now ++ outputs.now))) }
 {
-    let mut taken = Names::new(alloc);
+    let mut taken = Names::with_key(alloc, key);
     let differ = take_new(&mut taken, inputs)?;
     if !differ {
         return Ok(false);
@@ -38,7 +43,7 @@ fn ports_differ(alloc: Global, inputs: &[Name], outputs: &[Name]) -> Result<bool
     Ok(differ)
 }
 
-/// Whether the names of the positions of a body differ.
+/// Whether the names of the positions of a body differ. A body that is tried has at most 64.
 fn positions_differ(alloc: Global, body: &[PosPart]) -> Result<bool, AllocError>
     ensures { IfOk result (λ b. b ≡ not (some_twice [] (map (λ q. q.name) body.now))) }
 {
@@ -54,12 +59,16 @@ fn positions_differ(alloc: Global, body: &[PosPart]) -> Result<bool, AllocError>
 
 /// The first module of which two ports have one name.
 ///
-/// Cost: for each module one look-up and one copy of the name of each port.
-pub fn first_port_twice(alloc: Global, modules: &[ModulePart]) -> Result<Option<usize>, AllocError>
+/// Cost: for each module one look-up with the key and one copy of the name of each port.
+pub fn first_port_twice(
+    alloc: Global,
+    key: u64,
+    modules: &[ModulePart],
+) -> Result<Option<usize>, AllocError>
     ensures { IfOk result (λ answer. IsFirstFailing (each modules.now HasDifferentPorts PortTwice) answer) }
 {
     for (k, one) in modules.iter().enumerate() {
-        let differ = ports_differ(alloc, one.inputs.items(), one.outputs.items())?;
+        let differ = ports_differ(alloc, key, one.inputs.items(), one.outputs.items())?;
         if !differ {
             return Ok(Some(k));
         }

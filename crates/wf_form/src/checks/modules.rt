@@ -20,7 +20,7 @@ fn first_many_ports(modules: &[ModulePart]) -> Option<usize>
 }
 
 /// The rules on names: each is of letters, and no module has the name of an earlier one.
-fn check_names(alloc: Global, parts: &Parts) -> Result<Names, FormFault>
+fn check_names(alloc: Global, key: u64, parts: &Parts) -> Result<Names, FormFault>
     ensures names { IfOk result (λ names. names ≡ module_names parts.now.modules) }
     ensures kept { OnOk result (AllHold (take 3 (first_rules parts.now))) }
     ensures refused { IfErr result (λ f. (f ≡ NoMemory) ⊎ IsFirstFault (take 3 (first_rules parts.now)) f) }
@@ -37,16 +37,16 @@ fn check_names(alloc: Global, parts: &Parts) -> Result<Names, FormFault>
             at: Spot::Production(k as u64),
         });
     }
-    numbered_names(alloc, modules)
+    numbered_names(alloc, key, modules)
 }
 
 /// The rules on ports, and on the numbers of modules and productions.
-fn check_counts(alloc: Global, parts: &Parts) -> Result<(), FormFault>
+fn check_counts(alloc: Global, key: u64, parts: &Parts) -> Result<(), FormFault>
     ensures kept { OnOk result (AllHold (drop 3 (first_rules parts.now))) }
     ensures refused { IfErr result (λ f. (f ≡ NoMemory) ⊎ IsFirstFault (drop 3 (first_rules parts.now)) f) }
 {
     let modules = parts.modules.items();
-    if let Some(k) = first_port_twice(alloc, modules)? {
+    if let Some(k) = first_port_twice(alloc, key, modules)? {
         return Err(FormFault::PortTwice { module: k as u64 });
     }
     if let Some(k) = first_many_ports(modules) {
@@ -61,17 +61,17 @@ fn check_counts(alloc: Global, parts: &Parts) -> Result<(), FormFault>
     Ok(())
 }
 
-/// The names of the modules, numbered, where the rules on modules by themselves and on the numbers of modules and productions hold.
+/// The names of the modules, numbered, in a table with this key, where the rules on modules by themselves and on the numbers of modules and productions hold.
 ///
 /// Errors: the fault of the first rule that is broken, at the first place, of `NameBad`, `NameTwice`, `PortTwice`, `TooManyPorts`, `TooManyModules` and `TooManyProductions` in this order; `NoMemory` may come at any time.
 ///
-/// Cost: one look at each byte of a name, and for each module and each port one look-up by hashing and one copy of its name.
-pub fn check_modules(alloc: Global, parts: &Parts) -> Result<Names, FormFault>
+/// Cost: one look at each byte of a name, and for each module and each port one look-up by hashing with the key and one copy of its name.
+pub fn check_modules(alloc: Global, key: u64, parts: &Parts) -> Result<Names, FormFault>
     ensures names { IfOk result (λ names. names ≡ module_names parts.now.modules) }
     ensures kept { OnOk result (AllHold (first_rules parts.now)) }
     ensures refused { IfErr result (λ f. (f ≡ NoMemory) ⊎ IsFirstFault (first_rules parts.now) f) }
 {
-    let names = check_names(alloc, parts)?;
-    check_counts(alloc, parts)?;
+    let names = check_names(alloc, key, parts)?;
+    check_counts(alloc, key, parts)?;
     Ok(names)
 }

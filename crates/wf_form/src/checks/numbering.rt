@@ -9,15 +9,15 @@ use std::alloc::Global;
 use wf_model::ModulePart;
 use wf_names::Names;
 
-/// The names of modules, numbered. NameTwice at the first that an earlier module has.
+/// The names of modules, numbered, in a table with this key. NameTwice at the first that an earlier module has.
 ///
 /// Cost: for each module up to there one look-up and one copy of its name.
-pub fn numbered_names(alloc: Global, modules: &[ModulePart]) -> Result<Names, FormFault>
+pub fn numbered_names(alloc: Global, key: u64, modules: &[ModulePart]) -> Result<Names, FormFault>
     ensures names { IfOk result (λ names. names ≡ module_names modules.now) }
     ensures kept { OnOk result (HoldsThroughout (new_names modules.now)) }
     ensures refused { IfErr result (λ f. (f ≡ NoMemory) ⊎ IsFirstFault (new_names modules.now ∷ []) f) }
 {
-    let mut names = Names::new(alloc);
+    let mut names = Names::with_key(alloc, key);
     for (k, one) in modules.iter().enumerate() {
         let name = one.name.bytes();
         if names.holds(name) {

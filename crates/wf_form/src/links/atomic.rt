@@ -22,10 +22,10 @@ fn take(names: &mut Names, name: &[u8]) -> Result<(), AllocError>
 }
 
 /// The names of the heads.
-fn heads(alloc: Global, productions: &[ProdPart]) -> Result<Names, AllocError>
+fn heads(alloc: Global, key: u64, productions: &[ProdPart]) -> Result<Names, AllocError>
     ensures { IfOk result (λ names. (n : List ℕ) → IsIn n names ↔ IsIn n (map (λ p. p.head) productions.now)) }
 {
-    let mut names = Names::new(alloc);
+    let mut names = Names::with_key(alloc, key);
     for rule in productions {
         take(&mut names, rule.head.bytes())?;
     }
@@ -41,14 +41,15 @@ fn first_of(names: &Names, deps: &[DepsPart]) -> Option<usize>
 
 /// The first deps part whose module is a head.
 ///
-/// Cost: for each production and each deps part one look-up by hashing, and a copy of the name of each head.
+/// Cost: for each production and each deps part one look-up by hashing with the key, and a copy of the name of each head.
 pub fn first_on_composite(
     alloc: Global,
+    key: u64,
     productions: &[ProdPart],
     deps: &[DepsPart],
 ) -> Result<Option<usize>, AllocError>
     ensures { IfOk result (λ answer. IsFirstFailing (each deps.now (IsOfAtomic productions.now) DepsOnComposite) answer) }
 {
-    let heads = heads(alloc, productions)?;
+    let heads = heads(alloc, key, productions)?;
     Ok(first_of(&heads, deps))
 }

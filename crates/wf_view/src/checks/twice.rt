@@ -1,4 +1,4 @@
-// Names that stand a second time in a list, found by hashing.
+// Names that stand a second time in a list, found by hashing. Each was found to be that of a module before, so a table holds at most 1,024 of them, and needs no key.
 ghost use Rattle.std.specs.Prelude.{IfOk};
 ghost use Rattle.wf_spec.specs.FirstFaults.{IsFirstFailing};
 ghost use Rattle.wf_view.specs.Rules.{deps_names, new_names};

@@ -13,6 +13,10 @@ use Rattle.wf_form.proofs.Whole.{ready, made, whole, whole_kept}
 use Rattle.wf_form.proofs.Wired.{wirings_sound, rules_read}
 use Rattle.wf_form.proofs.assemble.assemble.Goals as goal
 
+pub module_number-start-requires-clause-few : goal.module_number-start-requires-clause-few
+module_number-start-requires-clause-few c =
+    let r = ready c.args.parts.now c.args.modules.items c.args.names c.requires.kept c.requires.modules c.requires.names in r.few_names
+
 pub module_number-start-requires-clause-known : goal.module_number-start-requires-clause-known
 module_number-start-requires-clause-known c =
     let r = ready c.args.parts.now c.args.modules.items c.args.names c.requires.kept c.requires.modules c.requires.names in

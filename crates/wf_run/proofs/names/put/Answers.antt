@@ -3,4 +3,4 @@ use Rattle.wf_run.proofs.names.put.Goals as goal
 
 pub returns-clause-added : goal.returns-clause-added
 returns-clause-added c =
-    pushed (λ k. k.now) _ c.args.name.now c.args.names.now.keys _ c.in_ok-key.ensures c.requires c.in_ok-insert.ensures.keys
+    pushed (λ k. k.bytes.now) _ c.args.name.now c.args.names.now.keys _ c.in_ok-bytes.ensures c.requires c.in_ok-insert.ensures.keys

@@ -1,0 +1,9 @@
+use Rattle.std.proofs.lemmas.Result.{err_from_is_err_and}
+use Rattle.wf_form.specs.Rules.{first_rules}
+use Rattle.wf_spec.proofs.FirstFaults.{fault_of_rest}
+use Rattle.wf_form.proofs.checks.modules.check_modules.Goals as goal
+
+pub returns-in_err-check_counts-clause-refused : goal.returns-in_err-check_counts-clause-refused
+returns-in_err-check_counts-clause-refused c =
+    let p = err_from_is_err_and c.from_residual-in_err-check_counts.result c.from_residual-in_err-check_counts.ensures.1 in
+    rw (p.1, p.2) (fault_of_rest 3 (first_rules c.args.parts.now) _ c.in_ok-names.ensures.kept c.in_err-check_counts.ensures.refused)
