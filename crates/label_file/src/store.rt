@@ -14,21 +14,23 @@ use name_text::split_item;
 use std::alloc::{AllocError, Global};
 use std::marker::Model;
 use wf_label::LabelRef;
+use wf_names::{KeyedHash, NameKey};
 use wf_recur::Cycles;
 use wf_spec::Grammar;
 
 /// Whether an entry has this name.
-fn holds(entries: &IndexMap<&[u8], LabelRef>, name: &[u8]) -> bool
+fn holds(entries: &IndexMap<NameKey, LabelRef, KeyedHash>, name: &[u8]) -> bool
     ensures { IsTrue result ↔ IsIn name.now (names_held (held entries.now.entries)) }
 {
-    entries.contains_key(name)
+    let key = NameKey { bytes: name };
+    entries.contains_key(&key)
 }
 
 /// Adds an entry behind the others, if its name is new, and tells whether it is. Where it is not, the entry of this name has the label now. The only error is that memory is refused.
 ///
 /// The name is hashed once. An `Entry` of the map would leave the label before in its place, but no clause tells what a map with borrowed keys holds after an `Entry` of it is dropped.
 fn put<'a>(
-    entries: &mut IndexMap<&'a [u8], LabelRef<'a>>,
+    entries: &mut IndexMap<NameKey<'a>, LabelRef<'a>, KeyedHash>,
     name: &'a [u8],
     label: LabelRef<'a>,
 ) -> Result<bool, AllocError>
@@ -37,7 +39,7 @@ fn put<'a>(
     ensures taken { IfOk result (λ is_new. is_new ≡ false → IsIn name.now (names_held (held entries.old.entries))) }
     ensures few { length entries.new.entries ≤ length entries.old.entries + 1 }
 {
-    match entries.insert(name, label) {
+    match entries.insert(NameKey { bytes: name }, label) {
         Ok(None) => Ok(true),
         Ok(Some(_)) => Ok(false),
         Err(_) => Err(AllocError),
@@ -47,7 +49,7 @@ fn put<'a>(
 /// The entries of a label file, in the order of the file, found by name. It keeps no copy of a name or of a label: all are parts of the bytes of the file.
 #[derive(Drop)]
 pub struct Store<'a> {
-    entries: IndexMap<&'a [u8], LabelRef<'a>>,
+    entries: IndexMap<NameKey<'a>, LabelRef<'a>, KeyedHash>,
 }
 
 impl<'a> Model for Store<'a> {
@@ -56,17 +58,13 @@ impl<'a> Model for Store<'a> {
 
     ghost Value = { List EntryHeld };
 
-    ghost view = { λ s. map (λ e. record { name = e.0.now; bits = e.1 }) s.entries.entries };
+    ghost view = { λ s. map (λ e. record { name = e.0.bytes.now; bits = e.1 }) s.entries.entries };
 
     ghost invariant = { λ s. length s.entries.entries < 2 ^ 32 };
 }
 
 impl<'a> Store<'a> {
-    /// Reads the label file of a grammar with this digest.
-    ///
-    /// Of each entry it is tried in this order whether it is whole, whether its name is that of an item, whether no entry before has the name, and whether its label is one of the grammar.
-    ///
-    /// Cost: linear in the bytes; a name is found by hashing. Takes memory for the table alone, once, for as many entries as stand there whole.
+    /// Reads the label file of a grammar with this digest, as `open_with_key` with the key 0.
     pub fn open(
         alloc: Global,
         g: &Grammar,
@@ -80,9 +78,32 @@ impl<'a> Store<'a> {
         ensures store { IfOk result (λ s. IsStoreOf g.now.core digest.now bytes.now s) }
         ensures fault { IfErr result (λ f. IsStoreFault g.now.core digest.now bytes.now f) }
     {
+        Store::open_with_key(alloc, 0, g, cycles, digest, bytes)
+    }
+
+    /// Reads the label file of a grammar with this digest.
+    ///
+    /// Of each entry it is tried in this order whether it is whole, whether its name is that of an item, whether no entry before has the name, and whether its label is one of the grammar.
+    ///
+    /// Cost: linear in the bytes; a name is found by hashing with the key. Takes memory for the table alone, once, for as many entries as stand there whole.
+    pub fn open_with_key(
+        alloc: Global,
+        key: u64,
+        g: &Grammar,
+        cycles: &Cycles,
+        digest: &[u8; 32],
+        bytes: &'a [u8],
+    ) -> Result<Store<'a>, StoreFault>
+        requires linear { IsLinear g.now.core }
+        requires cycles { AreCyclesOf g.now.core cycles.now }
+        requires few { length bytes.now ≤ 2 ^ 30 }
+        ensures store { IfOk result (λ s. IsStoreOf g.now.core digest.now bytes.now s) }
+        ensures fault { IfErr result (λ f. IsStoreFault g.now.core digest.now bytes.now f) }
+    {
         let mut rest = behind_head(digest, bytes)?;
+        let count = count_entries(rest);
         let mut store = Store {
-            entries: IndexMap::with_capacity(alloc, count_entries(rest))?,
+            entries: IndexMap::with_capacity_and_hasher(alloc, count, KeyedHash::new(key))?,
         };
         while !rest.is_empty() {
             let Some(front) = cut_front(rest) else {
@@ -133,7 +154,8 @@ impl<'a> Store<'a> {
         ensures found { IfSome result (λ l. IsIn (record { name = name.now; bits = l }) self.now) }
         ensures none { IfNone result (IsIn name.now (names_held self.now) → ⊥) }
     {
-        let Some(label) = self.entries.get(name) else {
+        let key = NameKey { bytes: name };
+        let Some(label) = self.entries.get(&key) else {
             return None;
         };
         Some(label.copied())
@@ -152,7 +174,7 @@ impl<'a> Store<'a> {
         ensures { result.now ≡ (get_or self.now entry no_entry).name }
     {
         match self.entries.get_index(entry as usize) {
-            Some((name, _)) => name,
+            Some((name, _)) => name.bytes,
             None => &[],
         }
     }

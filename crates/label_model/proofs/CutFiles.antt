@@ -1,12 +1,14 @@
--- What a file of good entries is read as where it is cut.
-use Rattle.std.proofs.Common.{◌≡◌, ◌≢◌, ℕ, ◌+◌, ◌<◌, List, [], ◌∷◌, ◌++◌, length, flat_map, take, drop, refl, sym, ap, ◌∙◌, subst, inl, arith, append_assoc, append-nil, length-append}
+-- Where a file of entries may be cut, and what a file of good entries is then read as.
+use Rattle.std.proofs.Common.{◌≡◌, ◌≢◌, ℕ, ◌+◌, ◌-◌, ◌<◌, ◌≤◌, List, [], ◌∷◌, ◌++◌, length, flat_map, take, drop, refl, sym, ap, ◌∙◌, subst, inl, ⊎_elim, arith, append_assoc, append-nil, length-append}
+use Rattle.std.proofs.Math.Nat.{add-sub_of_le}
+use Rattle.std.proofs.lemmas.Bool.{cases_eq, cases_lt}
 use Rattle.std.proofs.lemmas.List.{take_at, take-append-drop, length-take, length-take-le, map-append}
 use Rattle.std.proofs.lemmas.List.Concat.{flat_map-append}
 use Rattle.wf_model.specs.Lists.{IsIn, AllDiffer}
 use Rattle.wf_model.specs.Grammar.{Grammar}
 use Rattle.wf_model.proofs.Lists.{in_append_right}
 use Rattle.label_model.specs.Files.{head_bytes, Entry, entry_bytes, names_of_entries, Answer, Accepted, Truncated, IsFront, ReadsFrom, at_end, cut, whole, Opens, short, head}
-use Rattle.label_model.specs.FileLaws.{AreGood, CutEntriesLaw}
+use Rattle.label_model.specs.FileLaws.{AreGood, offset_behind, IsCutPlace, in_head, behind, within, CutEntriesLaw}
 use Rattle.label_model.proofs.Differing.{differ_parts}
 use Rattle.label_model.proofs.FileReadings.{one_front, length-head}
 
@@ -46,11 +48,48 @@ no_part e piece more q l f rest h =
     let c = ap (λ z. length (entry_bytes z)) r.0 in
     absurd (omega (arith, a, b, c, l))
 
+-- an entry more moves the offset by its bytes
+offset_more : (digest : List ℕ) (before : List Entry) (e : Entry) → offset_behind digest (before ++ e ∷ []) ≡ offset_behind digest before + length (entry_bytes e)
+offset_more digest before e =
+    let b = flat_map entry_bytes before in
+    let q : head_bytes digest ++ flat_map entry_bytes (before ++ e ∷ []) ≡ (head_bytes digest ++ b) ++ (entry_bytes e ++ []) = ap (λ z. head_bytes digest ++ z) (flat_map-append entry_bytes before (e ∷ [])) ∙ sym (append_assoc (head_bytes digest) b (entry_bytes e ++ [])) in
+    ap length (q ∙ ap (λ z. (head_bytes digest ++ b) ++ z) (append-nil (entry_bytes e))) ∙ length-append (head_bytes digest ++ b) (entry_bytes e)
+
+module _ (digest : List ℕ) (all : List Entry) where
+  -- a place so many bytes behind entries is behind some more of them, or within one
+  place_from : (later before : List Entry) → all ≡ before ++ later → (k n : ℕ) → k ≡ offset_behind digest before + n → n ≤ length (flat_map entry_bytes later) → IsCutPlace digest all k
+  place_from [] before q k n is few = behind before [] q (omega (arith, is, few))
+  place_from (e ∷ later) before q k n is few =
+      let x = entry_bytes e in
+      ⊎_elim
+      (λ (z : n ≡ 0). behind before (e ∷ later) q (omega (arith, is, z)))
+      (λ nonzero. ⊎_elim
+      (λ (l : n < length x). within before e later q n (omega (arith, nonzero)) l is)
+      (λ (m : length x ≤ n).
+      let p = n - length x in
+      let d : length x + p ≡ n = add-sub_of_le m in
+      place_from later (before ++ e ∷ []) (q ∙ sym (append_assoc before (e ∷ []) later)) k p
+      (omega (arith, is, d, offset_more digest before e)) (omega (arith, d, few, length-append x (flat_map entry_bytes later))))
+      (cases_lt n (length x)))
+      (cases_eq n 0)
+
+  -- each length is that of a place
+  each_place : length digest ≡ 32 → (k : ℕ) → k ≤ length (head_bytes digest ++ flat_map entry_bytes all) → IsCutPlace digest all k
+  each_place l k few =
+      ⊎_elim
+      (λ (z : k < 36). in_head z)
+      (λ (m : 36 ≤ k).
+      let h = length-head digest l in
+      place_from all [] refl k (k - 36)
+      (omega (arith, add-sub_of_le m, h, length-append (head_bytes digest) [])) (omega (arith, add-sub_of_le m, few, h, length-append (head_bytes digest) (flat_map entry_bytes all))))
+      (cases_lt k 36)
+
 pub cut_entries_law : CutEntriesLaw
 cut_entries_law g digest l es good =
     let h = head_bytes digest in
     let hl = length-head digest l in
     record {
+      places = each_place digest es l;
       head = λ k small. short (omega (arith, length-take k (h ++ flat_map entry_bytes es)));
       entries = λ before later q.
           let b = flat_map entry_bytes before in

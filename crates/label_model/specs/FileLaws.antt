@@ -1,5 +1,5 @@
 -- Laws of label files: how they grow with the run, and how they are read, whole or cut.
-use Rattle.std.specs.Prelude.{◌≡◌, ℕ, ◌+◌, ◌^◌, ◌<◌, List, [], ◌∷◌, ◌++◌, map, take, flat_map, length}
+use Rattle.std.specs.Prelude.{◌≡◌, ℕ, ◌+◌, ◌^◌, ◌<◌, ◌≤◌, List, [], ◌∷◌, ◌++◌, map, take, flat_map, length}
 use Rattle.wf_model.specs.Lists.{IsIn, AllDiffer}
 use Rattle.wf_model.specs.Grammar.{Grammar}
 use Rattle.wf_model.specs.WellFormed.{IsWellFormed}
@@ -34,12 +34,25 @@ pub record AreGood (g : Grammar) (es : List Entry) : Type 0 where
   pub labels : (e : Entry) → IsIn e es → IsLabelBytes g e.label
   pub differ : AllDiffer (names_of_entries es)
 
--- What the first bytes of a file of these entries are read as. In the head they are no label file; at the end of the head or of an entry they hold the entries before; within an entry they are refused with the offset of this entry
+-- the offset at which the entries behind these begin
+abbrev pub offset_behind : List ℕ → List Entry → ℕ
+offset_behind digest before = length (head_bytes digest ++ flat_map entry_bytes before)
+
+-- where a file of these entries may be cut: within the head, behind the head or an entry, or within an entry
+pub data IsCutPlace (digest : List ℕ) (es : List Entry) (k : ℕ) : Type 0 where
+  in_head : k < 36 → IsCutPlace digest es k
+  behind : (before later : List Entry) → es ≡ before ++ later → k ≡ offset_behind digest before → IsCutPlace digest es k
+  within : (before : List Entry) (e : Entry) (later : List Entry) → es ≡ before ++ e ∷ later →
+      (n : ℕ) → 0 < n → n < length (entry_bytes e) → k ≡ offset_behind digest before + n → IsCutPlace digest es k
+
+-- What the first bytes of a file of these entries are read as. In the head they are no label file; at the end of the head or of an entry they hold the entries before; within an entry they are refused with the offset of this entry.
+-- Each length up to that of the file is of one of these three kinds
 pub record IsCut (g : Grammar) (digest file : List ℕ) (es : List Entry) : Type 0 where
+  pub places : (k : ℕ) → k ≤ length file → IsCutPlace digest es k
   pub head : (k : ℕ) → k < 36 → Opens g digest (take k file) NotLabels
-  pub entries : (before later : List Entry) → es ≡ before ++ later → Opens g digest (take (length (head_bytes digest ++ flat_map entry_bytes before)) file) (Accepted before)
+  pub entries : (before later : List Entry) → es ≡ before ++ later → Opens g digest (take (offset_behind digest before) file) (Accepted before)
   pub within : (before : List Entry) (e : Entry) (later : List Entry) → es ≡ before ++ e ∷ later → (k : ℕ) → 0 < k → k < length (entry_bytes e) →
-      Opens g digest (take (length (head_bytes digest ++ flat_map entry_bytes before) + k) file) (Truncated (length (head_bytes digest ++ flat_map entry_bytes before)))
+      Opens g digest (take (offset_behind digest before + k) file) (Truncated (offset_behind digest before))
 
 -- so it is for each file of good entries
 abbrev pub CutEntriesLaw : Type 0

@@ -26,7 +26,7 @@ pub fn good_file_law()
     ensures { GoodFileLaw }
 {}
 
-/// What the label file of an accepted run is read as where it is cut.
+/// What the label file of an accepted run is read as where it is cut: each length is within the head, at the end of the head or of an entry, or within an entry.
 pub fn cut_law()
     ensures { CutLaw }
 {}

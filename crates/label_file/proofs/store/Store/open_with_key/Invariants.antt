@@ -1,6 +1,6 @@
 use Rattle.std.proofs.Common.{length}
 use Rattle.label_file.proofs.ReadSoFar.{AreReadSoFar}
-use Rattle.label_file.proofs.store.Store.open.Given as goal
+use Rattle.label_file.proofs.store.Store.open_with_key.Given as goal
 
 abbrev pub invariant-loop-rest : goal.invariant-loop-rest
 invariant-loop-rest l = AreReadSoFar l.g.core l.digest l.bytes l.rest l.store

@@ -4,7 +4,7 @@ use Rattle.std.proofs.lemmas.List.{nil_from_length}
 use Rattle.std.proofs.lemmas.Result.{err_from_is_err_and}
 use Rattle.label_file.specs.Adding.{held}
 use Rattle.label_file.proofs.ReadSoFar.{AreReadSoFar, none_read, one_more, all_read, none_whole, refused}
-use Rattle.label_file.proofs.store.Store.open.Goals as goal
+use Rattle.label_file.proofs.store.Store.open_with_key.Goals as goal
 
 pub returns-in_err-rest-clause-fault : goal.returns-in_err-rest-clause-fault
 returns-in_err-rest-clause-fault c =
@@ -12,8 +12,8 @@ returns-in_err-rest-clause-fault c =
 
 pub loop-rest-init : goal.loop-rest-init
 loop-rest-init c =
-    let entries = c.in_ok-with_capacity.field-0.entries in
-    let none : entries ≡ [] = nil_from_length entries c.in_ok-with_capacity.ensures.len in
+    let entries = c.in_ok-with_capacity_and_hasher.field-0.entries in
+    let none : entries ≡ [] = nil_from_length entries c.in_ok-with_capacity_and_hasher.ensures.len in
     subst (λ es. AreReadSoFar c.args.g.now.core c.args.digest.now c.args.bytes.now c.in_ok-rest.rest.now (held es)) (sym none)
     (none_read c.args.g.now.core c.args.digest.now c.args.bytes.now c.in_ok-rest.rest.now (omega arith) c.in_ok-rest.ensures.head)
 
