@@ -7,15 +7,24 @@ use Rattle.wf_model.specs.declared.event.RunFault.TheVariants.{NoMemory as NoMem
 use Rattle.wf_model.specs.Grammar.{Grammar}
 use Rattle.wf_model.specs.Run.{IsAccepted}
 use Rattle.wf_model.specs.Faults.{fault_of}
-use Rattle.wf_io.specs.Lines.{Line, LinesLeft, Lends, Ends, Refuses, text_of, lines_of}
+use Rattle.wf_io.specs.Lines.{FileLines}
+use Rattle.wf_lines.specs.LineStages.{AllTaken, OfLines, ClosesOrGoesOn}
+use Rattle.wf_lines.specs.Taking.{AreTaken, AreStopped}
+use Rattle.wf_lines.proofs.LineStages.{closes_as}
+use Rattle.wf_laws.proofs.Accepted.{none_taken}
+use Rattle.wf_model.proofs.Taking.{taking_law}
 use Rattle.wf_flat.specs.Table.{Table, IsTableOf, events_of}
 use Rattle.wf_flat.proofs.Steps.{run_none}
-use Rattle.wf_message.specs.Endings.{End, Refused, NoMemory}
+use Rattle.wf_message.specs.Endings.{End, Done, Usage, Refused, ReadFault, WriteFault, NoMemory}
+use Rattle.wf_stage.specs.LineEnds.{line_ends, told_end}
+use Rattle.wf_stage.proofs.LineEnds.{told_is}
 use Rattle.wf_inputs.specs.Faults.{run_name}
 use Rattle.wf_stage.specs.Stages.{AtLine, Declines}
-use Rattle.wf_inputs.specs.RunTold.{IsEventText, AreEvents, TellsRun, RefusesText, RefusesLines}
+use Rattle.wf_inputs.specs.RunTold.{IsEventText, AreEvents, TellsRun, RefusesText, TellsEvents, StopsEvents, EventsStage, stops, goes_on}
+use Rattle.wf_inputs.specs.RunTaking.{RunSoFar, with_event, TakesEvent, RefusesAt, MakesNothing, NeverStops, IsRunSoFar, no_piece}
 use Rattle.wf_inputs.specs.Inputs.{instance_most}
-use Rattle.wf_stage.proofs.Stages.{declines_by, fault_declines}
+use Rattle.wf_stage.proofs.Stages.{fault_declines}
+use Rattle.wf_inputs.proofs.EventStages.{taken_told, events_forth, GoesOn}
 
 -- a refused event, or want of memory
 pub event_declines : (g : Grammar) (t : Table) (number : ℕ) (text : List ℕ) (e : Event) (f : RunFault) (d : End) → t.most ≡ instance_most → IsEventText text e → (f ≡ NoMemoryOfRun) ⊎ (fault_of g t.most (events_of t) e ≡ Some f) → (f ≡ NoMemoryOfRun → d ≡ NoMemory) → (f ≡ NoMemoryOfRun) ⊎ (d ≡ Refused (codes "events") (Some number) (run_name f)) → Declines (codes "events") (AtLine (RefusesText g instance_most (events_of t)) number text) d
@@ -23,63 +32,62 @@ event_declines g t number text e f d most told fault =
     fault_declines (codes "events") (AtLine (RefusesText g instance_most (events_of t)) number text) NoMemoryOfRun f (Some number) (run_name f) d
     (⊎_elim (λ m. inl m) (λ q. inr (refl, inr (e, told, (f, subst (λ m. fault_of g m (events_of t) e ≡ Some f) most q, refl)))) fault)
 
--- the run of the lines before those that are left
-pub record IsTaken (g : Grammar) (all left : List Line) (t : Table) : Type 0 where
-  pub run : IsTableOf g t
-  pub most : t.most ≡ instance_most
-  pub forth : (more : List Event) → AreEvents left more → AreEvents all (events_of t ++ more)
-  pub refused : (line : Option ℕ) (fault : List ℕ) → RefusesLines g instance_most (events_of t) left line fault → RefusesLines g instance_most [] all line fault
+-- what declines a text is how a line of events stops
+pub refused_at : (s : RunSoFar) (number : ℕ) (text made : List ℕ) (d e : End) → Declines (codes "events") (AtLine (RefusesText s.grammar s.limit s.events) number text) d → told_end d ≡ Some e → made ≡ [] → RefusesAt s number text e made
+refused_at s number text made Done e h told none = absurd h
+refused_at s number text made Usage e h told none = absurd h
+refused_at s number text made (Refused word line fault) e h told none =
+    (fault, h.1.1, told_is (Refused word line fault) e told ∙ (ap (λ w. Refused w line fault) h.0 ∙ ap (λ n. Refused (codes "events") n fault) h.1.0), none)
+refused_at s number text made (ReadFault word) e h told none = absurd h
+refused_at s number text made WriteFault e h told none = absurd h
+refused_at s number text made NoMemory e h told none = absurd (cc)
 
--- before the first line
-pub taken_none : (g : Grammar) (all left : List Line) (t : Table) → t ≡ record { most = instance_most; instances = []; order = [] } → left ≡ all → IsTaken g all left t
-taken_none g all left t is same = subst (λ s. IsTaken g all left s) (sym is) (subst (λ k. IsTaken g all k (record { most = instance_most; instances = []; order = [] })) (sym same) start)
+-- the text of a line tells an event that the run takes
+pub event_taken : (g : Grammar) (t : Table) (run : IsTableOf g t) → t.most ≡ instance_most → (text : List ℕ) (e : Event) → IsEventText text e → fault_of g instance_most (events_of t) e ≡ None → (es : List Event) → es ≡ events_of t ++ e ∷ [] → (s : RunSoFar) → IsRunSoFar g (events_of t) s → (q : RunSoFar) × TakesEvent no_piece s text q [] × IsRunSoFar g es q
+event_taken g t run most text e told none es is s at =
+    let before : IsAccepted g instance_most (events_of t) = subst (λ m. IsAccepted g m (events_of t)) most run.accepted in
+    let acc = (taking_law g instance_most (events_of t) e before).0 none in (
+      with_event s e,
+      subst (λ z. TakesEvent no_piece z text (with_event z e) []) (sym at) (e, told, acc, refl, refl),
+      ap (λ z. with_event z e) at ∙ ap (λ z. record { grammar = g; limit = instance_most; events = z }) (sym is),
+    )
+
+-- before the first line no event is taken
+abbrev pub at_start : Grammar → RunSoFar
+at_start g = record { grammar = g; limit = instance_most; events = [] }
+
+-- a run of no events
+pub run_started : (g : Grammar) (t : Table) → t ≡ record { most = instance_most; instances = []; order = [] } → IsTableOf g t × IsRunSoFar g (events_of t) (at_start g)
+run_started g t is = subst (λ z. IsTableOf g z × IsRunSoFar g (events_of z) (at_start g)) (sym is) (run_none g instance_most, refl)
+
+-- the lines of a whole file are all taken into a run, and nothing is put
+abbrev pub AreTakenInto : Grammar → Grammar → List Event → FileLines → Type 0
+AreTakenInto g h es file = AreTaken (AllTaken (line_ends (codes "events")) (TakesEvent no_piece) RefusesAt (at_start g) file.lines) MakesNothing (IsRunSoFar h es) file.tail None None
+
+-- they tell the run that they leave
+pub run_told : (g h : Grammar) (es : List Event) (file : FileLines) → AreTakenInto g h es file → TellsEvents g instance_most file es
+run_told g h es file taken =
+    let t = taken_told no_piece g instance_most file.lines (at_start g) taken.state taken.text (none_taken g instance_most) taken.taken in
+    let same : t.0 ≡ es = ap (λ (z : RunSoFar). z.events) (sym t.1 ∙ taken.at) in
+    (record { read = subst (AreEvents file.lines) same t.2; accepted = subst (IsAccepted g instance_most) same t.3 }, taken.whole)
+
+-- nothing follows the last line
+abbrev NothingFollows : List Event → End → List ℕ → Type 0
+NothingFollows es ending text = ⊥
+
+-- where its lines stop, a file of events ends the program
+run_stops : (g : Grammar) (file : FileLines) (e : End) (text : List ℕ) → OfLines (line_ends (codes "events")) (TakesEvent no_piece) RefusesAt NeverStops (at_start g) file.lines file.tail e text → StopsEvents g instance_most file e
+run_stops g file e text h =
+    go (events_forth no_piece g instance_most (λ es. []) (λ before d acc. refl) NothingFollows file e text (closes_as (line_ends (codes "events")) (TakesEvent no_piece) RefusesAt NeverStops (GoesOn no_piece g instance_most (λ es. []) (λ before d acc. refl) NothingFollows) (λ s d t never. never) file.tail file.lines (at_start g) e text h))
   where
-    start : IsTaken g all all (record { most = instance_most; instances = []; order = [] })
-    start = record {
-      run = run_none g instance_most;
-      most = refl;
-      forth = λ more h. h;
-      refused = λ line fault h. h;
-    }
+    go : EventsStage g instance_most file (λ es. []) NothingFollows e text → StopsEvents g instance_most file e
+    go (stops es after is) = (es, after)
+    go (goes_on es told next) = absurd next
 
-module _ (g : Grammar) (all : List Line) (old new : LinesLeft) (t : Table) (taken : IsTaken g all old.left t) where
-  -- no line is left
-  all_taken : Ends old new → AreEvents all (events_of t)
-  all_taken ends = subst (AreEvents all) (append-nil (events_of t)) (taken.forth [] (subst (λ k. AreEvents k []) (sym ends.none) tt))
+-- the lines of a file are stopped at an end, and nothing is put
+abbrev pub AreStoppedAt : Grammar → Option End → FileLines → Type 0
+AreStoppedAt g end file = AreStopped (OfLines (line_ends (codes "events")) (TakesEvent no_piece) RefusesAt NeverStops (at_start g) file.lines file.tail) (OfLines (line_ends (codes "events")) (TakesEvent no_piece) RefusesAt (ClosesOrGoesOn MakesNothing NeverStops) (at_start g) file.lines file.tail) end None None
 
-  -- the next line is too long
-  pub long_refused : (number : ℕ) → number ≡ new.line → Refuses old new → RefusesLines g instance_most [] all (Some number) (codes "LineTooLong")
-  long_refused number same h =
-      taken.refused (Some number) (codes "LineTooLong") (subst (λ ls. RefusesLines g instance_most (events_of t) ls (Some number) (codes "LineTooLong")) (sym h.takes.left)
-      (inl (ap Some (same ∙ h.takes.line), inl (h.long, refl))))
-
-  module _ (text : List ℕ) (lends : Lends old text new) where
-    -- the text of the next line is refused
-    pub line_refused : (number : ℕ) → number ≡ new.line → (d : End) → Declines (codes "events") (AtLine (RefusesText g instance_most (events_of t)) number text) d → Declines (codes "events") (RefusesLines g instance_most [] all) d
-    line_refused number same d h =
-        declines_by (codes "events") (AtLine (RefusesText g instance_most (events_of t)) number text) (RefusesLines g instance_most [] all) (λ line fault r.
-        taken.refused line fault (subst (λ ls. RefusesLines g instance_most (events_of t) ls line fault) (sym lends.takes.left)
-        (inl (r.0 ∙ ap Some (same ∙ lends.takes.line), inr (lends.short, subst (λ x. RefusesText g instance_most (events_of t) x fault) lends.text_is r.1))))) d h
-
-    -- the next line is taken
-    pub taken_more : (u : Table) → IsTableOf g u → u.most ≡ instance_most → (e : Event) × IsEventText text e × (fault_of g instance_most (events_of t) e ≡ None) × (events_of u ≡ events_of t ++ e ∷ []) → IsTaken g all new.left u
-    taken_more u run most h = record {
-      run = run;
-      most = most;
-      forth = λ more k.
-          subst (AreEvents all) (sym (append_assoc (events_of t) (h.0 ∷ []) more) ∙ ap (λ x. x ++ more) (sym h.3))
-          (taken.forth (h.0 ∷ more) (subst (λ x. AreEvents x (h.0 ∷ more)) (sym lends.takes.left) ((lends.short, told), k)));
-      refused = λ line fault k.
-          taken.refused line fault (subst (λ x. RefusesLines g instance_most (events_of t) x line fault) (sym lends.takes.left)
-          (inr (h.0, (lends.short, told), h.2, subst (λ es. RefusesLines g instance_most es new.left line fault) h.3 k)));
-    }
-      where
-        told : IsEventText (text_of lends.first.raw) h.0
-        told = subst (λ x. IsEventText x h.0) lends.text_is h.1
-
--- where no line of bytes is left, the bytes tell the run
-pub run_told : (g : Grammar) (bytes : List ℕ) (old new : LinesLeft) (t : Table) → IsTaken g (lines_of bytes) old.left t → Ends old new → TellsRun g instance_most bytes (events_of t)
-run_told g bytes old new t taken ends = record {
-  read = all_taken g (lines_of bytes) old new t taken ends;
-  accepted = subst (λ m. IsAccepted g m (events_of t)) taken.most taken.run.accepted;
-}
+-- then the file ends the program so
+pub stopped_stops : (g : Grammar) (e : End) (file : FileLines) → AreStoppedAt g (Some e) file → StopsEvents g instance_most file e
+stopped_stops g e file stopped = let r = stopped.whole e refl in run_stops g file e r.0 r.1

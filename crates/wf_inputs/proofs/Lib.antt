@@ -1,8 +1,10 @@
 pub mod EventLines
+pub mod EventStages
 pub mod LoopsText
 pub mod OneFault
 pub mod OneLabels
 pub mod OneRefusal
+pub mod OneRun
 pub mod OneRunFault
 pub mod OneValue
 pub mod OneViewFault

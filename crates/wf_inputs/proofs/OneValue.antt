@@ -63,5 +63,5 @@ one_list (l ∷ ls) (e ∷ es) [] p q = absurd q
 one_list (l ∷ ls) (e ∷ es) (f ∷ fs) p q =
     ap (λ x. x ∷ es) (one_event (text_of l.raw) e f p.0.1 q.0.1) ∙ ap (λ xs. f ∷ xs) (one_list ls es fs p.1 q.1)
 
-pub one_run : (g : Grammar) (limit : ℕ) (bytes : List ℕ) (es fs : List Event) → TellsRun g limit bytes es → TellsRun g limit bytes fs → fs ≡ es
-one_run g limit bytes es fs p q = one_list _ fs es q.read p.read
+pub one_run : (g : Grammar) (limit : ℕ) (lines : List Line) (es fs : List Event) → TellsRun g limit lines es → TellsRun g limit lines fs → fs ≡ es
+one_run g limit lines es fs p q = one_list lines fs es q.read p.read

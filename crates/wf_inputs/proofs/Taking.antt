@@ -1,25 +1,27 @@
 -- How SPEC, VIEW, EVENTS and LABELS end a command, or are taken on.
-use Rattle.std.proofs.Common.{◌≡◌, ℕ, Bool, List, [], Option, sym, subst}
+use Rattle.std.proofs.Common.{◌≡◌, ◌≤◌, ℕ, Bool, List, [], Option, refl, sym, ◌∙◌, subst, arith}
 use Rattle.wf_model.specs.declared.event.Event.{Event}
 use Rattle.wf_model.specs.Grammar.{Grammar}
 use Rattle.wf_model.specs.View.{View}
 use Rattle.wf_io.specs.Told.{File}
+use Rattle.wf_io.specs.Lines.{lines_in}
 use Rattle.wf_spec.specs.Held.{HeldGrammar}
 use Rattle.label_model.specs.Files.{Entry}
 use Rattle.wf_message.specs.Endings.{End}
 use Rattle.wf_stage.specs.Stages.{Stage, OfWhole}
-use Rattle.wf_stage.specs.Promises.{HasRead, HasStopped, Obeys}
-use Rattle.wf_stage.proofs.Ends.{begins_nothing}
-use Rattle.wf_stage.proofs.Obeying.{obeys_stop, obeys_on}
-use Rattle.wf_inputs.specs.Inputs.{spec_kind, view_kind, events_kind, labels_kind, instance_most, SpecStage, ViewStage}
+use Rattle.wf_stage.specs.Promises.{HasRead, HasStopped, HasReadLines, HasStoppedLines, Obeys}
+use Rattle.wf_stage.specs.Causes.{IsCause}
+use Rattle.wf_stage.proofs.Ends.{begins_nothing, nothing_put}
+use Rattle.wf_stage.proofs.Obeying.{cause_of_reading, obeys_stop, obeys_on}
+use Rattle.wf_inputs.specs.Inputs.{spec_kind, view_kind, labels_kind, instance_most, SpecStage, ViewStage}
 use Rattle.wf_inputs.specs.Specification.{TellsGrammar, RefusesSpec}
 use Rattle.wf_inputs.specs.ViewTold.{TellsView, RefusesView}
-use Rattle.wf_inputs.specs.RunTold.{TellsRun, RefusesRun}
+use Rattle.wf_inputs.specs.RunTold.{TellsEvents, StopsEvents, EventsStage, stops, goes_on}
 use Rattle.wf_inputs.specs.LabelsTold.{TellsEntries, RefusesLabels}
-use Rattle.wf_inputs.proofs.OneValue.{one_grammar, one_view, one_run}
+use Rattle.wf_inputs.proofs.OneValue.{one_grammar, one_view}
 use Rattle.wf_inputs.proofs.OneFault.{no_refusal}
 use Rattle.wf_inputs.proofs.OneViewFault.{no_refusal_of_view}
-use Rattle.wf_inputs.proofs.OneRunFault.{no_refusal_of_run}
+use Rattle.wf_inputs.proofs.OneRun.{events_goes_on}
 use Rattle.wf_inputs.proofs.OneLabels.{one_entries, no_refusal_of_labels}
 
 module _ {S T : Type 0} {files : S → Option (List ℕ → File)} {faults : S → ℕ} {last : S → Bool} {bytes : T → Option (List ℕ)} {counts : T → ℕ} {out_last : T → Bool} {name : List ℕ} where
@@ -44,12 +46,30 @@ module _ {S T : Type 0} {files : S → Option (List ℕ → File)} {faults : S �
 
     module _ (Next : (List ℕ → File) → List Event → End → List ℕ → Type 0) where
       -- EVENTS ends the command
-      pub events_stop : (s t : S) (o : T) (e : End) → HasStopped files faults last events_kind name (RefusesRun g instance_most) s t e → Obeys files faults last bytes counts out_last [] (λ f. Stage events_kind [] (f name) (TellsRun g instance_most) (RefusesRun g instance_most) (Next f)) s t o o e
-      events_stop = obeys_stop [] Next (λ f a. begins_nothing (Next f a))
+      pub events_stop : (s t : S) (o : T) (e : End) → HasStoppedLines files faults last name (StopsEvents g instance_most) s t e → Obeys files faults last bytes counts out_last [] (λ f. EventsStage g instance_most (lines_in (f name)) (λ es. []) (Next f)) s t o o e
+      events_stop s t o e h = record {
+        ends = λ f told. nothing_put [] _ (begins_nothing _) e (bytes o) (bytes o) refl (λ w. let r = h.stops f told w in stops r.0 r.1 refl);
+        cause = cause_of_reading (faults s) (faults t) (last t) (counts o) (out_last o) e h.cause;
+        same = h.same;
+        later = h.later;
+        put_later = omega arith;
+      }
 
       -- the run of EVENTS is taken on
-      pub events_go : (s t u : S) (o p : T) (e : End) (es : List Event) → HasRead files faults events_kind name (TellsRun g instance_most) s t es → Obeys files faults last bytes counts out_last [] (λ f. Next f es) t u o p e → Obeys files faults last bytes counts out_last [] (λ f. Stage events_kind [] (f name) (TellsRun g instance_most) (RefusesRun g instance_most) (Next f)) s u o p e
-      events_go = obeys_on [] Next (one_run g instance_most) (λ b es line fault told r. no_refusal_of_run g instance_most b es line fault told r)
+      pub events_go : (s t u : S) (o p : T) (e : End) (es : List Event) → HasReadLines files faults name (TellsEvents g instance_most) s t es → Obeys files faults last bytes counts out_last [] (λ f. Next f es) t u o p e → Obeys files faults last bytes counts out_last [] (λ f. EventsStage g instance_most (lines_in (f name)) (λ es. []) (Next f)) s u o p e
+      events_go s t u o p e es r h = record {
+        ends = λ f told.
+            let is = r.told f told in
+            let rest = h.ends f (r.same ∙ told) in
+            record {
+              whole = λ w. let x = rest.whole w in (x.0, goes_on es is x.1, x.2);
+              begun = λ d v outcome. rest.begun d v (events_goes_on g instance_most (lines_in (f name)) (λ es. []) (Next f) es is d v outcome);
+            };
+        cause = subst (λ n. IsCause n (faults u) (last u) (counts o) (counts p) (out_last p) e) r.count h.cause;
+        same = h.same ∙ r.same;
+        later = let count = r.count in let later = h.later in omega arith;
+        put_later = h.put_later;
+      }
 
     module _ (Next : (List ℕ → File) → List Entry → End → List ℕ → Type 0) where
       -- LABELS ends the command

@@ -126,12 +126,12 @@ behind_view_spot (Some (DepsAtOfView n)) = codes " deps " ++ decimal n
 abbrev pub view_text : ViewFault → List ℕ
 view_text f = view_name f ++ behind_view_spot (view_spot f)
 
--- Why bytes are no label file of a grammar. What is wrong with an entry is one fault, whatever it is
-abbrev pub store_name : StoreFault → List ℕ
-store_name NotLabels = codes "NotLabels"
-store_name OtherSpec = codes "OtherSpec"
-store_name (Truncated offset) = codes "Damaged"
-store_name (BadName entry) = codes "Damaged"
-store_name (NameTwiceOfStore entry) = codes "Damaged"
-store_name (BadLabel entry) = codes "Damaged"
-store_name NoMemoryOfStore = codes "NoMemory"
+-- why bytes are no label file of a grammar: the name of the fault, and behind it the offset or the number of the entry that it is about
+abbrev pub store_text : StoreFault → List ℕ
+store_text NotLabels = codes "NotLabels"
+store_text OtherSpec = codes "OtherSpec"
+store_text (Truncated offset) = codes "Truncated offset " ++ decimal offset
+store_text (BadName entry) = codes "BadName entry " ++ decimal entry
+store_text (NameTwiceOfStore entry) = codes "NameTwice entry " ++ decimal entry
+store_text (BadLabel entry) = codes "BadLabel entry " ++ decimal entry
+store_text NoMemoryOfStore = codes "NoMemory"

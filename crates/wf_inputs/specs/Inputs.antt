@@ -17,17 +17,9 @@ spec_kind = record { word = codes "spec"; most = 16777216; long_fault = codes "T
 abbrev pub view_kind : Kind
 view_kind = record { word = codes "view"; most = 16777216; long_fault = codes "TooLong" }
 
--- the events of a run
-abbrev pub events_kind : Kind
-events_kind = record { word = codes "events"; most = 1073741824; long_fault = codes "NotBuilt" }
-
 -- a label file
 abbrev pub labels_kind : Kind
 labels_kind = record { word = codes "labels"; most = 1073741824; long_fault = codes "TooLong" }
-
--- queries
-abbrev pub queries_kind : Kind
-queries_kind = record { word = codes "queries"; most = 1073741824; long_fault = codes "NotBuilt" }
 
 -- the greatest number of instances of a run
 abbrev pub instance_most : ℕ

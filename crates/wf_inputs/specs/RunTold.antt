@@ -1,4 +1,4 @@
--- What the bytes of events tell: a run, or why they are refused.
+-- What a file of events tells: a run, or why it ends the program.
 use Rattle.std.specs.Prelude.{◌≡◌, ◌⊎◌, ℕ, true, false, List, [], ◌∷◌, ◌++◌, Option, Some, None, codes}
 use Rattle.serde_json.specs.Data.{Data}
 use Rattle.wf_model.specs.declared.event.Event.{Event}
@@ -6,9 +6,10 @@ use Rattle.wf_model.specs.declared.event.RunFault.{RunFault}
 use Rattle.wf_model.specs.Grammar.{Grammar}
 use Rattle.wf_model.specs.Run.{IsAccepted}
 use Rattle.wf_model.specs.Faults.{fault_of}
-use Rattle.wf_io.specs.Lines.{Line, is_too_long, text_of, lines_of}
+use Rattle.wf_io.specs.Lines.{Line, FileLines, AtEnd, Broken, LongFile, is_too_long, text_of}
 use Rattle.wf_json.specs.Reading.{IsReading, HasNoReading}
 use Rattle.wf_events.specs.EventForm.{event_of}
+use Rattle.wf_message.specs.Endings.{End, Refused, ReadFault}
 use Rattle.wf_inputs.specs.Faults.{run_name}
 use Rattle.wf_stage.specs.Stages.{AtLine}
 
@@ -27,9 +28,9 @@ AreEvents [] (e ∷ es) = ⊥
 AreEvents (l ∷ ls) [] = ⊥
 AreEvents (l ∷ ls) (e ∷ es) = IsEventLine l e × AreEvents ls es
 
--- the bytes tell a run that is accepted with this limit on its instances
-pub record TellsRun (g : Grammar) (limit : ℕ) (bytes : List ℕ) (events : List Event) : Type 0 where
-  pub read : AreEvents (lines_of bytes) events
+-- lines tell a run that is accepted with this limit on its instances
+pub record TellsRun (g : Grammar) (limit : ℕ) (lines : List Line) (events : List Event) : Type 0 where
+  pub read : AreEvents lines events
   pub accepted : IsAccepted g limit events
 
 -- why a text tells no event: it has no reading; or the value that it reads as has not the form of an event
@@ -57,13 +58,30 @@ RefusesBytes g limit before raw fault =
 abbrev pub RefusesLine : Grammar → ℕ → List Event → Line → Option ℕ → List ℕ → Type 0
 RefusesLine g limit before l line fault = AtLine (RefusesBytes g limit before) l.number l.raw line fault
 
--- why lines are refused after a run: the first is; or the run takes its event, and those behind it are refused after that
-abbrev pub RefusesLines : Grammar → ℕ → List Event → List Line → Option ℕ → List ℕ → Type 0
-RefusesLines g limit before [] line fault = ⊥
-RefusesLines g limit before (l ∷ ls) line fault =
-    RefusesLine g limit before l line fault ⊎
-    ((e : Event) × IsEventLine l e × (fault_of g limit before e ≡ None) × RefusesLines g limit (before ++ e ∷ []) ls line fault)
+-- lines are taken up to one that is refused: those before it tell the events of an accepted run, and after this run the line is refused
+pub record IsRefusedAt (g : Grammar) (limit : ℕ) (lines : List Line) (es : List Event) (line : Option ℕ) (fault : List ℕ) : Type 0 where
+  pub taken : List Line
+  pub first : Line
+  pub later : List Line
+  pub split : lines ≡ taken ++ first ∷ later
+  pub told : TellsRun g limit taken es
+  pub refused : RefusesLine g limit es first line fault
 
--- why bytes are refused as events: a line of them is
-abbrev pub RefusesRun : Grammar → ℕ → List ℕ → Option ℕ → List ℕ → Type 0
-RefusesRun g limit bytes line fault = RefusesLines g limit [] (lines_of bytes) line fault
+-- Why a file of events ends the program, and which events were taken before: a line is refused; or all lines are taken, and the file goes on past the most bytes that are read of it, or is broken
+pub data StopsAfter (g : Grammar) (limit : ℕ) (file : FileLines) (es : List Event) (ending : End) : Type 0 where
+  refused : (line : Option ℕ) (fault : List ℕ) → IsRefusedAt g limit file.lines es line fault → ending ≡ Refused (codes "events") line fault → StopsAfter g limit file es ending
+  long_file : (n : ℕ) → TellsRun g limit file.lines es → file.tail ≡ LongFile n → ending ≡ Refused (codes "events") (Some n) (codes "FileTooLong") → StopsAfter g limit file es ending
+  broken : TellsRun g limit file.lines es → file.tail ≡ Broken → ending ≡ ReadFault (codes "events") → StopsAfter g limit file es ending
+
+-- the lines of a whole file tell a run
+abbrev pub TellsEvents : Grammar → ℕ → FileLines → List Event → Type 0
+TellsEvents g limit file es = TellsRun g limit file.lines es × (file.tail ≡ AtEnd)
+
+-- a file of events ends the program, whatever events were taken before
+abbrev pub StopsEvents : Grammar → ℕ → FileLines → End → Type 0
+StopsEvents g limit file ending = (es : List Event) × StopsAfter g limit file es ending
+
+-- What a file of events makes, where a text is put of the events that are taken: it ends the program, and the text is that of the events before; or it is whole and tells a run, with which the program goes on
+pub data EventsStage (g : Grammar) (limit : ℕ) (file : FileLines) (written : List Event → List ℕ) (Next : List Event → End → List ℕ → Type 0) (ending : End) (text : List ℕ) : Type 0 where
+  stops : (es : List Event) → StopsAfter g limit file es ending → text ≡ written es → EventsStage g limit file written Next ending text
+  goes_on : (es : List Event) → TellsEvents g limit file es → Next es ending text → EventsStage g limit file written Next ending text

@@ -1,7 +1,7 @@
 // The refusals of faults, as messages tell them.
-ghost use Rattle.std.specs.Prelude.{◌≡◌, ◌++◌, Some, codes};
+ghost use Rattle.std.specs.Prelude.{◌≡◌, ◌++◌, Some, codes, decimal};
 ghost use Rattle.wf_message.specs.Refusals.{refusal_text};
-ghost use Rattle.wf_inputs.specs.Faults.{member_word, shape_text, spot_text, form_name, form_spot, form_text, run_name, view_name, view_spot, behind_view_spot, view_text, store_name};
+ghost use Rattle.wf_inputs.specs.Faults.{member_word, shape_text, spot_text, form_name, form_spot, form_text, run_name, view_name, view_spot, behind_view_spot, view_text, store_text};
 
 use label_file::StoreFault;
 use wf_form::{FormFault, Spot};
@@ -206,23 +206,32 @@ pub fn run_refusal(fault: RunFault) -> Refusal
     named(run_name(fault))
 }
 
-fn store_name(fault: StoreFault) -> &'static [u8]
-    ensures { result.now ≡ store_name fault }
+/// The refusal that names a fault and the entry of a label file that has it.
+fn at_entry(name: &'static [u8], entry: u32) -> Refusal
+    ensures { refusal_text result ≡ name.now ++ (codes " entry " ++ decimal entry) }
 {
-    match fault {
-        StoreFault::NotLabels => b"NotLabels",
-        StoreFault::OtherSpec => b"OtherSpec",
-        StoreFault::Truncated { .. } => b"Damaged",
-        StoreFault::BadName { .. } => b"Damaged",
-        StoreFault::NameTwice { .. } => b"Damaged",
-        StoreFault::BadLabel { .. } => b"Damaged",
-        StoreFault::NoMemory => b"NoMemory",
+    Refusal::Numbered {
+        name,
+        part: b"entry",
+        number: u64::from(entry),
     }
 }
 
 /// The refusal of a label file.
 pub fn store_refusal(fault: StoreFault) -> Refusal
-    ensures { refusal_text result ≡ store_name fault }
+    ensures { refusal_text result ≡ store_text fault }
 {
-    named(store_name(fault))
+    match fault {
+        StoreFault::NotLabels => named(b"NotLabels"),
+        StoreFault::OtherSpec => named(b"OtherSpec"),
+        StoreFault::Truncated { offset } => Refusal::Numbered {
+            name: b"Truncated",
+            part: b"offset",
+            number: offset,
+        },
+        StoreFault::BadName { entry } => at_entry(b"BadName", entry),
+        StoreFault::NameTwice { entry } => at_entry(b"NameTwice", entry),
+        StoreFault::BadLabel { entry } => at_entry(b"BadLabel", entry),
+        StoreFault::NoMemory => named(b"NoMemory"),
+    }
 }

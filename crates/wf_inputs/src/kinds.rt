@@ -14,11 +14,8 @@ pub const VIEW: FileKind = FileKind {
     too_long: b"TooLong",
 };
 
-pub const EVENTS: FileKind = FileKind {
-    place: Place { word: b"events" },
-    most: 1073741824,
-    too_long: b"NotBuilt",
-};
+/// A file of events, which is taken line by line.
+pub const EVENTS: Place = Place { word: b"events" };
 
 pub const LABELS: FileKind = FileKind {
     place: Place { word: b"labels" },
@@ -26,8 +23,5 @@ pub const LABELS: FileKind = FileKind {
     too_long: b"TooLong",
 };
 
-pub const QUERIES: FileKind = FileKind {
-    place: Place { word: b"queries" },
-    most: 1073741824,
-    too_long: b"NotBuilt",
-};
+/// A file of queries, which is taken line by line.
+pub const QUERIES: Place = Place { word: b"queries" };

@@ -4,8 +4,7 @@ ghost use Rattle.label_model.specs.Files.{Entry};
 ghost use Rattle.label_file.specs.Stored.{AreHeldOf};
 ghost use Rattle.wf_message.specs.Endings.{end_of, Refused, NoMemory};
 ghost use Rattle.wf_stage.specs.Stages.{Declines, OfWhole};
-ghost use Rattle.wf_inputs.specs.Faults.{store_name};
-ghost use Rattle.wf_inputs.specs.Viewed.{IsTaken};
+ghost use Rattle.wf_inputs.specs.Faults.{store_text};
 ghost use Rattle.wf_inputs.specs.LabelsTold.{TellsEntries, RefusesLabels};
 
 use crate::faults::store_refusal;
@@ -19,7 +18,7 @@ use wf_message::{Stop, refused_whole};
 /// The stop at a fault of a label file.
 fn store_stop(fault: StoreFault) -> Stop
     ensures memory { fault ≡ StoreFault.NoMemory → end_of result ≡ NoMemory }
-    ensures refused { (fault ≡ StoreFault.NoMemory) ⊎ (end_of result ≡ Refused (codes "labels") None (store_name fault)) }
+    ensures refused { (fault ≡ StoreFault.NoMemory) ⊎ (end_of result ≡ Refused (codes "labels") None (store_text fault)) }
 {
     match fault {
         StoreFault::NoMemory => Stop::NoMemory,
@@ -27,21 +26,26 @@ fn store_stop(fault: StoreFault) -> Stop
     }
 }
 
-/// The entries of a label file of a grammar, which lie in its bytes.
+/// The entries of a label file of a grammar, which lie in its bytes. Their names are hashed with this key.
 ///
-/// Refused with NotLabels, OtherSpec or Damaged, the first that there is. `NoMemory` may come at any time.
+/// Refused with the first that there is of: NotLabels; OtherSpec; and, entry by entry, Truncated, BadName, NameTwice and BadLabel. `NoMemory` may come at any time.
 ///
 /// Cost: those of `digest` and of `Store::open`.
-pub fn store_of<'b>(alloc: Global, spec: &Spec, bytes: &'b [u8]) -> Result<Store<'b>, Stop>
-    requires spec { IsTaken spec.now }
+pub fn store_of<'b>(
+    alloc: Global,
+    key: u64,
+    spec: &Spec,
+    bytes: &'b [u8],
+) -> Result<Store<'b>, Stop>
     requires few { length bytes.now ≤ 2 ^ 30 }
     ensures store { IfOk result (λ s. (entries : List Entry) × TellsEntries spec.now.grammar.core bytes.now entries × AreHeldOf spec.now.grammar.core entries s) }
     ensures declines { IfErr result (λ e. Declines (codes "labels") (OfWhole (RefusesLabels spec.now.grammar.core) bytes.now) (end_of e)) }
 {
-    let Ok(digest) = digest(alloc, &spec.grammar) else {
+    let g = spec.grammar();
+    let Ok(digest) = digest(alloc, g) else {
         return Err(Stop::NoMemory);
     };
-    match Store::open(alloc, &spec.grammar, &spec.cycles, &digest, bytes) {
+    match Store::open_with_key(alloc, key, g, spec.cycles(), &digest, bytes) {
         Ok(store) => Ok(store),
         Err(fault) => Err(store_stop(fault)),
     }

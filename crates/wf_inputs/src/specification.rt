@@ -17,7 +17,7 @@ use crate::kinds::SPEC;
 use crate::spec::Spec;
 use std::alloc::Global;
 use wf_check::{CheckFault, Proper, proper};
-use wf_form::{FormFault, build};
+use wf_form::{FormFault, build_with_key};
 use wf_io::Shelf;
 use wf_json::{JsonFault, read_spec};
 use wf_message::{Refusal, Stop, refused_whole};
@@ -55,12 +55,12 @@ fn form_stop(fault: FormFault) -> Stop
     }
 }
 
-/// The grammar that parts form.
-fn grammar_of_parts(alloc: Global, parts: Parts) -> Result<Grammar, Stop>
+/// The grammar that parts form, whose names are hashed with this key.
+fn grammar_of_parts(alloc: Global, key: u64, parts: Parts) -> Result<Grammar, Stop>
     ensures ok { IfOk result (λ g. (g.core ≡ grammar_of parts) × IsFormed parts) }
     ensures declines { IfErr result (λ e. Declines (codes "spec") (OfWhole RefusesParts parts) (end_of e)) }
 {
-    match build(alloc, parts) {
+    match build_with_key(alloc, key, parts) {
         Ok(g) => Ok(g),
         Err(fault) => Err(form_stop(fault)),
     }
@@ -75,11 +75,7 @@ fn with_cycles(alloc: Global, g: Grammar, ranking: Proper) -> Result<Spec, Stop>
     ensures declines { IfErr result (λ e. Declines (codes "spec") (OfWhole RefusesGrammar g.core) (end_of e)) }
 {
     match cycles(alloc, &g) {
-        Ok(cycles) => Ok(Spec {
-            grammar: g,
-            ranking,
-            cycles,
-        }),
+        Ok(cycles) => Ok(Spec::of_parts(g, ranking, cycles)),
         Err(RecurFault::NoMemory) => Err(Stop::NoMemory),
         Err(fault) => Err(refused(Refusal::Recur { grammar: g, fault })),
     }
@@ -102,22 +98,21 @@ fn taken(alloc: Global, g: Grammar) -> Result<Spec, Stop>
 ///
 /// Refused with the first that there is of: NotJson; WrongShape; the fault of the parts; the fault of the grammar where it is not proper; and TwoLoops where it is not strictly linear. `NoMemory` may come at any time.
 ///
-/// Cost: those of `read_spec`, `build`, `proper` and `cycles`.
-fn spec_of_bytes(alloc: Global, bytes: &[u8]) -> Result<Spec, Stop>
+/// Cost: those of `read_spec`, `build_with_key`, `proper` and `cycles`.
+fn spec_of_bytes(alloc: Global, key: u64, bytes: &[u8]) -> Result<Spec, Stop>
     ensures ok { IfOk result (λ s. TellsGrammar bytes.now s.grammar.core) }
-    ensures taken { IfOk result (λ s. IsTaken s) }
     ensures declines { IfErr result (λ e. Declines (codes "spec") (OfWhole RefusesSpec bytes.now) (end_of e)) }
 {
     let parts = parts_of_bytes(alloc, bytes)?;
-    let g = grammar_of_parts(alloc, parts)?;
+    let g = grammar_of_parts(alloc, key, parts)?;
     taken(alloc, g)
 }
 
 /// The grammar of SPEC.
 pub fn spec_stage<H: Shelf>(alloc: Global, shelf: &mut H, name: &str) -> Result<Spec, Stop>
-    ensures taken { IfOk result (λ s. IsTaken s) }
     ensures reads { Reads H.files H.faults H.at_last spec_kind name.now TellsGrammar (λ s. s.grammar.core) (OfWhole RefusesSpec) shelf.old shelf.new result }
 {
     let bytes = read_file(alloc, shelf, name, SPEC)?;
-    spec_of_bytes(alloc, &bytes)
+    let key = shelf.hash_key();
+    spec_of_bytes(alloc, key, &bytes)
 }

@@ -9,7 +9,7 @@ ghost use Rattle.wf_stage.specs.Stages.{Declines, OfWhole};
 ghost use Rattle.wf_stage.specs.Promises.{Reads};
 ghost use Rattle.wf_inputs.specs.Faults.{view_text};
 ghost use Rattle.wf_inputs.specs.Inputs.{view_kind};
-ghost use Rattle.wf_inputs.specs.Viewed.{IsTaken, IsViewTaken};
+ghost use Rattle.wf_inputs.specs.Viewed.{IsViewTaken};
 ghost use Rattle.wf_inputs.specs.ViewTold.{IsViewText, TellsView, RefusesView, RefusesViewParts, RefusesUnsafe};
 
 use crate::faults::{named, shape_refusal, view_refusal};
@@ -69,16 +69,17 @@ fn view_of_parts(alloc: Global, g: &Grammar, parts: &ViewParts) -> Result<View, 
 
 /// A view that is safe, with its full assignment.
 fn with_full(alloc: Global, spec: Spec, view: View) -> Result<Viewed, Stop>
-    requires spec { IsTaken spec }
     requires held { IsHeldFor spec.grammar.core view }
     ensures ok { IfOk result (λ v. (v.spec.grammar ≡ spec.grammar) × (v.view ≡ view)) }
     ensures taken { IfOk result (λ v. IsViewTaken v) }
     ensures declines { IfErr result (λ e. Declines (codes "view") (OfWhole (RefusesUnsafe spec.grammar.core) view.core) (end_of e)) }
 {
-    match full_deps(alloc, &spec.grammar, &spec.ranking, &view) {
-        Ok(full) => Ok(Viewed { spec, view, full }),
+    let g = spec.grammar();
+    let _formed = g.start();
+    match full_deps(alloc, g, spec.ranking(), &view) {
+        Ok(full) => Ok(Viewed::of_parts(spec, view, full)),
         Err(SafeFault::Unsafe { witness }) => Err(refused(Refusal::Unsafe {
-            grammar: spec.grammar,
+            grammar: spec.into_grammar(),
             witness,
         })),
         Err(SafeFault::NoMemory) => Err(Stop::NoMemory),
@@ -91,14 +92,13 @@ fn with_full(alloc: Global, spec: Spec, view: View) -> Result<Viewed, Stop>
 ///
 /// Cost: those of `read_view`, `View::build` and `full_deps`.
 fn view_of_bytes(alloc: Global, spec: Spec, bytes: &[u8]) -> Result<Viewed, Stop>
-    requires spec { IsTaken spec }
-    ensures taken { IfOk result (λ v. IsViewTaken v) }
     ensures grammar { IfOk result (λ v. v.spec.grammar ≡ spec.grammar) }
     ensures ok { IfOk result (λ v. TellsView spec.grammar.core bytes.now v.view.core) }
     ensures declines { IfErr result (λ e. Declines (codes "view") (OfWhole (RefusesView spec.grammar.core) bytes.now) (end_of e)) }
 {
     let parts = parts_of_bytes(alloc, bytes)?;
-    let view = view_of_parts(alloc, &spec.grammar, &parts)?;
+    let g = spec.grammar();
+    let view = view_of_parts(alloc, g, &parts)?;
     with_full(alloc, spec, view)
 }
 
@@ -109,8 +109,6 @@ pub fn view_stage<H: Shelf>(
     name: &str,
     spec: Spec,
 ) -> Result<Viewed, Stop>
-    requires spec { IsTaken spec }
-    ensures taken { IfOk result (λ v. IsViewTaken v) }
     ensures grammar { IfOk result (λ v. v.spec.grammar ≡ spec.grammar) }
     ensures reads { Reads H.files H.faults H.at_last view_kind name.now (TellsView spec.grammar.core) (λ v. v.view.core) (OfWhole (RefusesView spec.grammar.core)) shelf.old shelf.new result }
 {

@@ -1,4 +1,6 @@
 pub mod Ends
+pub mod LineEnds
+pub mod LineOutcomes
 pub mod Obeying
 pub mod Reading
 pub mod Stages

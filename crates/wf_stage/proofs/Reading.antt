@@ -8,21 +8,12 @@ use Rattle.wf_stage.specs.Kinds.{Kind}
 use Rattle.wf_stage.specs.Stages.{Declines, Holds, RefusesNone}
 use Rattle.wf_stage.specs.Causes.{IsReadingCause}
 use Rattle.wf_stage.specs.Promises.{HasRead, HasStopped, Reads}
-use Rattle.wf_stage.proofs.Stages.{told_by, declines_stop, held_stops}
+use Rattle.wf_stage.proofs.Stages.{told_by, declines_stop, held_stops, declines_refused, refused_cause}
 
 -- two facts of a result make a third
 pub IfOk-and : {A E : Type 0} (r : Result A E) (P Q R : A → Type 0) → ((a : A) → P a → Q a → R a) → IfOk r P → IfOk r Q → IfOk r R
 IfOk-and (Ok a) P Q R f p q = f a p q
 IfOk-and (Err e) P Q R f p q = tt
-
--- what declines is a cause where the shelf is as it was
-declined_cause : (place : List ℕ) (Q : Option ℕ → List ℕ → Type 0) (before after : ℕ) (last : Bool) (e : End) → after ≡ before → Declines place Q e → IsReadingCause before after last e
-declined_cause place Q before after last Done count h = absurd h
-declined_cause place Q before after last Usage count h = absurd h
-declined_cause place Q before after last (Refused word line fault) count h = count
-declined_cause place Q before after last (ReadFault word) count h = absurd h
-declined_cause place Q before after last WriteFault count h = absurd h
-declined_cause place Q before after last NoMemory count h = count
 
 module _ {S A B : Type 0} {files : S → Option (List ℕ → File)} {faults : S → ℕ} {kind : Kind} {name : List ℕ} (last : S → Bool) (Tells : List ℕ → A → Type 0) (seen : B → A) (Refuses : List ℕ → Option ℕ → List ℕ → Type 0) where
   -- the file is held, and its bytes tell a value or are declined
@@ -30,7 +21,7 @@ module _ {S A B : Type 0} {files : S → Option (List ℕ → File)} {faults : S
   reads_on s t bytes held h is (Ok v) tells declines = record { told = λ f told. told_by kind (f name) Tells bytes held (seen v) (h.told f told) is tells; count = h.count; same = h.same }
   reads_on s t bytes held h is (Err e) tells declines = record {
     stops = λ f told. declines_stop kind (f name) Refuses bytes held (end_of e) (h.told f told) is declines;
-    cause = declined_cause kind.word (Refuses held) (faults s) (faults t) (last t) (end_of e) h.count declines;
+    cause = refused_cause (faults s) (faults t) (last t) (end_of e) h.count (declines_refused kind.word (Refuses held) (end_of e) declines);
     same = h.same;
     later = let count = h.count in omega arith;
   }

@@ -1,11 +1,12 @@
 -- What a stage makes of the outcome of what follows it.
-use Rattle.std.proofs.Common.{◌≡◌, ◌⊎◌, ℕ, ◌<◌, ◌≤◌, false, List, ◌++◌, [], length, take, Option, None, refl, sym, ap, ◌∙◌, subst, inl, inr, ⊎_elim, arith, true≢false, append-nil}
+use Rattle.std.proofs.Common.{◌≡◌, Bool, ◌⊎◌, ℕ, ◌<◌, ◌≤◌, false, List, ◌++◌, [], length, take, Option, None, refl, sym, ap, ◌∙◌, subst, inl, inr, ⊎_elim, arith, true≢false, append-nil}
 use Rattle.wf_io.specs.Told.{File, Appended}
 use Rattle.std.specs.Prelude.{Result, Err, IfErr}
 use Rattle.wf_message.specs.declared.ending.Stop.{Stop}
 use Rattle.wf_message.specs.Endings.{End, Done, Usage, Refused, ReadFault, WriteFault, NoMemory, end_of}
 use Rattle.wf_stage.specs.Kinds.{Kind}
-use Rattle.wf_stage.specs.Stages.{Stage, too_long, broken, refused, goes_on, IsTold, StopsAt, Declines, Holds, OfWhole, RefusesNone}
+use Rattle.wf_stage.specs.Stages.{Stage, too_long, broken, refused, goes_on, IsTold, StopsAt, Declines, Holds, OfWhole, RefusesNone, IsRefusedOrWanting}
+use Rattle.wf_stage.specs.Causes.{IsReadingCause}
 use Rattle.wf_stage.specs.Ends.{EndsBehind}
 use Rattle.wf_stage.proofs.Ends.{Begins, nothing_put, wanting}
 
@@ -91,3 +92,21 @@ held_stops kind file Refuses (Refused word line fault) h = (h.0, ⊎_elim (λ l.
 held_stops kind file Refuses (ReadFault word) h = h
 held_stops kind file Refuses WriteFault h = absurd h
 held_stops kind file Refuses NoMemory h = tt
+
+-- what declines is a refusal, or want of memory
+pub declines_refused : (place : List ℕ) (Q : Option ℕ → List ℕ → Type 0) (e : End) → Declines place Q e → IsRefusedOrWanting e
+declines_refused place Q Done h = h
+declines_refused place Q Usage h = h
+declines_refused place Q (Refused word line fault) h = tt
+declines_refused place Q (ReadFault word) h = h
+declines_refused place Q WriteFault h = h
+declines_refused place Q NoMemory h = tt
+
+-- this is a cause where the shelf is as it was
+pub refused_cause : (before after : ℕ) (last : Bool) (e : End) → after ≡ before → IsRefusedOrWanting e → IsReadingCause before after last e
+refused_cause before after last Done count h = absurd h
+refused_cause before after last Usage count h = absurd h
+refused_cause before after last (Refused word line fault) count h = count
+refused_cause before after last (ReadFault word) count h = absurd h
+refused_cause before after last WriteFault count h = absurd h
+refused_cause before after last NoMemory count h = count

@@ -1,5 +1,6 @@
 pub mod Kinds
 pub mod Stages
 pub mod Ends
+pub mod LineEnds
 pub mod Causes
 pub mod Promises

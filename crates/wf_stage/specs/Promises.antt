@@ -1,11 +1,12 @@
 -- What each command, and each part of one, promises of the shelf and of out. Both are seen by their ghost members.
 use Rattle.std.specs.Prelude.{◌≡◌, ◌≤◌, ℕ, Bool, List, Option, Some, Result, MatchResult}
 use Rattle.wf_io.specs.Told.{File}
+use Rattle.wf_io.specs.Lines.{FileLines, lines_in}
 use Rattle.wf_message.specs.declared.ending.Stop.{Stop}
 use Rattle.wf_message.specs.Endings.{End, end_of}
 use Rattle.wf_stage.specs.Kinds.{Kind}
 use Rattle.wf_stage.specs.Stages.{IsTold, StopsAt}
-use Rattle.wf_stage.specs.Ends.{EndsBehind}
+use Rattle.wf_stage.specs.Ends.{EndsBehind, IsOfOutcome}
 use Rattle.wf_stage.specs.Causes.{IsCause, IsReadingCause, IsWritingCause}
 
 -- a file was read: it tells this value, and the shelf is as it was
@@ -25,6 +26,24 @@ pub record HasStopped {S : Type 0} (files : S → Option (List ℕ → File)) (f
 abbrev pub Reads : {A B S : Type 0} → (S → Option (List ℕ → File)) → (S → ℕ) → (S → Bool) → Kind → List ℕ → (List ℕ → A → Type 0) → (B → A) → (List ℕ → Option ℕ → List ℕ → Type 0) → S → S → Result B Stop → Type 0
 Reads files faults last kind name Tells seen Refuses old new result =
     MatchResult result (λ v. HasRead files faults kind name Tells old new (seen v)) (λ e. HasStopped files faults last kind name Refuses old new (end_of e))
+
+-- the lines of a file were read to its end: they tell this value, and the shelf is as it was
+pub record HasReadLines {A S : Type 0} (files : S → Option (List ℕ → File)) (faults : S → ℕ) (name : List ℕ) (Tells : FileLines → A → Type 0) (old new : S) (value : A) : Type 0 where
+  pub told : (f : List ℕ → File) → files old ≡ Some f → Tells (lines_in (f name)) value
+  pub count : faults new ≡ faults old
+  pub same : files new ≡ files old
+
+-- the lines of a file ended the program, or memory was wanting: the end has its cause, and the shelf tells the same files
+pub record HasStoppedLines {S : Type 0} (files : S → Option (List ℕ → File)) (faults : S → ℕ) (last : S → Bool) (name : List ℕ) (Stops : FileLines → End → Type 0) (old new : S) (ending : End) : Type 0 where
+  pub stops : (f : List ℕ → File) → files old ≡ Some f → IsOfOutcome ending → Stops (lines_in (f name)) ending
+  pub cause : IsReadingCause (faults old) (faults new) (last new) ending
+  pub same : files new ≡ files old
+  pub later : faults old ≤ faults new
+
+-- what a stage that reads the lines of the file of this name answers
+abbrev pub ReadsLines : {A B S : Type 0} → (S → Option (List ℕ → File)) → (S → ℕ) → (S → Bool) → List ℕ → (FileLines → A → Type 0) → (B → A) → (FileLines → End → Type 0) → S → S → Result B Stop → Type 0
+ReadsLines files faults last name Tells seen Stops old new result =
+    MatchResult result (λ v. HasReadLines files faults name Tells old new (seen v)) (λ e. HasStoppedLines files faults last name Stops old new (end_of e))
 
 -- What a step that writes and does not read promises, behind a text that was put first: how it ends, and its cause
 pub record Writes {T : Type 0} (bytes : T → Option (List ℕ)) (faults : T → ℕ) (last : T → Bool) (first : List ℕ) (Outcome : End → List ℕ → Type 0) (old new : T) (ending : End) : Type 0 where

@@ -1,7 +1,6 @@
 -- A stage of a command: it reads a whole file of a kind, takes from it a value that the bytes tell, and goes on with it, or ends the program.
 use Rattle.std.specs.Prelude.{◌≡◌, ◌⊎◌, ◌<◌, ◌≤◌, ℕ, true, false, List, length, Option, Some, None}
 use Rattle.wf_io.specs.Told.{File}
-use Rattle.wf_io.specs.Lines.{Line, lines_of}
 use Rattle.wf_message.specs.Endings.{End, Done, Usage, Refused, ReadFault, WriteFault, NoMemory}
 use Rattle.wf_stage.specs.Kinds.{Kind}
 
@@ -28,10 +27,6 @@ AtLine Refuses number a line fault = (line ≡ Some number) × Refuses a fault
 -- the bytes are held as they are
 abbrev pub Holds : List ℕ → List ℕ → Type 0
 Holds bytes held = held ≡ bytes
-
--- the bytes hold these lines
-abbrev pub TellsLines : List ℕ → List Line → Type 0
-TellsLines bytes lines = lines ≡ lines_of bytes
 
 -- a file of a kind, which is whole, tells a value
 pub record IsTold {A : Type 0} (kind : Kind) (file : File) (Tells : List ℕ → A → Type 0) (a : A) : Type 0 where
@@ -62,3 +57,12 @@ Declines place Refuses (Refused word line fault) = (word ≡ place) × Refuses l
 Declines place Refuses (ReadFault word) = ⊥
 Declines place Refuses WriteFault = ⊥
 Declines place Refuses NoMemory = Unit {0}
+
+-- an end is a refusal, or want of memory
+abbrev pub IsRefusedOrWanting : End → Type 0
+IsRefusedOrWanting Done = ⊥
+IsRefusedOrWanting Usage = ⊥
+IsRefusedOrWanting (Refused word line fault) = Unit {0}
+IsRefusedOrWanting (ReadFault word) = ⊥
+IsRefusedOrWanting WriteFault = ⊥
+IsRefusedOrWanting NoMemory = Unit {0}

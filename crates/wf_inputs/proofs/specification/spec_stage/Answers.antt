@@ -1,15 +1,19 @@
 use Rattle.std.proofs.lemmas.Result.{err_from_is_err_and}
 use Rattle.wf_stage.specs.Stages.{OfWhole}
-use Rattle.wf_inputs.specs.declared.spec.Spec.{Spec}
+use Rattle.wf_inputs.specs.Viewed.{SpecSeen}
 use Rattle.wf_inputs.specs.Specification.{TellsGrammar, RefusesSpec}
 use Rattle.wf_stage.proofs.Reading.{reads_on, reads_stop}
 use Rattle.wf_inputs.proofs.specification.spec_stage.Goals as goal
 
-pub returns-in_err-bytes-clause-reads : goal.returns-in_err-bytes-clause-reads
-returns-in_err-bytes-clause-reads g c =
-    reads_stop g.H.Shelf.at_last TellsGrammar (λ (s : Spec). s.grammar.core) (OfWhole RefusesSpec) _ _ c.in_err-bytes.field-0.0 c.from_residual.result
-    (err_from_is_err_and c.from_residual.result c.from_residual.ensures.1) c.in_err-bytes.ensures.reads
+pub returns-in_err-bytes : goal.returns-in_err-bytes
+returns-in_err-bytes g c = record {
+  reads =
+      reads_stop g.H.Shelf.at_last TellsGrammar (λ (s : SpecSeen). s.grammar.core) (OfWhole RefusesSpec) _ _ c.in_err-bytes.field-0.0 c.from_residual.result
+      (err_from_is_err_and c.from_residual.result c.from_residual.ensures.1) c.in_err-bytes.ensures.reads;
+}
 
-pub returns-clause-reads : goal.returns-clause-reads
-returns-clause-reads g c =
-    reads_on g.H.Shelf.at_last TellsGrammar (λ (s : Spec). s.grammar.core) (OfWhole RefusesSpec) _ _ _ c.deref.result.now c.in_ok-bytes.ensures.reads c.deref.ensures.value c.spec_of_bytes.result c.spec_of_bytes.ensures.ok c.spec_of_bytes.ensures.declines
+pub returns : goal.returns
+returns g c = record {
+  reads =
+      reads_on g.H.Shelf.at_last TellsGrammar (λ (s : SpecSeen). s.grammar.core) (OfWhole RefusesSpec) _ _ _ c.deref.result.now c.in_ok-bytes.ensures.reads c.deref.ensures.value c.spec_of_bytes.result c.spec_of_bytes.ensures.ok c.spec_of_bytes.ensures.declines;
+}

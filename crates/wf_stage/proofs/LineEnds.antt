@@ -1,0 +1,78 @@
+-- The end at which the lines of a file stop, and the end of the command.
+use Rattle.std.proofs.Common.{◌≡◌, ℕ, Bool, List, Option, Some, refl, sym, ap, ◌∙◌, subst, arith}
+use Rattle.wf_io.specs.Told.{Rose}
+use Rattle.wf_lines.specs.Taking.{halt_end, end_at, IsCauseOfHalt, IsCauseOf, IsStoppedAs}
+use Rattle.wf_lines.specs.declared.fault.Halt.{Halt}
+use Rattle.wf_lines.specs.declared.fault.Halt.TheVariants.{LineTooLong, FileTooLong, ReadFault as ReadingFailed, WriteFault as WritingFailed}
+use Rattle.wf_lines.specs.declared.fault.LinesFault.{LinesFault}
+use Rattle.wf_lines.specs.declared.fault.LinesFault.TheVariants.{Stopped, Halted}
+use Rattle.wf_message.specs.declared.ending.Stop.{Stop}
+use Rattle.wf_message.specs.Endings.{End, Done, Usage, Refused, ReadFault, WriteFault, NoMemory, end_of}
+use Rattle.wf_stage.specs.Stages.{IsRefusedOrWanting}
+use Rattle.wf_stage.specs.Ends.{IsOfOutcome}
+use Rattle.wf_stage.specs.Causes.{IsCause, IsReadingCause}
+use Rattle.wf_stage.specs.LineEnds.{line_ends, end_of_halt, end_of_fault, told_end}
+use Rattle.wf_stage.proofs.Stages.{refused_cause}
+
+-- an end that is of the outcome says something of files
+told_of_outcome : (e : End) → IsOfOutcome e → told_end e ≡ Some e
+told_of_outcome Done w = refl
+told_of_outcome Usage w = refl
+told_of_outcome (Refused word line fault) w = refl
+told_of_outcome (ReadFault word) w = refl
+told_of_outcome WriteFault w = absurd (w.0 refl)
+told_of_outcome NoMemory w = absurd (w.1 refl)
+
+-- and where it says something, this is the end
+pub told_is : (e d : End) → told_end e ≡ Some d → d ≡ e
+told_is Done d p = cc
+told_is Usage d p = cc
+told_is (Refused word line fault) d p = cc
+told_is (ReadFault word) d p = cc
+told_is WriteFault d p = absurd (cc)
+told_is NoMemory d p = absurd (cc)
+
+-- the end of a halt is that at which the lines halt, where it is of the outcome
+halt_of_outcome : (word : List ℕ) (h : Halt) → IsOfOutcome (end_of_halt word h) → halt_end (line_ends word) h ≡ Some (end_of_halt word h)
+halt_of_outcome word (LineTooLong n) w = refl
+halt_of_outcome word (FileTooLong n) w = refl
+halt_of_outcome word ReadingFailed w = refl
+halt_of_outcome word WritingFailed w = absurd (w.0 refl)
+
+-- so is the end of a fault of lines
+pub fault_of_outcome : (word : List ℕ) (f : LinesFault Stop) → IsOfOutcome (end_of_fault word f) → end_at (line_ends word) (λ stop. told_end (end_of stop)) f ≡ Some (end_of_fault word f)
+fault_of_outcome word (Stopped stop) w = told_of_outcome (end_of stop) w
+fault_of_outcome word (Halted h) w = halt_of_outcome word h w
+
+-- what brought a halt brought the end of the command
+halt_caused : (word : List ℕ) (before after : ℕ) (last : Bool) (old new : ℕ) (out_last : Bool) (h : Halt) → IsCauseOfHalt before after last old new out_last h → IsCause before after last old new out_last (end_of_halt word h)
+halt_caused word before after last old new out_last (LineTooLong n) c = c
+halt_caused word before after last old new out_last (FileTooLong n) c = c
+halt_caused word before after last old new out_last ReadingFailed c = c
+halt_caused word before after last old new out_last WritingFailed c = c
+
+-- so where writing does not fail
+halt_caused_reading : (word : List ℕ) (before after : ℕ) (last : Bool) (old new : ℕ) (out_last : Bool) (h : Halt) → (Rose old new out_last → ⊥) → IsCauseOfHalt before after last old new out_last h → IsReadingCause before after last (end_of_halt word h)
+halt_caused_reading word before after last old new out_last (LineTooLong n) never c = c.0
+halt_caused_reading word before after last old new out_last (FileTooLong n) never c = c.0
+halt_caused_reading word before after last old new out_last ReadingFailed never c = c.0
+halt_caused_reading word before after last old new out_last WritingFailed never c = absurd (never c.1)
+
+-- a refusal, and want of memory, leave both counts as they are
+refused_caused : (before after : ℕ) (last : Bool) (old new : ℕ) (out_last : Bool) (e : End) → (after ≡ before) × (new ≡ old) → IsRefusedOrWanting e → IsCause before after last old new out_last e
+refused_caused before after last old new out_last Done same h = absurd h
+refused_caused before after last old new out_last Usage same h = absurd h
+refused_caused before after last old new out_last (Refused word line fault) same h = same
+refused_caused before after last old new out_last (ReadFault word) same h = absurd h
+refused_caused before after last old new out_last WriteFault same h = absurd h
+refused_caused before after last old new out_last NoMemory same h = same
+
+-- what brought a fault of lines brought the end of the command, where what takes them refuses or wants memory
+pub fault_caused : (word : List ℕ) (before after : ℕ) (last : Bool) (old new : ℕ) (out_last : Bool) (f : LinesFault Stop) → IsStoppedAs (λ stop. IsRefusedOrWanting (end_of stop)) f → IsCauseOf before after last old new out_last f → IsCause before after last old new out_last (end_of_fault word f)
+fault_caused word before after last old new out_last (Stopped stop) h c = refused_caused before after last old new out_last (end_of stop) c h
+fault_caused word before after last old new out_last (Halted halt) h c = halt_caused word before after last old new out_last halt c
+
+-- so where writing does not fail
+pub fault_caused_reading : (word : List ℕ) (before after : ℕ) (last : Bool) (old new : ℕ) (out_last : Bool) (f : LinesFault Stop) → (Rose old new out_last → ⊥) → IsStoppedAs (λ stop. IsRefusedOrWanting (end_of stop)) f → IsCauseOf before after last old new out_last f → IsReadingCause before after last (end_of_fault word f)
+fault_caused_reading word before after last old new out_last (Stopped stop) never h c = refused_cause before after last (end_of stop) c.0 h
+fault_caused_reading word before after last old new out_last (Halted halt) never h c = halt_caused_reading word before after last old new out_last halt never c
