@@ -1,16 +1,23 @@
--- Where memory is not wanting.
-use Rattle.std.proofs.Common.{◌≡◌, ◌≢◌, refl, sym, ◌∙◌}
+-- When memory is wanting where lines of queries are answered.
+use Rattle.std.proofs.Common.{◌≡◌, ℕ, Bool, refl, sym, ◌∙◌, subst}
+use Rattle.wf_query.specs.Lines.{IsCauseOf}
 use Rattle.wf_query.specs.declared.batching.BatchFault.{BatchFault}
-use Rattle.wf_query.specs.declared.batching.BatchFault.TheVariants.{LineWrong, LineTooLong, WriteFault as WritingFailed, NoMemory as WantedMemory}
+use Rattle.wf_query.specs.declared.batching.BatchFault.TheVariants.{LineWrong, LineTooLong, FileTooLong, ReadFault, WriteFault as WritingFailed, NoMemory as WantedMemory}
 use Rattle.wf_message.specs.Endings.{End, NoMemory}
 use Rattle.cmd_ask.specs.Batched.{end_at}
 
--- a fault of lines that is not want of memory is no end for want of memory
-pub fault_wants_none : (f : BatchFault) (e : End) → e ≡ end_at f → f ≢ WantedMemory → e ≡ NoMemory → ⊥
-fault_wants_none f e is none wants = go f none (sym is ∙ wants)
+-- a fault of lines that ends a command for want of memory is want of memory
+pub fault_wants : (f : BatchFault) (e : End) → e ≡ end_at f → e ≡ NoMemory → f ≡ WantedMemory
+fault_wants f e is wants = go f (sym is ∙ wants)
   where
-    go : (f : BatchFault) → f ≢ WantedMemory → end_at f ≡ NoMemory → ⊥
-    go (LineWrong n) none wants = absurd (cc)
-    go (LineTooLong n) none wants = absurd (cc)
-    go WritingFailed none wants = absurd (cc)
-    go WantedMemory none wants = none refl
+    go : (f : BatchFault) → end_at f ≡ NoMemory → f ≡ WantedMemory
+    go (LineWrong n) wants = absurd (cc)
+    go (LineTooLong n) wants = absurd (cc)
+    go (FileTooLong n) wants = absurd (cc)
+    go ReadFault wants = absurd (cc)
+    go WritingFailed wants = absurd (cc)
+    go WantedMemory wants = refl
+
+-- no count of faults of out rises at it
+pub wants_quietly : (before after : ℕ) (last : Bool) (out_before out_after : ℕ) (out_last : Bool) (f : BatchFault) → f ≡ WantedMemory → IsCauseOf before after last out_before out_after out_last f → out_after ≡ out_before
+wants_quietly before after last out_before out_after out_last f is cause = (subst (λ x. IsCauseOf before after last out_before out_after out_last x) is cause).1

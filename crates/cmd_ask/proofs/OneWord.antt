@@ -10,7 +10,7 @@ use Rattle.wf_model.specs.Finishing.{ExpandsComposites}
 use Rattle.wf_laws.proofs.Growth.{finishing_law}
 use Rattle.wf_query.specs.Lines.{IsOneWord}
 use Rattle.cmd_ask.specs.Answers.{are_visible, IsShown, IsAnswerFor, IsAnswerOfRun}
-use Rattle.cmd_ask.specs.declared.prepared.Prepared.{Prepared}
+use Rattle.cmd_ask.specs.Prepared.{PreparedSeen}
 use Rattle.cmd_ask.specs.Told.{IsReady, IsToldBy}
 
 one_shown : (t : Bool) (g : Grammar) (u : View) (f : List Event) (a b : Item) (x y : List ℕ) → IsShown t g u f a b x → IsShown t g u f a b y → x ≡ y
@@ -32,5 +32,5 @@ one_run_word g u e proper composites run first second x y p q =
     one_for g u e (e ++ f.0) _ _ x y (p f.0 f.1) (q f.0 f.1)
 
 -- so by what is prepared
-pub one_prepared_word : (p : Prepared) → IsReady p → IsOneWord (IsToldBy p)
+pub one_prepared_word : (p : PreparedSeen) → IsReady p → IsOneWord (IsToldBy p)
 one_prepared_word p ready = one_run_word _ _ _ ready.proper ready.composites ready.run.accepted.0

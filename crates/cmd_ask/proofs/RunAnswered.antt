@@ -4,17 +4,17 @@ use Rattle.wf_io.specs.Told.{File}
 use Rattle.wf_message.specs.Endings.{End}
 use Rattle.wf_stage.specs.Promises.{Obeys}
 use Rattle.wf_flat.specs.Table.{Table, events_of}
-use Rattle.wf_inputs.specs.declared.viewed.Viewed.{Viewed}
-use Rattle.cmd_ask.specs.declared.prepared.Prepared.{Prepared}
+use Rattle.wf_inputs.specs.Viewed.{ViewedSeen}
+use Rattle.cmd_ask.specs.Prepared.{PreparedSeen}
 use Rattle.cmd_ask.specs.Answers.{IsAnswerOfRun}
 use Rattle.cmd_ask.specs.Told.{IsToldBy}
 use Rattle.cmd_ask.specs.Does.{QueriesStage}
 
 module _ {S T : Type 0} {files : S → Option (List ℕ → File)} {faults : S → ℕ} {last : S → Bool} {bytes : T → Option (List ℕ)} {counts : T → ℕ} {out_last : T → Bool} {name : List ℕ} where
   -- so does what it promises
-  pub for_run : (s t : S) (o q : T) (e : End) (v : Viewed) (run : Table) (p : Prepared) → p.viewed.now ≡ v → p.run.now ≡ run →
+  pub for_run : (s t : S) (o q : T) (e : End) (v : ViewedSeen) (run : Table) (p : PreparedSeen) → p.viewed ≡ v → p.run ≡ run →
       Obeys files faults last bytes counts out_last [] (λ f. QueriesStage (IsToldBy p) (f name)) s t o q e →
       Obeys files faults last bytes counts out_last [] (λ f. QueriesStage (IsAnswerOfRun v.spec.grammar.core v.view.core (events_of run)) (f name)) s t o q e
   for_run s t o q e v run p viewed is h =
       subst (λ r. Obeys files faults last bytes counts out_last [] (λ f. QueriesStage (IsAnswerOfRun v.spec.grammar.core v.view.core (events_of r)) (f name)) s t o q e) is
-      (subst (λ (w : Viewed). Obeys files faults last bytes counts out_last [] (λ f. QueriesStage (IsAnswerOfRun w.spec.grammar.core w.view.core (events_of p.run.now)) (f name)) s t o q e) viewed h)
+      (subst (λ (w : ViewedSeen). Obeys files faults last bytes counts out_last [] (λ f. QueriesStage (IsAnswerOfRun w.spec.grammar.core w.view.core (events_of p.run)) (f name)) s t o q e) viewed h)

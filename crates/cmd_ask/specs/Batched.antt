@@ -1,8 +1,8 @@
 -- How a command ends where lines of queries were answered.
 use Rattle.std.specs.Prelude.{Result, Ok, Err}
-use Rattle.wf_query.specs.Lines.{WrongAt, TooLongAt}
+use Rattle.wf_query.specs.Lines.{WrongAt, TooLongAt, LongFileAt, BrokenFile}
 use Rattle.wf_query.specs.declared.batching.BatchFault.{BatchFault}
-use Rattle.wf_query.specs.declared.batching.BatchFault.TheVariants.{LineWrong, LineTooLong, WriteFault as WritingFailed, NoMemory as WantedMemory}
+use Rattle.wf_query.specs.declared.batching.BatchFault.TheVariants.{LineWrong, LineTooLong, FileTooLong, ReadFault, WriteFault as WritingFailed, NoMemory as WantedMemory}
 use Rattle.wf_message.specs.Endings.{End, Done, WriteFault, NoMemory}
 use Rattle.cmd_ask.specs.Does.{end_of_lines}
 
@@ -10,6 +10,8 @@ use Rattle.cmd_ask.specs.Does.{end_of_lines}
 abbrev pub end_at : BatchFault → End
 end_at (LineWrong line) = end_of_lines (WrongAt line)
 end_at (LineTooLong line) = end_of_lines (TooLongAt line)
+end_at (FileTooLong line) = end_of_lines (LongFileAt line)
+end_at ReadFault = end_of_lines BrokenFile
 end_at WritingFailed = WriteFault
 end_at WantedMemory = NoMemory
 

@@ -3,13 +3,13 @@ use Rattle.std.specs.Prelude.{◌≡◌, ℕ, List, [], Some, codes}
 use Rattle.wf_model.specs.Grammar.{Grammar}
 use Rattle.wf_model.specs.View.{View}
 use Rattle.wf_io.specs.Told.{File}
-use Rattle.wf_io.specs.Lines.{Line}
+use Rattle.wf_io.specs.Lines.{lines_in}
 use Rattle.wf_query.specs.Answers.{IsAnswerText}
-use Rattle.wf_query.specs.Lines.{Ended, All, WrongAt, TooLongAt, AreAnswered}
-use Rattle.wf_message.specs.Endings.{End, Done, Refused}
-use Rattle.wf_stage.specs.Stages.{Stage, OfWhole, RefusesNone, TellsLines}
-use Rattle.wf_inputs.specs.Inputs.{events_kind, labels_kind, queries_kind, instance_most, SpecStage, ViewStage}
-use Rattle.wf_inputs.specs.RunTold.{TellsRun, RefusesRun}
+use Rattle.wf_query.specs.Lines.{Ended, All, WrongAt, TooLongAt, LongFileAt, BrokenFile, AreAnswered}
+use Rattle.wf_message.specs.Endings.{End, Done, Refused, ReadFault}
+use Rattle.wf_stage.specs.Stages.{Stage, OfWhole}
+use Rattle.wf_inputs.specs.Inputs.{labels_kind, instance_most, SpecStage, ViewStage}
+use Rattle.wf_inputs.specs.RunTold.{EventsStage}
 use Rattle.wf_inputs.specs.LabelsTold.{TellsEntries, RefusesLabels}
 use Rattle.cmd_ask.specs.declared.command.Command.{Command as CommandHeld}
 use Rattle.cmd_ask.specs.declared.command.Command.TheVariants.{Trace as TracesHeld, Ask as AsksHeld}
@@ -21,18 +21,16 @@ abbrev pub end_of_lines : Ended → End
 end_of_lines All = Done
 end_of_lines (WrongAt n) = Refused (codes "queries") (Some n) (codes "LineWrong")
 end_of_lines (TooLongAt n) = Refused (codes "queries") (Some n) (codes "LineTooLong")
+end_of_lines (LongFileAt n) = Refused (codes "queries") (Some n) (codes "FileTooLong")
+end_of_lines BrokenFile = ReadFault (codes "queries")
 
--- lines of queries are answered by this relation of two names and a word, up to the first that is too long or asks nothing
-abbrev pub AnswersLines : (List ℕ → List ℕ → List ℕ → Type 0) → List Line → End → List ℕ → Type 0
-AnswersLines Answers lines ending text = (e : Ended) × AreAnswered Answers lines e text × (ending ≡ end_of_lines e)
-
--- QUERIES, answered by a relation of two names and a word
+-- QUERIES, answered line by line by a relation of two names and a word
 abbrev pub QueriesStage : (List ℕ → List ℕ → List ℕ → Type 0) → File → End → List ℕ → Type 0
-QueriesStage Answers queries = Stage queries_kind [] queries TellsLines RefusesNone (AnswersLines Answers)
+QueriesStage Answers queries ending text = (e : Ended) × AreAnswered Answers (lines_in queries) e text × (ending ≡ end_of_lines e)
 
 -- EVENTS and QUERIES under a view
 abbrev pub AnswersRun : Grammar → View → File → File → End → List ℕ → Type 0
-AnswersRun g u events queries = Stage events_kind [] events (TellsRun g instance_most) (RefusesRun g instance_most) (λ e. QueriesStage (IsAnswerOfRun g u e) queries)
+AnswersRun g u events queries = EventsStage g instance_most (lines_in events) (λ es. []) (λ es. QueriesStage (IsAnswerOfRun g u es) queries)
 
 -- VIEW, EVENTS and QUERIES of a grammar
 abbrev pub AnswersView : Grammar → File → File → File → End → List ℕ → Type 0

@@ -11,8 +11,15 @@ use Rattle.wf_model.specs.Links.{Port, Link, Path, links_with}
 use Rattle.wf_flat.specs.Table.{Table, IsTableOf, events_of, names_in}
 use Rattle.wf_flat.specs.Graph.{named_links}
 use Rattle.wf_flat.specs.Flat.{FlatSeen, AreWithin}
+use Rattle.wf_inputs.specs.Viewed.{ViewedSeen}
 use Rattle.wf_query.specs.declared.answers.Answer.{Answer}
 use Rattle.wf_query.specs.declared.answers.Answer.TheVariants.{Yes, No}
+
+-- a run, with its links and the flags of its instances, under a view
+pub record PreparedSeen : Type 0 where
+  pub viewed : ViewedSeen
+  pub run : Table
+  pub flat : FlatSeen
 
 -- a run of a grammar, with its links under a view, in which pending instances have the pairs that every production induces, and flags that tell which of its instances are open
 pub record IsPrepared (g : Grammar) (u : View) (t : Table) (flat : FlatSeen) : Type 0 where

@@ -1,11 +1,11 @@
 // Answers to queries on a run.
-ghost use Rattle.std.specs.Prelude.{IfOk, length, option_map};
+ghost use Rattle.std.specs.Prelude.{◌≡◌, IfOk, length, option_map};
 ghost use Rattle.wf_flat.specs.Table.{names_in};
 ghost use Rattle.wf_flat.specs.Graph.{named_port, named_links};
 ghost use Rattle.wf_flat.specs.Item.{IsItemWithin};
 ghost use Rattle.wf_query.specs.Answers.{answer_text};
-ghost use Rattle.cmd_ask.specs.Prepared.{TellsPath};
-ghost use Rattle.cmd_ask.specs.Told.{IsReady, IsToldBy};
+ghost use Rattle.cmd_ask.specs.Prepared.{PreparedSeen, TellsPath};
+ghost use Rattle.cmd_ask.specs.Told.{IsToldBy};
 
 use crate::prepared::Prepared;
 use std::alloc::AllocError;
@@ -14,10 +14,11 @@ use wf_query::{Answer, Answerer, Query};
 
 /// Whether a path leads from where the first item is consumed to where the second is produced. Fails only for want of memory.
 fn path_answer(p: &Prepared<'_>, first: Item, second: Item) -> Result<Answer, AllocError>
-    requires ready { IsReady p.now }
-    requires first { IsItemWithin (length p.now.run.now.instances) first }
-    requires second { IsItemWithin (length p.now.run.now.instances) second }
-    ensures { IfOk result (TellsPath (named_links (names_in p.now.run.now.instances) p.now.flat.links) (option_map (named_port (names_in p.now.run.now.instances)) first.to) (option_map (named_port (names_in p.now.run.now.instances)) second.from)) }
+    requires first { IsItemWithin (length p.now.run.instances) first }
+    requires second { IsItemWithin (length p.now.run.instances) second }
+    ensures { IfOk result (TellsPath (named_links (names_in p.now.run.instances) p.now.flat.links)
+        (option_map (named_port (names_in p.now.run.instances)) first.to)
+        (option_map (named_port (names_in p.now.run.instances)) second.from)) }
 {
     let Some(from) = first.to else {
         return Ok(Answer::No);
@@ -36,13 +37,13 @@ fn path_answer(p: &Prepared<'_>, first: Item, second: Item) -> Result<Answer, Al
 ///
 /// Cost: two items found by hashing, and one search in the links of the run. Fails only for want of memory.
 fn answer(p: &Prepared<'_>, query: &Query<'_>) -> Result<Answer, AllocError>
-    requires { IsReady p.now }
     ensures { IfOk result (λ a. IsToldBy p.now query.now.first.now query.now.second.now (answer_text a)) }
 {
-    let Some(a) = find_item(&p.viewed.spec.grammar, p.run, query.first) else {
+    let g = p.viewed.grammar();
+    let Some(a) = find_item(g, p.run, query.first) else {
         return Ok(Answer::Unknown);
     };
-    let Some(b) = find_item(&p.viewed.spec.grammar, p.run, query.second) else {
+    let Some(b) = find_item(g, p.run, query.second) else {
         return Ok(Answer::Unknown);
     };
     if !p.flat.shows(&a) {
@@ -56,13 +57,13 @@ fn answer(p: &Prepared<'_>, query: &Query<'_>) -> Result<Answer, AllocError>
 }
 
 impl Answerer for Prepared<'_> {
-    ghost is_ready = { λ p. IsReady p };
+    ghost is_ready = { λ p. Unit {0} };
 
-    ghost Known = { Unit {0} };
+    ghost Known = { PreparedSeen };
 
-    ghost is_known = { λ p k. Unit {0} };
+    ghost is_known = { λ p k. k ≡ p };
 
-    ghost words = { λ p k. IsToldBy p };
+    ghost words = { IsToldBy };
 
     ghost wants_memory = { Unit {0} };
 

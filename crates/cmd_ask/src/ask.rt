@@ -5,14 +5,13 @@ ghost use Rattle.label_file.specs.Stored.{AreHeldOf, IsStoreFor};
 ghost use Rattle.wf_query.specs.Answers.{IsAnswerText};
 ghost use Rattle.wf_message.specs.Endings.{end_after, NoMemory};
 ghost use Rattle.wf_stage.specs.Promises.{Obeys};
-ghost use Rattle.wf_inputs.specs.Viewed.{IsViewTaken};
 ghost use Rattle.cmd_ask.specs.Does.{AnswersLabels, Asks, QueriesStage};
 
 use crate::stop::stop_at;
 use label_file::Store;
 use std::alloc::Global;
 use wf_decode::Scratch;
-use wf_inputs::{LABELS, QUERIES, Viewed, spec_stage, store_of, view_stage};
+use wf_inputs::{LABELS, Viewed, spec_stage, store_of, view_stage};
 use wf_io::{Shelf, Sink};
 use wf_message::Stop;
 use wf_query::batch;
@@ -37,20 +36,21 @@ fn answer_queries<H: Shelf, O: Sink>(
     shelf: &mut H,
     out: &mut O,
 ) -> Result<(), Stop>
-    requires viewed { IsViewTaken v.now }
     requires store { IsStoreFor v.now.spec.grammar.core store.now }
-    ensures obeys { (entries : List Entry) → AreHeldOf v.now.spec.grammar.core entries store.now → Obeys H.files H.faults H.at_last O.put_bytes O.faults O.at_last [] (λ f. QueriesStage (IsAnswerText v.now.spec.grammar.core v.now.view.core entries) (f name.now)) shelf.old shelf.new out.old out.new (end_after result) }
-    ensures untouched { end_after result ≡ NoMemory → O.put_bytes out.new ≡ O.put_bytes out.old }
+    ensures obeys { (entries : List Entry) → AreHeldOf v.now.spec.grammar.core entries store.now →
+        Obeys H.files H.faults H.at_last O.put_bytes O.faults O.at_last []
+        (λ f. QueriesStage (IsAnswerText v.now.spec.grammar.core v.now.view.core entries) (f name.now))
+        shelf.old shelf.new out.old out.new (end_after result) }
+    ensures untouched { end_after result ≡ NoMemory → (O.put_bytes out.new ≡ O.put_bytes out.old) × (O.faults out.new ≡ O.faults out.old) }
 {
-    let Ok(label) = ViewLabel::build(alloc, &v.spec.grammar, &v.spec.cycles, &v.view, &v.full)
+    let Ok(label) = ViewLabel::build(alloc, v.grammar(), v.spec().cycles(), v.view(), v.full())
     else {
         return Err(Stop::NoMemory);
     };
-    let Ok(scratch) = Scratch::for_view(alloc, &label) else {
+    let Ok(mut scratch) = Scratch::for_view(alloc, &label) else {
         return Err(Stop::NoMemory);
     };
-    let bytes = read_file(alloc, shelf, name, QUERIES)?;
-    match batch(&bytes, store, &label, scratch, out) {
+    match batch(alloc, shelf, name, store, &label, &mut scratch, out) {
         Ok(_) => Ok(()),
         Err(fault) => Err(stop_at(fault)),
     }
@@ -64,12 +64,14 @@ fn answer_labels<H: Shelf, O: Sink>(
     shelf: &mut H,
     out: &mut O,
 ) -> Result<(), Stop>
-    requires viewed { IsViewTaken v.now }
-    ensures obeys { Obeys H.files H.faults H.at_last O.put_bytes O.faults O.at_last [] (λ f. AnswersLabels v.now.spec.grammar.core v.now.view.core (f words.now.labels.now) (f words.now.queries.now)) shelf.old shelf.new out.old out.new (end_after result) }
-    ensures untouched { end_after result ≡ NoMemory → O.put_bytes out.new ≡ O.put_bytes out.old }
+    ensures obeys { Obeys H.files H.faults H.at_last O.put_bytes O.faults O.at_last []
+        (λ f. AnswersLabels v.now.spec.grammar.core v.now.view.core (f words.now.labels.now) (f words.now.queries.now))
+        shelf.old shelf.new out.old out.new (end_after result) }
+    ensures untouched { end_after result ≡ NoMemory → (O.put_bytes out.new ≡ O.put_bytes out.old) × (O.faults out.new ≡ O.faults out.old) }
 {
     let bytes = read_file(alloc, shelf, words.labels, LABELS)?;
-    let store = store_of(alloc, &v.spec, &bytes)?;
+    let key = shelf.hash_key();
+    let store = store_of(alloc, key, v.spec(), &bytes)?;
     answer_queries(alloc, v, &store, words.queries, shelf, out)
 }
 
@@ -82,8 +84,10 @@ pub fn ask<H: Shelf, O: Sink>(
     shelf: &mut H,
     out: &mut O,
 ) -> Result<(), Stop>
-    ensures obeys { Obeys H.files H.faults H.at_last O.put_bytes O.faults O.at_last [] (λ f. Asks (f words.now.spec.now) (f words.now.view.now) (f words.now.labels.now) (f words.now.queries.now)) shelf.old shelf.new out.old out.new (end_after result) }
-    ensures untouched { end_after result ≡ NoMemory → O.put_bytes out.new ≡ O.put_bytes out.old }
+    ensures obeys { Obeys H.files H.faults H.at_last O.put_bytes O.faults O.at_last []
+        (λ f. Asks (f words.now.spec.now) (f words.now.view.now) (f words.now.labels.now) (f words.now.queries.now))
+        shelf.old shelf.new out.old out.new (end_after result) }
+    ensures untouched { end_after result ≡ NoMemory → (O.put_bytes out.new ≡ O.put_bytes out.old) × (O.faults out.new ≡ O.faults out.old) }
 {
     let spec = spec_stage(alloc, shelf, words.spec)?;
     let viewed = view_stage(alloc, shelf, words.view, spec)?;

@@ -1,13 +1,25 @@
 // What queries on a run are answered from.
 use std::alloc::Global;
+use std::marker::Model;
 use wf_flat::{Flat, PlainRun};
 use wf_inputs::Viewed;
 
 /// A run of a grammar, and its links under a safe view.
 #[derive(Drop)]
 pub struct Prepared<'p> {
-    pub alloc: Global,
-    pub viewed: &'p Viewed,
-    pub run: &'p PlainRun,
-    pub flat: Flat,
+    pub(crate) alloc: Global,
+    pub(crate) viewed: &'p Viewed,
+    pub(crate) run: &'p PlainRun,
+    pub(crate) flat: Flat,
+}
+
+impl<'p> Model for Prepared<'p> {
+    ghost use Rattle.cmd_ask.specs.Prepared.{PreparedSeen};
+    ghost use Rattle.cmd_ask.specs.Told.{IsReady};
+
+    ghost Value = { PreparedSeen };
+
+    ghost view = { λ p. record { viewed = p.viewed.now; run = p.run.now; flat = p.flat } };
+
+    ghost invariant = { λ p. IsReady (record { viewed = p.viewed.now; run = p.run.now; flat = p.flat }) };
 }

@@ -12,10 +12,10 @@ pub fn stop_at(fault: BatchFault) -> Stop
     ensures { end_of result ≡ end_at fault }
 {
     match fault {
-        BatchFault::LineWrong { line } => refused_line(QUERIES.place, line, named(b"LineWrong")),
-        BatchFault::LineTooLong { line } => {
-            refused_line(QUERIES.place, line, named(b"LineTooLong"))
-        }
+        BatchFault::LineWrong { line } => refused_line(QUERIES, line, named(b"LineWrong")),
+        BatchFault::LineTooLong { line } => refused_line(QUERIES, line, named(b"LineTooLong")),
+        BatchFault::FileTooLong { line } => refused_line(QUERIES, line, named(b"FileTooLong")),
+        BatchFault::ReadFault => Stop::ReadFault { place: QUERIES },
         BatchFault::WriteFault => Stop::WriteFault,
         BatchFault::NoMemory => Stop::NoMemory,
     }

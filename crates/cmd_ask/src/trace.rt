@@ -3,20 +3,18 @@ ghost use Rattle.std.specs.Prelude.{◌≡◌, [], IfOk};
 ghost use Rattle.wf_flat.specs.Table.{IsTableOf, events_of};
 ghost use Rattle.wf_message.specs.Endings.{end_after};
 ghost use Rattle.wf_stage.specs.Promises.{Obeys};
-ghost use Rattle.wf_inputs.specs.Viewed.{IsViewTaken};
 ghost use Rattle.cmd_ask.specs.Answers.{IsAnswerOfRun};
-ghost use Rattle.cmd_ask.specs.Told.{IsReady, IsToldBy};
+ghost use Rattle.cmd_ask.specs.Told.{IsToldBy};
 ghost use Rattle.cmd_ask.specs.Does.{QueriesStage, AnswersRun, Traces};
 
 use crate::prepared::Prepared;
 use crate::stop::stop_at;
 use std::alloc::{AllocError, Global};
 use wf_flat::{Flat, PlainRun};
-use wf_inputs::{QUERIES, Viewed, events_stage, spec_stage, view_stage};
+use wf_inputs::{Viewed, events_stage, spec_stage, view_stage};
 use wf_io::{Shelf, Sink};
 use wf_message::Stop;
 use wf_query::answer_lines;
-use wf_stage::read_file;
 
 /// The names of the files that `trace` reads, in this order.
 #[derive(Clone, Copy)]
@@ -29,13 +27,11 @@ pub struct TraceWords<'w> {
 
 /// A run with its links, as queries need it. Fails only for want of memory.
 fn prepare<'p>(alloc: Global, v: &'p Viewed, run: &'p PlainRun) -> Result<Prepared<'p>, AllocError>
-    requires viewed { IsViewTaken v.now }
     requires run { IsTableOf v.now.spec.grammar.core run.now }
-    ensures viewed { IfOk result (λ p. p.viewed.now ≡ v.now) }
-    ensures run { IfOk result (λ p. p.run.now ≡ run.now) }
-    ensures ready { IfOk result (λ p. IsReady p) }
+    ensures viewed { IfOk result (λ p. p.viewed ≡ v.now) }
+    ensures run { IfOk result (λ p. p.run ≡ run.now) }
 {
-    let flat = Flat::of(alloc, &v.spec.grammar, run, v.view.marks(), v.full.deps())?;
+    let flat = Flat::of(alloc, v.grammar(), run, v.view().marks(), v.full().deps())?;
     Ok(Prepared {
         alloc,
         viewed: v,
@@ -52,11 +48,13 @@ fn answer_prepared<H: Shelf, O: Sink>(
     shelf: &mut H,
     out: &mut O,
 ) -> Result<(), Stop>
-    requires { IsReady p.old }
-    ensures obeys { Obeys H.files H.faults H.at_last O.put_bytes O.faults O.at_last [] (λ f. QueriesStage (IsToldBy p.old) (f name.now)) shelf.old shelf.new out.old out.new (end_after result) }
+    ensures obeys { Obeys H.files H.faults H.at_last O.put_bytes O.faults O.at_last []
+        (λ f. QueriesStage (IsToldBy p.old) (f name.now))
+        shelf.old shelf.new out.old out.new (end_after result) }
 {
-    let bytes = read_file(alloc, shelf, name, QUERIES)?;
-    match answer_lines(p, &bytes, out) {
+    // A query on a run of a proper grammar has one answer.
+    let _run = p.run;
+    match answer_lines(alloc, p, shelf, name, out) {
         Ok(_) => Ok(()),
         Err(fault) => Err(stop_at(fault)),
     }
@@ -71,9 +69,10 @@ fn answer_run<H: Shelf, O: Sink>(
     shelf: &mut H,
     out: &mut O,
 ) -> Result<(), Stop>
-    requires viewed { IsViewTaken v.now }
     requires run { IsTableOf v.now.spec.grammar.core run.now }
-    ensures obeys { Obeys H.files H.faults H.at_last O.put_bytes O.faults O.at_last [] (λ f. QueriesStage (IsAnswerOfRun v.now.spec.grammar.core v.now.view.core (events_of run.now)) (f name.now)) shelf.old shelf.new out.old out.new (end_after result) }
+    ensures obeys { Obeys H.files H.faults H.at_last O.put_bytes O.faults O.at_last []
+        (λ f. QueriesStage (IsAnswerOfRun v.now.spec.grammar.core v.now.view.core (events_of run.now)) (f name.now))
+        shelf.old shelf.new out.old out.new (end_after result) }
 {
     let Ok(mut p) = prepare(alloc, v, run) else {
         return Err(Stop::NoMemory);
@@ -89,10 +88,11 @@ fn answer_events<H: Shelf, O: Sink>(
     shelf: &mut H,
     out: &mut O,
 ) -> Result<(), Stop>
-    requires viewed { IsViewTaken v.now }
-    ensures obeys { Obeys H.files H.faults H.at_last O.put_bytes O.faults O.at_last [] (λ f. AnswersRun v.now.spec.grammar.core v.now.view.core (f words.now.events.now) (f words.now.queries.now)) shelf.old shelf.new out.old out.new (end_after result) }
+    ensures obeys { Obeys H.files H.faults H.at_last O.put_bytes O.faults O.at_last []
+        (λ f. AnswersRun v.now.spec.grammar.core v.now.view.core (f words.now.events.now) (f words.now.queries.now))
+        shelf.old shelf.new out.old out.new (end_after result) }
 {
-    let run = events_stage(alloc, shelf, words.events, &v.spec.grammar)?;
+    let run = events_stage(alloc, shelf, words.events, v.grammar())?;
     answer_run(alloc, v, &run, words.queries, shelf, out)
 }
 
@@ -103,7 +103,9 @@ pub fn trace<H: Shelf, O: Sink>(
     shelf: &mut H,
     out: &mut O,
 ) -> Result<(), Stop>
-    ensures obeys { Obeys H.files H.faults H.at_last O.put_bytes O.faults O.at_last [] (λ f. Traces (f words.now.spec.now) (f words.now.view.now) (f words.now.events.now) (f words.now.queries.now)) shelf.old shelf.new out.old out.new (end_after result) }
+    ensures obeys { Obeys H.files H.faults H.at_last O.put_bytes O.faults O.at_last []
+        (λ f. Traces (f words.now.spec.now) (f words.now.view.now) (f words.now.events.now) (f words.now.queries.now))
+        shelf.old shelf.new out.old out.new (end_after result) }
 {
     let spec = spec_stage(alloc, shelf, words.spec)?;
     let viewed = view_stage(alloc, shelf, words.view, spec)?;

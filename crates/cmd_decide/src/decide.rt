@@ -6,7 +6,6 @@ ghost use Rattle.label_model.specs.Reading.{IsLabelBytes};
 ghost use Rattle.wf_label.specs.Values.{AreLabelBits};
 ghost use Rattle.wf_message.specs.Endings.{end_of, end_after, Refused, NoMemory};
 ghost use Rattle.wf_stage.specs.Promises.{Writes, Obeys};
-ghost use Rattle.wf_inputs.specs.Viewed.{IsTaken, IsViewTaken};
 ghost use Rattle.cmd_decide.specs.Words.{AreDigits, bytes_in};
 ghost use Rattle.cmd_decide.specs.Decided.{DecidesLabels, verdict_text};
 ghost use Rattle.cmd_decide.specs.Does.{Decides};
@@ -15,7 +14,7 @@ use crate::verdict::verdict_of;
 use crate::words::DecideWords;
 use std::alloc::Global;
 use verdict_model::Verdict;
-use wf_inputs::{Spec, Viewed, named, spec_stage, view_stage};
+use wf_inputs::{Viewed, named, spec_stage, view_stage};
 use wf_io::{Shelf, Sink};
 use wf_label::LabelRef;
 use wf_message::{Place, Stop, refused_whole};
@@ -51,13 +50,12 @@ fn bytes_of(alloc: Global, word: &str) -> Result<Vec<u8>, Stop>
     }
 }
 
-/// The label that bytes are, refused as Malformed at its place among the words.
-fn label_of<'a>(spec: &Spec, place: Place, bytes: &'a [u8]) -> Result<LabelRef<'a>, Stop>
-    requires spec { IsTaken spec.now }
-    ensures label { IfOk result (λ r. AreLabelBits spec.now.grammar.core r × Holds bytes.now r) }
-    ensures malformed { IfErr result (λ e. (IsLabelBytes spec.now.grammar.core bytes.now → ⊥) × (end_of e ≡ Refused place.word.now None (codes "Malformed"))) }
+/// The label that bytes are, of the grammar of a view, refused as Malformed at its place among the words.
+fn label_of<'a>(v: &Viewed, place: Place, bytes: &'a [u8]) -> Result<LabelRef<'a>, Stop>
+    ensures label { IfOk result (λ r. AreLabelBits v.now.spec.grammar.core r × Holds bytes.now r) }
+    ensures malformed { IfErr result (λ e. (IsLabelBytes v.now.spec.grammar.core bytes.now → ⊥) × (end_of e ≡ Refused place.word.now None (codes "Malformed"))) }
 {
-    match LabelRef::check(&spec.grammar, &spec.cycles, bytes) {
+    match LabelRef::check(v.grammar(), v.spec().cycles(), bytes) {
         Ok(label) => Ok(label),
         Err(_) => Err(refused_whole(place, named(b"Malformed"))),
     }
@@ -70,13 +68,12 @@ fn put_verdict<O: Sink>(
     words: &DecideWords<'_>,
     out: &mut O,
 ) -> Result<(), Stop>
-    requires viewed { IsViewTaken v.now }
     ensures writes { Writes O.put_bytes O.faults O.at_last [] (DecidesLabels v.now.spec.grammar.core v.now.view.core (bytes_in (decode_of words.now.first.now)) (bytes_in (decode_of words.now.second.now))) out.old out.new (end_after result) }
 {
     let first_bytes = bytes_of(alloc, words.first)?;
     let second_bytes = bytes_of(alloc, words.second)?;
-    let first = label_of(&v.spec, FIRST, &first_bytes)?;
-    let second = label_of(&v.spec, SECOND, &second_bytes)?;
+    let first = label_of(v, FIRST, &first_bytes)?;
+    let second = label_of(v, SECOND, &second_bytes)?;
     let verdict = verdict_of(alloc, v, first, second)?;
     put_text(out, verdict_line(verdict))
 }

@@ -7,7 +7,6 @@ ghost use Rattle.verdict_model.specs.Verdicts.{IsVerdict};
 ghost use Rattle.wf_vlabel.specs.Seen.{IsLabelOfView};
 ghost use Rattle.wf_decode.specs.Reading.{most_legs};
 ghost use Rattle.wf_message.specs.Endings.{end_of, NoMemory};
-ghost use Rattle.wf_inputs.specs.Viewed.{IsViewTaken};
 
 use bool_mat::Steps;
 use std::alloc::Global;
@@ -48,13 +47,12 @@ pub fn verdict_of(
     first: LabelRef<'_>,
     second: LabelRef<'_>,
 ) -> Result<Verdict, Stop>
-    requires viewed { IsViewTaken v.now }
     requires first { AreLabelBits v.now.spec.grammar.core first }
     requires second { AreLabelBits v.now.spec.grammar.core second }
     ensures verdict { IfOk result (λ r. (x y : Label) → IsLabel v.now.spec.grammar.core x → IsLabel v.now.spec.grammar.core y → first.entry ≡ label_bits x → second.entry ≡ label_bits y → IsVerdict v.now.spec.grammar.core v.now.view.core x y r) }
     ensures memory { IfErr result (λ e. end_of e ≡ NoMemory) }
 {
-    let Ok(label) = ViewLabel::build(alloc, &v.spec.grammar, &v.spec.cycles, &v.view, &v.full)
+    let Ok(label) = ViewLabel::build(alloc, v.grammar(), v.spec().cycles(), v.view(), v.full())
     else {
         return Err(Stop::NoMemory);
     };

@@ -11,7 +11,6 @@ use Rattle.wf_model.specs.Run.{IsName, IsRun}
 use Rattle.wf_model.specs.Safe.{IsExpansion, IsFull}
 use Rattle.wf_model.specs.Finishing.{ExpandsComposites}
 use Rattle.wf_model.proofs.Lists.{filter_same, in_filter_from}
-use Rattle.wf_model.proofs.Level.{in_numbers}
 use Rattle.wf_laws.proofs.Growth.{finishing_law}
 use Rattle.wf_view.specs.Viewing.{name_of}
 use Rattle.cmd_describe.specs.ViewText.{pair_text, row_text, state_text, module_line, IsSeenTest, view_text_of}

@@ -2,7 +2,6 @@
 ghost use Rattle.std.specs.Prelude.{[]};
 ghost use Rattle.wf_message.specs.Endings.{end_after};
 ghost use Rattle.wf_stage.specs.Promises.{Writes, Obeys};
-ghost use Rattle.wf_inputs.specs.Viewed.{IsTaken};
 ghost use Rattle.cmd_describe.specs.Does.{IsChecked, Checks};
 
 use crate::check_text::check_text;
@@ -14,9 +13,10 @@ use wf_stage::put_text;
 
 /// Puts the text of a grammar. It is made whole before it is put, so that want of memory leaves `out` as it was.
 fn put_grammar<O: Sink>(alloc: Global, spec: &Spec, out: &mut O) -> Result<(), Stop>
-    requires spec { IsTaken spec.now }
     ensures writes { Writes O.put_bytes O.faults O.at_last [] (IsChecked spec.now.grammar.core) out.old out.new (end_after result) }
 {
+    // A strictly linear grammar has one text.
+    let _taken = spec.grammar();
     let Ok(text) = check_text(alloc, spec) else {
         return Err(Stop::NoMemory);
     };

@@ -3,7 +3,6 @@ ghost use Rattle.std.specs.Prelude.{◌≡◌, ◌<◌, ◌++◌, [], Some, None
 ghost use Rattle.wf_recur.specs.Cycles.{on_of, step_of};
 ghost use Rattle.wf_message.specs.Refusals.{step_text};
 ghost use Rattle.wf_model.specs.Composite.{is_composite};
-ghost use Rattle.wf_inputs.specs.Viewed.{IsTaken};
 ghost use Rattle.cmd_describe.specs.CheckText.{composite_modules, cycle_text, check_line, check_text_of};
 
 use itoa::Buffer;
@@ -56,25 +55,25 @@ fn add_cycle(out: &mut Vec<u8>, g: &Grammar, c: &Cycles, m: ModNo) -> Result<(),
 
 /// Appends the line of a composite module.
 fn add_line(out: &mut Vec<u8>, spec: &Spec, m: ModNo) -> Result<(), AllocError>
-    requires spec { IsTaken spec.now }
     requires in_range { m.0 < length spec.now.grammar.core.modules }
     ensures { OnOk result (out.new.items ≡ out.old.items ++ check_line spec.now.grammar.core spec.now.ranking spec.now.cycles m.0) }
 {
-    out.extend_from_slice(module_name(&spec.grammar, m))?;
-    add_numbered(out, b" rank ", u64::from(spec.ranking.rank(m)))?;
-    add_numbered(out, b" production ", u64::from(spec.ranking.choice(m).0))?;
-    add_cycle(out, &spec.grammar, &spec.cycles, m)?;
+    let g = spec.grammar();
+    let ranking = spec.ranking();
+    out.extend_from_slice(module_name(g, m))?;
+    add_numbered(out, b" rank ", u64::from(ranking.rank(m)))?;
+    add_numbered(out, b" production ", u64::from(ranking.choice(m).0))?;
+    add_cycle(out, g, spec.cycles(), m)?;
     out.extend_from_slice(b"\n")?;
     Ok(())
 }
 
 /// Appends the line of a module, if it is composite.
 fn add_module(out: &mut Vec<u8>, spec: &Spec, m: ModNo) -> Result<(), AllocError>
-    requires spec { IsTaken spec.now }
     requires in_range { m.0 < length spec.now.grammar.core.modules }
     ensures { OnOk result (out.new.items ≡ out.old.items ++ cond (is_composite spec.now.grammar.core m.0) (check_line spec.now.grammar.core spec.now.ranking spec.now.cycles m.0) []) }
 {
-    if spec.grammar.is_composite(m) {
+    if spec.grammar().is_composite(m) {
         add_line(out, spec, m)?;
     }
     Ok(())
@@ -82,10 +81,9 @@ fn add_module(out: &mut Vec<u8>, spec: &Spec, m: ModNo) -> Result<(), AllocError
 
 /// Appends the lines of the composite modules, in order.
 fn add_lines(out: &mut Vec<u8>, spec: &Spec) -> Result<(), AllocError>
-    requires spec { IsTaken spec.now }
     ensures { OnOk result (out.new.items ≡ out.old.items ++ flat_map (check_line spec.now.grammar.core spec.now.ranking spec.now.cycles) (composite_modules spec.now.grammar.core)) }
 {
-    let count = spec.grammar.modules().len();
+    let count = spec.grammar().modules().len();
     prove!(count <= 1024);
     for k in 0..count as u16 {
         add_module(out, spec, ModNo(k))?;
@@ -97,10 +95,9 @@ fn add_lines(out: &mut Vec<u8>, spec: &Spec) -> Result<(), AllocError>
 ///
 /// Cost: linear in the text. Fails only for want of memory.
 pub fn check_text(alloc: Global, spec: &Spec) -> Result<Vec<u8>, AllocError>
-    requires spec { IsTaken spec.now }
     ensures { IfOk result (λ v. v.items ≡ check_text_of spec.now.grammar.core spec.now.ranking spec.now.cycles) }
 {
-    let mut out = canonical(alloc, &spec.grammar)?;
+    let mut out = canonical(alloc, spec.grammar())?;
     out.push(b'\n')?;
     add_lines(&mut out, spec)?;
     Ok(out)

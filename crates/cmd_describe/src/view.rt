@@ -4,7 +4,6 @@ ghost use Rattle.wf_model.specs.Meaning.{pairs_of};
 ghost use Rattle.wf_message.specs.Endings.{end_after};
 ghost use Rattle.wf_stage.specs.Ends.{IsWritten};
 ghost use Rattle.wf_stage.specs.Promises.{Writes, Obeys};
-ghost use Rattle.wf_inputs.specs.Viewed.{IsViewTaken};
 ghost use Rattle.cmd_describe.specs.Does.{IsViewWritten, Views};
 ghost use Rattle.cmd_describe.specs.ViewText.{module_line};
 
@@ -18,11 +17,10 @@ use wf_stage::put_text;
 
 /// Puts the line of a module, if the module is seen. The line is made whole before it is put, in place of what `line` held.
 fn put_module<O: Sink>(v: &Viewed, m: ModNo, line: &mut Vec<u8>, out: &mut O) -> Result<(), Stop>
-    requires viewed { IsViewTaken v.now }
     requires in_range { m.0 < length v.now.spec.grammar.core.modules }
     ensures writes { Writes O.put_bytes O.faults O.at_last [] (IsWritten (cond (get_or v.now.view.seen m.0 false) (module_line v.now.spec.grammar.core v.now.view.core (pairs_of v.now.full) m.0) [])) out.old out.new (end_after result) }
 {
-    if !v.view.seen(m) {
+    if !v.view().seen(m) {
         return Ok(());
     }
     line.clear();
@@ -34,10 +32,9 @@ fn put_module<O: Sink>(v: &Viewed, m: ModNo, line: &mut Vec<u8>, out: &mut O) ->
 
 /// Puts the lines of the seen modules, one by one, in order.
 fn put_lines<O: Sink>(alloc: Global, v: &Viewed, out: &mut O) -> Result<(), Stop>
-    requires viewed { IsViewTaken v.now }
     ensures writes { Writes O.put_bytes O.faults O.at_last [] (IsViewWritten v.now.spec.grammar.core v.now.view.core) out.old out.new (end_after result) }
 {
-    let count = v.spec.grammar.modules().len();
+    let count = v.grammar().modules().len();
     prove!(count <= 1024);
     let mut line = Vec::new(alloc);
     for k in 0..count as u16 {

@@ -41,9 +41,9 @@ fn add_joined(
     requires output { o.0 < 64 }
     ensures { OnOk result (line.new.items ≡ line.old.items ++ cond (pairs_of v.now.full m.0 i.0 o.0) (pair_text v.now.spec.grammar.core m.0 i.0 o.0) []) }
 {
-    let rows = v.full.rows(m);
+    let rows = v.full().rows(m);
     if has_column(rows[i.0 as usize], u32::from(o.0)) {
-        add_pair(line, &v.spec.grammar, m, i, o)?;
+        add_pair(line, v.grammar(), m, i, o)?;
     }
     Ok(())
 }
@@ -55,7 +55,7 @@ fn add_row(line: &mut Vec<u8>, v: &Viewed, m: ModNo, i: PortNo) -> Result<(), Al
     requires input { i.0 < inputs_of v.now.spec.grammar.core m.0 }
     ensures { OnOk result (line.new.items ≡ line.old.items ++ row_text v.now.spec.grammar.core (pairs_of v.now.full) m.0 i.0) }
 {
-    for o in 0..v.spec.grammar.output_count(m) {
+    for o in 0..v.grammar().output_count(m) {
         add_joined(line, v, m, i, PortNo(o))?;
     }
     Ok(())
@@ -67,7 +67,7 @@ fn add_pairs(line: &mut Vec<u8>, v: &Viewed, m: ModNo) -> Result<(), AllocError>
     requires rows { HasRows v.now.spec.grammar.core v.now.full m.0 }
     ensures { OnOk result (line.new.items ≡ line.old.items ++ pairs_text v.now.spec.grammar.core (pairs_of v.now.full) m.0) }
 {
-    for i in 0..v.spec.grammar.input_count(m) {
+    for i in 0..v.grammar().input_count(m) {
         add_row(line, v, m, PortNo(i))?;
     }
     Ok(())
@@ -87,8 +87,8 @@ pub fn add_module_line(line: &mut Vec<u8>, v: &Viewed, m: ModNo) -> Result<(), A
     requires rows { HasRows v.now.spec.grammar.core v.now.full m.0 }
     ensures { OnOk result (line.new.items ≡ line.old.items ++ module_line v.now.spec.grammar.core v.now.view.core (pairs_of v.now.full) m.0) }
 {
-    line.extend_from_slice(module_name(&v.spec.grammar, m))?;
-    line.extend_from_slice(state_word(v.view.expanded(m)))?;
+    line.extend_from_slice(module_name(v.grammar(), m))?;
+    line.extend_from_slice(state_word(v.view().expanded(m)))?;
     add_pairs(line, v, m)?;
     line.extend_from_slice(b"\n")?;
     Ok(())

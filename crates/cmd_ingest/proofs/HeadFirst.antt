@@ -1,33 +1,34 @@
--- EVENTS behind the head of the label file, which is the label file of no events.
-use Rattle.std.proofs.Common.{◌≡◌, ℕ, List, Option, refl, sym, ◌∙◌}
+-- What `ingest` writes begins with the head of the label file.
+use Rattle.std.proofs.Common.{◌≡◌, ℕ, List, [], ◌∷◌, ◌++◌, refl, sym, ap, ◌∙◌, append-nil}
+use Rattle.sha2.specs.Sha256.{sha256}
+use Rattle.wf_model.specs.declared.event.Event.{Event}
 use Rattle.wf_model.specs.Grammar.{Grammar}
-use Rattle.wf_io.specs.Told.{File}
-use Rattle.wf_io.specs.Lines.{Line, lines_of}
-use Rattle.wf_stage.specs.Kinds.{Kind}
-use Rattle.wf_stage.specs.Stages.{Stage, Holds, TellsLines, RefusesNone}
-use Rattle.wf_stage.specs.Promises.{HasRead}
+use Rattle.wf_model.specs.Run.{IsAccepted}
+use Rattle.wf_json.specs.Canonical.{canonical_of}
+use Rattle.label_model.proofs.FileGrowth.{file_step_law}
+use Rattle.wf_io.specs.Lines.{FileLines}
+use Rattle.wf_message.specs.Endings.{End, Done}
 use Rattle.wf_stage.proofs.Ends.{Begins}
-use Rattle.wf_stage.proofs.Stages.{stage_begins, told_by}
-use Rattle.wf_inputs.specs.Inputs.{events_kind, instance_most}
-use Rattle.cmd_ingest.specs.Ingested.{file_head, IngestsLines}
-use Rattle.cmd_ingest.proofs.TakenLines.{ingests_back}
+use Rattle.wf_inputs.specs.Inputs.{instance_most}
+use Rattle.wf_inputs.specs.RunTold.{EventsStage}
+use Rattle.wf_inputs.proofs.EventStages.{events_back}
+use Rattle.cmd_ingest.specs.Ingested.{file_of, file_head, WritesFile}
+use Rattle.cmd_ingest.specs.Labelled.{bytes_by}
 
--- each text of lines begins with the head
-pub lines_begin_head : (g : Grammar) (lines : List Line) → Begins (file_head g) (IngestsLines g instance_most lines)
-lines_begin_head g lines e t h = let b = ingests_back g instance_most lines e t h in (b.0, b.1)
+-- the label file of no events is its head
+pub file_of_none : (g : Grammar) → file_of g [] ≡ file_head g
+file_of_none g = append-nil (file_head g)
 
--- so does each text of EVENTS
-pub events_begin_head : (g : Grammar) (events : File) → Begins (file_head g) (Stage events_kind (file_head g) events TellsLines RefusesNone (IngestsLines g instance_most))
-events_begin_head g events = stage_begins events_kind (file_head g) events TellsLines RefusesNone (IngestsLines g instance_most) (lines_begin_head g)
+-- with the entries of an event the text is the label file of one event more
+pub file_more : (g : Grammar) (limit : ℕ) (before : List Event) (e : Event) → IsAccepted g limit (before ++ e ∷ []) → file_of g (before ++ e ∷ []) ≡ file_of g before ++ bytes_by g before e
+file_more g limit before e acc = file_step_law g (sha256 (canonical_of g)) before e acc.0
 
--- a file that was read tells the lines of its bytes
-pub lines_read : {S : Type 0} {files : S → Option (List ℕ → File)} {faults : S → ℕ} {kind : Kind} {name : List ℕ} (s t : S) (bytes seen : List ℕ) → seen ≡ bytes → HasRead files faults kind name Holds s t bytes → HasRead files faults kind name TellsLines s t (lines_of seen)
-lines_read {kind = kind} {name = name} s t bytes seen same r = record {
-  told = λ f told. told_by kind (f name) TellsLines bytes seen (lines_of seen) (r.told f told) same refl;
-  count = r.count;
-  same = r.same;
-}
+-- the file of a run begins what is written of it
+pub file_first : (g : Grammar) (es : List Event) (d : End) (t : List ℕ) → WritesFile g es d t → (rest : List ℕ) × (t ≡ file_of g es ++ rest)
+file_first g es d t h = ([], h.1 ∙ sym (append-nil (file_of g es)))
 
--- bytes tell one list of lines
-pub one_lines : (b : List ℕ) (ls ks : List Line) → TellsLines b ls → TellsLines b ks → ks ≡ ls
-one_lines b ls ks p q = q ∙ sym p
+-- what is written of a file of events begins with the head
+pub events_begin_head : (g : Grammar) (file : FileLines) → Begins (file_head g) (EventsStage g instance_most file (file_of g) (WritesFile g))
+events_begin_head g file d t h =
+    let b = events_back bytes_by g instance_most (file_of g) (file_more g instance_most) (WritesFile g) (file_first g) file d t h in
+    (b.0, b.1 ∙ ap (λ x. x ++ b.0) (file_of_none g))

@@ -1,5 +1,5 @@
 -- One line of events: what is taken and put of it, and why it ends the program.
-use Rattle.std.proofs.Common.{◌≡◌, ℕ, ◌<◌, ◌≤◌, ◌^◌, Bool, List, [], ◌∷◌, ◌++◌, length, get_or, map, flat_map, Option, refl, sym, ap, ◌∙◌, subst, arith}
+use Rattle.std.proofs.Common.{◌≡◌, ℕ, ◌<◌, ◌≤◌, ◌^◌, List, [], ◌∷◌, ◌++◌, length, get_or, map, flat_map, Some, refl, sym, ap, ◌∙◌, subst, arith}
 use Rattle.std.specs.Prelude.{codes}
 use Rattle.wf_model.specs.Lists.{IsIn}
 use Rattle.wf_model.specs.declared.event.Event.{Event}
@@ -15,16 +15,14 @@ use Rattle.label_model.proofs.EntrySizes.{entry_sizes}
 use Rattle.wf_run.specs.Runs.{RunSeen, IsRunOf}
 use Rattle.wf_labeller.specs.declared.entry.Entry.{Entry as EntryHeld}
 use Rattle.wf_labeller.specs.Entries.{entry_seen}
-use Rattle.wf_message.specs.Endings.{End, Done, Usage, Refused, ReadFault, WriteFault, NoMemory}
-use Rattle.wf_stage.specs.Ends.{IsWritten}
+use Rattle.wf_message.specs.Endings.{End}
+use Rattle.wf_stage.specs.LineEnds.{told_end}
 use Rattle.wf_stage.specs.Stages.{AtLine, Declines}
-use Rattle.wf_stage.specs.Promises.{Writes}
-use Rattle.wf_stage.proofs.Ends.{begins_nothing, nothing_put}
-use Rattle.wf_stage.proofs.Writing.{writes_wanting, writes_alike}
-use Rattle.wf_inputs.specs.RunTold.{IsEventText, RefusesText}
-use Rattle.wf_inputs.proofs.OneValue.{one_event}
-use Rattle.wf_inputs.proofs.OneRunFault.{takes, text_not_taken}
-use Rattle.cmd_ingest.specs.Labelled.{HaveRoom, bytes_by, IsTakenInto, LabelsText, refused, labelled}
+use Rattle.wf_inputs.specs.RunTold.{RefusesText}
+use Rattle.wf_inputs.specs.RunTaking.{RunSoFar, with_event, TakesEvent, RefusesAt}
+use Rattle.wf_inputs.specs.Inputs.{instance_most}
+use Rattle.wf_inputs.proofs.EventLines.{at_start, refused_at}
+use Rattle.cmd_ingest.specs.Labelled.{HaveRoom, bytes_by, IsTakenInto, IsLabelledAs, IsRunHeld}
 
 -- one of the entries that have room has room
 pub entry_room : (entries : List EntryHeld) (k : ℕ) (d x : EntryHeld) → HaveRoom (map entry_seen entries) → k < length entries → x ≡ get_or entries k d → (length x.name ≤ 129) × (length x.label ≤ 65535)
@@ -42,34 +40,31 @@ module _ (r u : RunSeen) (grammar : u.grammar ≡ r.grammar) (most : u.most ≡ 
       let count = acc.1 in
       subst HaveRoom (sym taken.entries_are) (entry_sizes r.grammar.core formed linear before taken.event (acc.0, omega (arith, few, count), acc.2))
 
-  module _ {T : Type 0} {bytes : T → Option (List ℕ)} {faults : T → ℕ} {last : T → Bool} (number : ℕ) where
-    -- what writes them labels the text of the line
-    pub labelled_writes : (o p : T) (e : End) → Writes bytes faults last [] (IsWritten (flat_map entry_bytes entries)) o p e → Writes bytes faults last [] (LabelsText r.grammar.core r.most before number text) o p e
-    labelled_writes = writes_alike [] (IsWritten (flat_map entry_bytes entries)) (LabelsText r.grammar.core r.most before number text) to from
-      where
-        same : flat_map entry_bytes entries ≡ bytes_by r.grammar.core before taken.event
-        same = ap (flat_map entry_bytes) taken.entries_are
+  -- their bytes are what is made of the event
+  pub labelled_as : (bytes : List ℕ) → bytes ≡ flat_map entry_bytes entries → IsLabelledAs r.grammar.core r.most before text u bytes
+  labelled_as bytes is = record { event = taken.event; told = taken.told; accepted = accepted_on; run = taken.run; bytes_are = is ∙ ap (flat_map entry_bytes) taken.entries_are }
 
-        to : (e : End) (t : List ℕ) → IsWritten (flat_map entry_bytes entries) e t → LabelsText r.grammar.core r.most before number text e t
-        to e t h = labelled taken.event taken.told accepted_on h.0 (h.1 ∙ same)
+-- so a line of events is taken, and leaves the run of one event more
+pub line_taken : (r u : RunSeen) (text made : List ℕ) → u.grammar ≡ r.grammar → u.most ≡ r.most → ((before : List Event) → IsRunOf r before → IsLabelledAs r.grammar.core r.most before text u made) → (s : RunSoFar) → IsRunHeld r s → (q : RunSoFar) × TakesEvent bytes_by s text q made × IsRunHeld u q
+line_taken r u text made grammar most labelled s at =
+    let l = labelled s.events at.run in (
+      with_event s l.event,
+      (
+        l.event,
+        l.told,
+        subst (λ g. IsAccepted g s.limit (s.events ++ l.event ∷ [])) (sym at.grammar) (subst (λ m. IsAccepted r.grammar.core m (s.events ++ l.event ∷ [])) (sym at.limit) l.accepted),
+        refl,
+        l.bytes_are ∙ ap (λ g. bytes_by g s.events l.event) (sym at.grammar),
+      ),
+      record { run = l.run; grammar = at.grammar ∙ ap (λ (h : HeldGrammar). h.core) (sym grammar); limit = at.limit ∙ sym most },
+    )
 
-        from : (e : End) (t : List ℕ) → LabelsText r.grammar.core r.most before number text e t → IsWritten (flat_map entry_bytes entries) e t
-        from e t (refused line fault h x is) = absurd (text_not_taken r.grammar.core r.most before text fault taken.event h.1 taken.told (takes r.grammar.core r.most before taken.event [] accepted_on))
-        from e t (labelled event told acc x is) = (x, is ∙ (ap (bytes_by r.grammar.core before) (one_event text event taken.event told taken.told) ∙ sym same))
+-- a line of events that is declined stops what takes it
+pub line_declined : (r : RunSeen) (number : ℕ) (text made : List ℕ) (d e : End) → ((before : List Event) → IsRunOf r before → Declines (codes "events") (AtLine (RefusesText r.grammar.core r.most before) number text) d) → told_end d ≡ Some e → made ≡ [] → (s : RunSoFar) → IsRunHeld r s → RefusesAt s number text e made
+line_declined r number text made d e declines told none s at =
+    refused_at s number text made d e
+    (subst (λ g. Declines (codes "events") (AtLine (RefusesText g s.limit s.events) number text) d) (sym at.grammar) (subst (λ m. Declines (codes "events") (AtLine (RefusesText r.grammar.core m s.events) number text) d) (sym at.limit) (declines s.events at.run))) told none
 
-  -- the run after an event that the text tells is this one
-  pub run_after : (e : Event) → IsEventText text e → IsRunOf u (before ++ e ∷ [])
-  run_after e told = subst (λ d. IsRunOf u (before ++ d ∷ [])) (one_event text taken.event e taken.told told) taken.run
-
--- a line whose event is not taken ends the program, with nothing put
-pub untaken_writes : {T : Type 0} {bytes : T → Option (List ℕ)} {faults : T → ℕ} {last : T → Bool} (g : Grammar) (limit : ℕ) (before : List Event) (number : ℕ) (text : List ℕ) (o : T) (e : End) → Declines (codes "events") (AtLine (RefusesText g limit before) number text) e → Writes bytes faults last [] (LabelsText g limit before number text) o o e
-untaken_writes g limit before number text o Done h = absurd h
-untaken_writes g limit before number text o Usage h = absurd h
-untaken_writes {bytes = bytes} g limit before number text o (Refused p line fault) h = record {
-  ends = nothing_put [] _ (begins_nothing _) (Refused p line fault) (bytes o) (bytes o) refl (λ w. refused line fault h.1 (ap (λ q. Refused q line fault) h.0) refl);
-  cause = refl;
-  later = omega arith;
-}
-untaken_writes g limit before number text o (ReadFault p) h = absurd h
-untaken_writes g limit before number text o WriteFault h = absurd h
-untaken_writes g limit before number text o NoMemory h = writes_wanting [] _ (begins_nothing _) o
+-- a labeller of a run of no events is at the start of a file
+pub run_started : (g : HeldGrammar) (r l : RunSeen) → l ≡ r → IsRunOf r [] → r.grammar ≡ g → r.most ≡ instance_most → IsRunHeld l (at_start g.core)
+run_started g r l is run grammar most = subst (λ (z : RunSeen). IsRunHeld z (at_start g.core)) (sym is) (record { run = run; grammar = ap (λ (h : HeldGrammar). h.core) (sym grammar); limit = sym most })

@@ -1,5 +1,3 @@
 pub mod HeadFirst
 pub mod Ingesting
 pub mod Labelling
-pub mod LineStage
-pub mod TakenLines

@@ -1,5 +1,5 @@
--- One line of events that are labelled: what is put of it, or why it ends the program.
-use Rattle.std.specs.Prelude.{◌≡◌, ◌≤◌, ℕ, List, [], ◌∷◌, ◌++◌, length, map, flat_map, Option, codes}
+-- One line of events that are labelled: what is made of it.
+use Rattle.std.specs.Prelude.{◌≡◌, ◌≤◌, ℕ, List, [], ◌∷◌, ◌++◌, length, map, flat_map}
 use Rattle.wf_model.specs.Lists.{IsIn}
 use Rattle.wf_model.specs.declared.event.Event.{Event}
 use Rattle.wf_model.specs.Grammar.{Grammar}
@@ -7,9 +7,8 @@ use Rattle.wf_model.specs.Run.{IsAccepted}
 use Rattle.label_model.specs.RunLabels.{labelled_by}
 use Rattle.label_model.specs.Files.{Entry, entry_of, entry_bytes}
 use Rattle.wf_run.specs.Runs.{RunSeen, IsRunOf}
-use Rattle.wf_message.specs.Endings.{End, Done, Refused}
-use Rattle.wf_stage.specs.Stages.{AtLine}
-use Rattle.wf_inputs.specs.RunTold.{IsEventText, RefusesText}
+use Rattle.wf_inputs.specs.RunTold.{IsEventText}
+use Rattle.wf_inputs.specs.RunTaking.{RunSoFar}
 
 -- entries with room for their lengths
 abbrev pub HaveRoom : List Entry → Type 0
@@ -30,7 +29,16 @@ pub record IsTakenInto (g : Grammar) (before : List Event) (text : List ℕ) (r 
   pub run : IsRunOf r (before ++ event ∷ [])
   pub entries_are : entries ≡ entries_by g before event
 
--- What the text of a line of this number makes after a run: it is refused, and nothing is put; or the run takes the event that it tells, and the bytes of the entries of its items are put
-pub data LabelsText (g : Grammar) (limit : ℕ) (before : List Event) (number : ℕ) (text : List ℕ) (ending : End) (put : List ℕ) : Type 0 where
-  refused : (line : Option ℕ) (fault : List ℕ) → AtLine (RefusesText g limit before) number text line fault → ending ≡ Refused (codes "events") line fault → put ≡ [] → LabelsText g limit before number text ending put
-  labelled : (event : Event) → IsEventText text event → IsAccepted g limit (before ++ event ∷ []) → ending ≡ Done → put ≡ bytes_by g before event → LabelsText g limit before number text ending put
+-- so, and these bytes are those of the entries
+pub record IsLabelledAs (g : Grammar) (limit : ℕ) (before : List Event) (text : List ℕ) (r : RunSeen) (bytes : List ℕ) : Type 0 where
+  pub event : Event
+  pub told : IsEventText text event
+  pub accepted : IsAccepted g limit (before ++ event ∷ [])
+  pub run : IsRunOf r (before ++ event ∷ [])
+  pub bytes_are : bytes ≡ bytes_by g before event
+
+-- a run is that of the events so far, of its grammar and with its limit
+pub record IsRunHeld (r : RunSeen) (s : RunSoFar) : Type 0 where
+  pub run : IsRunOf r s.events
+  pub grammar : s.grammar ≡ r.grammar.core
+  pub limit : s.limit ≡ r.most

@@ -2,28 +2,24 @@
 ghost use Rattle.std.specs.Prelude.{[]};
 ghost use Rattle.wf_message.specs.Endings.{end_after};
 ghost use Rattle.wf_stage.specs.Ends.{IsWritten};
-ghost use Rattle.wf_stage.specs.Stages.{Stage, TellsLines, RefusesNone};
 ghost use Rattle.wf_stage.specs.Promises.{Writes, Obeys};
-ghost use Rattle.wf_inputs.specs.Inputs.{events_kind, instance_most};
-ghost use Rattle.wf_inputs.specs.Viewed.{IsTaken};
-ghost use Rattle.cmd_ingest.specs.Ingested.{file_head, IngestsLines};
+ghost use Rattle.cmd_ingest.specs.Ingested.{file_head};
 ghost use Rattle.cmd_ingest.specs.Does.{Ingests};
 
-use crate::label_lines::label_lines;
+use crate::label_lines::label_events;
 use label_file::append_head;
 use std::alloc::Global;
-use wf_inputs::{EVENTS, Spec, spec_stage};
+use wf_inputs::{Spec, spec_stage};
 use wf_io::{Shelf, Sink};
 use wf_json::digest;
 use wf_message::Stop;
-use wf_spec::Grammar;
-use wf_stage::{put_text, read_file};
+use wf_stage::put_text;
 
-/// Puts the head of the label file of a grammar.
-fn put_head<O: Sink>(alloc: Global, g: &Grammar, out: &mut O) -> Result<(), Stop>
-    ensures writes { Writes O.put_bytes O.faults O.at_last [] (IsWritten (file_head g.now.core)) out.old out.new (end_after result) }
+/// Puts the head of the label file of a specification.
+fn put_head<O: Sink>(alloc: Global, spec: &Spec, out: &mut O) -> Result<(), Stop>
+    ensures writes { Writes O.put_bytes O.faults O.at_last [] (IsWritten (file_head spec.now.grammar.core)) out.old out.new (end_after result) }
 {
-    let Ok(digest) = digest(alloc, g) else {
+    let Ok(digest) = digest(alloc, spec.grammar()) else {
         return Err(Stop::NoMemory);
     };
     let mut head = Vec::new(alloc);
@@ -31,21 +27,6 @@ fn put_head<O: Sink>(alloc: Global, g: &Grammar, out: &mut O) -> Result<(), Stop
         return Err(Stop::NoMemory);
     };
     put_text(out, &head)
-}
-
-/// Labels the items that the lines of a file make, behind the head.
-fn label_events<H: Shelf, O: Sink>(
-    alloc: Global,
-    spec: &Spec,
-    name: &str,
-    shelf: &mut H,
-    out: &mut O,
-) -> Result<(), Stop>
-    requires spec { IsTaken spec.now }
-    ensures obeys { Obeys H.files H.faults H.at_last O.put_bytes O.faults O.at_last (file_head spec.now.grammar.core) (λ f. Stage events_kind (file_head spec.now.grammar.core) (f name.now) TellsLines RefusesNone (IngestsLines spec.now.grammar.core instance_most)) shelf.old shelf.new out.old out.new (end_after result) }
-{
-    let bytes = read_file(alloc, shelf, name, EVENTS)?;
-    label_lines(alloc, spec, &bytes, out)
 }
 
 /// Writes the label file of the run of EVENTS: the head once SPEC is accepted, and the entries of each line before the next line is taken.
@@ -59,6 +40,6 @@ pub fn ingest<H: Shelf, O: Sink>(
     ensures obeys { Obeys H.files H.faults H.at_last O.put_bytes O.faults O.at_last [] (λ f. Ingests (f spec_name.now) (f events_name.now)) shelf.old shelf.new out.old out.new (end_after result) }
 {
     let spec = spec_stage(alloc, shelf, spec_name)?;
-    put_head(alloc, &spec.grammar, out)?;
+    put_head(alloc, &spec, out)?;
     label_events(alloc, &spec, events_name, shelf, out)
 }

@@ -1,29 +1,31 @@
 // Lines of events, whose items are labelled and put line by line.
 ghost use Rattle.std.specs.Prelude.{◌≡◌, ◌++◌, ◌∷◌, [], List, map, flat_map, codes, IfErr, OnOk};
 ghost use Rattle.wf_model.specs.declared.event.Event.{Event};
-ghost use Rattle.wf_io.specs.Lines.{lines_of};
+ghost use Rattle.wf_io.specs.Told.{File};
+ghost use Rattle.wf_io.specs.Lines.{lines_in};
 ghost use Rattle.label_model.specs.Files.{entry_bytes};
 ghost use Rattle.wf_run.specs.Runs.{IsRunOf};
 ghost use Rattle.wf_labeller.specs.Entries.{entry_seen};
-ghost use Rattle.wf_message.specs.Endings.{end_of, end_after};
-ghost use Rattle.wf_stage.specs.Ends.{IsWritten};
-ghost use Rattle.wf_stage.specs.Stages.{AtLine, Declines};
-ghost use Rattle.wf_stage.specs.Promises.{Writes};
+ghost use Rattle.wf_message.specs.Endings.{End, end_of, end_after};
+ghost use Rattle.wf_stage.specs.LineEnds.{line_ends, told_end};
+ghost use Rattle.wf_stage.specs.Stages.{AtLine, Declines, IsRefusedOrWanting};
+ghost use Rattle.wf_stage.specs.Promises.{Obeys};
 ghost use Rattle.wf_inputs.specs.Inputs.{instance_most};
-ghost use Rattle.wf_inputs.specs.RunTold.{IsEventText, RefusesText};
-ghost use Rattle.wf_inputs.specs.Viewed.{IsTaken};
-ghost use Rattle.cmd_ingest.specs.Ingested.{IngestsLines, file_head};
-ghost use Rattle.cmd_ingest.specs.Labelled.{HaveRoom, IsTakenInto, LabelsText};
+ghost use Rattle.wf_inputs.specs.RunTold.{RefusesText, EventsStage};
+ghost use Rattle.wf_inputs.specs.RunTaking.{RunSoFar, TakesEvent, RefusesAt, MakesNothing, NeverStops, IsAnyRun};
+ghost use Rattle.cmd_ingest.specs.Ingested.{file_head, file_of, WritesFile};
+ghost use Rattle.cmd_ingest.specs.Labelled.{HaveRoom, IsTakenInto, IsLabelledAs, IsRunHeld, bytes_by};
 
 use bumpalo::Bump;
 use label_file::append_entry;
 use std::alloc::{AllocError, Global};
-use wf_inputs::{INSTANCES, Spec, event_of_line, event_stop, named, refused_event};
-use wf_io::{Sink, WholeLines};
+use wf_inputs::{EVENTS, INSTANCES, Spec, event_of_line, event_stop};
+use wf_io::{Lines, Shelf, Sink};
 use wf_labeller::{Entry, Labeller, Records};
+use wf_lines::{Due, Taker, take_lines};
 use wf_message::Stop;
 use wf_run::Run;
-use wf_stage::put_text;
+use wf_stage::stop_of;
 
 /// Appends entries as they stand in a label file. Fails only for want of memory.
 fn append_entries(entries: &[Entry], to: &mut Vec<u8>) -> Result<(), AllocError>
@@ -34,18 +36,6 @@ fn append_entries(entries: &[Entry], to: &mut Vec<u8>) -> Result<(), AllocError>
         append_entry(entry.name.items(), entry.label.items(), to)?;
     }
     Ok(())
-}
-
-/// Puts entries as one text, which is made whole before it is put, in place of what `text` held.
-fn put_entries<O: Sink>(records: &Records, text: &mut Vec<u8>, out: &mut O) -> Result<(), Stop>
-    requires { HaveRoom records.now }
-    ensures writes { Writes O.put_bytes O.faults O.at_last [] (IsWritten (flat_map entry_bytes records.now)) out.old out.new (end_after result) }
-{
-    text.clear();
-    let Ok(()) = append_entries(records.entries(), text) else {
-        return Err(Stop::NoMemory);
-    };
-    put_text(out, text)
 }
 
 /// Takes the event of a line, and gives the entries of the items that it makes.
@@ -68,52 +58,131 @@ fn take_event(
     }
 }
 
-/// Takes the event of a line, and puts the entries of the items that it makes, wherever the line comes from.
-fn label_line<O: Sink>(
+/// Takes the event of a line, and appends the entries of the items that it makes, wherever the line comes from.
+fn label_line(
     alloc: Global,
     labeller: &mut Labeller<'_>,
     number: u64,
     line: &[u8],
     text: &mut Vec<u8>,
-    out: &mut O,
 ) -> Result<(), Stop>
     requires run { (events : List Event) × IsRunOf labeller.old events }
-    ensures writes { (before : List Event) → IsRunOf labeller.old before → Writes O.put_bytes O.faults O.at_last [] (LabelsText labeller.old.grammar.core labeller.old.most before number line.now) out.old out.new (end_after result) }
-    ensures run { OnOk result ((before : List Event) (e : Event) → IsRunOf labeller.old before → IsEventText line.now e → IsRunOf labeller.new (before ++ e ∷ [])) }
+    requires none { text.old.items ≡ [] }
+    ensures labelled { OnOk result ((before : List Event) → IsRunOf labeller.old before → IsLabelledAs labeller.old.grammar.core labeller.old.most before line.now labeller.new text.new.items) }
     ensures grammar { OnOk result (labeller.new.grammar ≡ labeller.old.grammar) }
     ensures most { OnOk result (labeller.new.most ≡ labeller.old.most) }
+    ensures declines { IfErr result (λ d. (before : List Event) → IsRunOf labeller.old before → Declines (codes "events") (AtLine (RefusesText labeller.old.grammar.core labeller.old.most before) number line.now) (end_of d)) }
 {
     // Entries have room since the grammar is well-formed and strictly linear.
     let _formed = labeller.run().grammar().start();
     let mut records = Records::new(alloc);
-    take_event(alloc, labeller, number, line, &mut records)?;
-    put_entries(&records, text, out)
+    if let Err(stop) = take_event(alloc, labeller, number, line, &mut records) {
+        return Err(stop);
+    }
+    match append_entries(records.entries(), text) {
+        Ok(()) => Ok(()),
+        Err(_) => Err(Stop::NoMemory),
+    }
 }
 
-/// Takes the events of all lines, and puts the entries of the items of each line before the next is taken. The first line that is refused ends it, with its number and the fault.
+/// A run whose items are labelled, and the entries of the items of the last line, as they stand in a label file.
+#[derive(Drop)]
+struct Labelling<'r> {
+    alloc: Global,
+    labeller: Labeller<'r>,
+    text: Vec<u8>,
+}
+
+impl Taker for Labelling<'_> {
+    type Fault = Stop;
+
+    ghost State = { RunSoFar };
+
+    ghost End = { End };
+
+    ghost is_ready = { λ l. (events : List Event) × IsRunOf l.labeller events };
+
+    ghost is_at = { λ l. IsRunHeld l.labeller };
+
+    ghost is_sound = { IsAnyRun };
+
+    ghost takes = { TakesEvent bytes_by };
+
+    ghost stops = { RefusesAt };
+
+    ghost finishes = { MakesNothing };
+
+    ghost stops_at_end = { NeverStops };
+
+    ghost ends = { line_ends (codes "events") };
+
+    ghost end_of = { λ stop. told_end (end_of stop) };
+
+    ghost is_fault = { λ stop. IsRefusedOrWanting (end_of stop) };
+
+    ghost wants_memory = { Unit {0} };
+
+    ghost made = { λ l. l.text.items };
+
+    ghost Known = { Unit {0} };
+
+    ghost is_known = { λ l k. Unit {0} };
+
+    fn take(&mut self, number: u64, text: &[u8]) -> Result<(), Stop> {
+        self.text.clear();
+        match label_line(self.alloc, &mut self.labeller, number, text, &mut self.text) {
+            Ok(()) => Ok(()),
+            Err(stop) => {
+                self.text.clear();
+                Err(stop)
+            }
+        }
+    }
+
+    fn finish(&mut self) -> Result<(), Stop> {
+        self.text.clear();
+        Ok(())
+    }
+
+    fn made(&self) -> &[u8] {
+        &self.text
+    }
+}
+
+/// Labels the items that the lines of EVENTS make, and puts their entries behind the head. The first line that is refused ends it, with its number and the fault.
 ///
-/// Cost: linear in the bytes of the lines and of the entries. The entries of one line are held at a time, beside the run.
-pub fn label_lines<O: Sink>(
+/// Cost: linear in the bytes of the lines and of the entries. Takes memory for the run, and for one line and its entries.
+pub fn label_events<H: Shelf, O: Sink>(
     alloc: Global,
     spec: &Spec,
-    bytes: &[u8],
+    name: &str,
+    shelf: &mut H,
     out: &mut O,
 ) -> Result<(), Stop>
-    requires spec { IsTaken spec.now }
-    ensures writes { Writes O.put_bytes O.faults O.at_last (file_head spec.now.grammar.core) (IngestsLines spec.now.grammar.core instance_most (lines_of bytes.now)) out.old out.new (end_after result) }
+    ensures obeys { Obeys H.files H.faults H.at_last O.put_bytes O.faults O.at_last (file_head spec.now.grammar.core) (λ f. EventsStage spec.now.grammar.core instance_most (lines_in (f name.now)) (file_of spec.now.grammar.core) (WritesFile spec.now.grammar.core)) shelf.old shelf.new out.old out.new (end_after result) }
 {
+    let Ok(mut lines) = Lines::open(alloc, name) else {
+        return Err(Stop::NoMemory);
+    };
+    let Ok(mut due) = Due::new(alloc) else {
+        return Err(Stop::NoMemory);
+    };
     let arena = Bump::new(alloc);
-    let run = Run::new(alloc, &arena, &spec.grammar, &spec.cycles, INSTANCES);
-    let mut labeller = Labeller::new(alloc, run);
-    let mut text = Vec::new(alloc);
-    let mut lines = WholeLines::open(bytes);
-    loop {
-        let Ok(next) = lines.next() else {
-            return Err(refused_event(lines.line(), named(b"LineTooLong")));
-        };
-        let Some(line) = next else {
-            return Ok(());
-        };
-        label_line(alloc, &mut labeller, lines.line(), line, &mut text, out)?;
+    let run = Run::with_key(
+        alloc,
+        shelf.hash_key(),
+        &arena,
+        spec.grammar(),
+        spec.cycles(),
+        INSTANCES,
+    );
+    let mut labelling = Labelling {
+        alloc,
+        labeller: Labeller::new(alloc, run),
+        text: Vec::new(alloc),
+    };
+    match take_lines(&mut labelling, &mut lines, &mut due, shelf, out) {
+        Ok(_) => Ok(()),
+        Err(fault) => Err(stop_of(EVENTS, fault)),
     }
 }

@@ -1,4 +1,7 @@
 pub mod Queries
-pub mod Answering
+pub mod AnsweredLines
 pub mod Entries
-pub mod OneEnding
+pub mod PutAnswers
+pub mod Opening
+pub mod Faults
+pub mod Lent

@@ -1,16 +1,23 @@
 -- Lines of queries, answered one by one.
-use Rattle.std.specs.Prelude.{◌≡◌, ◌⊎◌, ◌≤◌, ℕ, Bool, true, false, List, [], ◌∷◌, ◌++◌, take, Option, Some, None, Result, Ok, Err, codes}
+use Rattle.std.specs.Prelude.{◌≡◌, ℕ, Bool, List, [], ◌++◌, take, Option, Some, None, Result, Ok, Err, codes}
 use Rattle.wf_io.specs.Told.{Rose, Appended}
-use Rattle.wf_io.specs.Lines.{Line, is_too_long, text_of}
+use Rattle.wf_io.specs.Lines.{FileLines}
+use Rattle.wf_lines.specs.LineStages.{LineEnds, OfLines}
 use Rattle.wf_query.specs.Line.{IsQuery, IsNoQuery}
 use Rattle.wf_query.specs.declared.batching.BatchFault.{BatchFault}
-use Rattle.wf_query.specs.declared.batching.BatchFault.TheVariants.{LineWrong, LineTooLong, WriteFault, NoMemory}
+use Rattle.wf_query.specs.declared.batching.BatchFault.TheVariants.{LineWrong, LineTooLong, FileTooLong, ReadFault, WriteFault, NoMemory}
 
--- how lines of queries end: all are answered; or the line of a number asks nothing, or is too long
+-- how lines of queries end: all are answered, and the file is whole; the line of a number asks nothing, or is too long; the file goes on past the most bytes that are read of it, in the line of a number; or the file is broken
 pub data Ended : Type 0 where
   All : Ended
   WrongAt : ℕ → Ended
   TooLongAt : ℕ → Ended
+  LongFileAt : ℕ → Ended
+  BrokenFile : Ended
+
+-- the ends that lines of queries come to whatever answers them
+abbrev pub query_ends : LineEnds Ended
+query_ends = record { too_long = TooLongAt; long_file = LongFileAt; broken = BrokenFile }
 
 -- a relation between two names and the word that answers them has one word at most
 abbrev pub IsOneWord : (List ℕ → List ℕ → List ℕ → Type 0) → Type 0
@@ -25,27 +32,28 @@ pub record IsAsked (Answers : List ℕ → List ℕ → List ℕ → Type 0) (te
   pub is : Answers first second answer
   pub line : written ≡ answer ++ codes "\n"
 
--- a line is not too long and asks, and this is written of it
-abbrev pub IsAnsweredLine : (List ℕ → List ℕ → List ℕ → Type 0) → Line → List ℕ → Type 0
-IsAnsweredLine Answers l written = (is_too_long l.raw ≡ false) × IsAsked Answers (text_of l.raw) written
+-- the text of a query is answered by what is known, and what is known stays
+abbrev pub TakesQuery : {K : Type 0} → (K → List ℕ → List ℕ → List ℕ → Type 0) → K → List ℕ → K → List ℕ → Type 0
+TakesQuery Words k text q written = (q ≡ k) × IsAsked (Words k) text written
 
--- why a line is not answered: it is too long; or it is not, and asks nothing
-abbrev pub IsRefusedLine : Line → Ended → Type 0
-IsRefusedLine l ending =
-    ((is_too_long l.raw ≡ true) × (ending ≡ TooLongAt l.number)) ⊎
-    ((is_too_long l.raw ≡ false) × IsNoQuery (text_of l.raw) × (ending ≡ WrongAt l.number))
+-- the text of the line of a number asks nothing
+abbrev pub StopsQueries : {K : Type 0} → K → ℕ → List ℕ → Ended → List ℕ → Type 0
+StopsQueries k number text ending written = IsNoQuery text × (ending ≡ WrongAt number) × (written ≡ [])
 
--- Lines of queries are answered one by one, up to the first that is too long or asks nothing
-abbrev pub AreAnswered : (List ℕ → List ℕ → List ℕ → Type 0) → List Line → Ended → List ℕ → Type 0
-AreAnswered Answers [] ending text = (ending ≡ All) × (text ≡ [])
-AreAnswered Answers (l ∷ ls) ending text =
-    (IsRefusedLine l ending × (text ≡ [])) ⊎
-    ((written : List ℕ) × (rest : List ℕ) × IsAnsweredLine Answers l written × (text ≡ written ++ rest) × AreAnswered Answers ls ending rest)
+-- all lines of a whole file are answered
+abbrev pub EndsQueries : {K : Type 0} → K → Ended → List ℕ → Type 0
+EndsQueries k ending text = (ending ≡ All) × (text ≡ [])
+
+-- Lines of queries are answered one by one, up to the first that is too long or asks nothing, or to the end of the file
+abbrev pub AreAnswered : (List ℕ → List ℕ → List ℕ → Type 0) → FileLines → Ended → List ℕ → Type 0
+AreAnswered Answers file ending text = OfLines query_ends (TakesQuery {K = Unit {0}} (λ k. Answers)) StopsQueries EndsQueries tt file.lines file.tail ending text
 
 -- how the lines ended, where a fault ended them; a fault of writing and want of memory tell nothing of them
 abbrev pub ended_at : BatchFault → Option Ended
 ended_at (LineWrong line) = Some (WrongAt line)
 ended_at (LineTooLong line) = Some (TooLongAt line)
+ended_at (FileTooLong line) = Some (LongFileAt line)
+ended_at ReadFault = Some BrokenFile
 ended_at WriteFault = None
 ended_at NoMemory = None
 
@@ -54,21 +62,16 @@ abbrev pub ended_by : {N : Type 0} → Result N BatchFault → Option Ended
 ended_by (Ok n) = Some All
 ended_by (Err fault) = ended_at fault
 
--- What was put of the answers to lines: all of them, up to where the lines ended; and whatever ended them, a beginning of the answers
-pub record ArePut (Answers : List ℕ → List ℕ → List ℕ → Type 0) (lines : List Line) (ending : Option Ended) (old new : Option (List ℕ)) : Type 0 where
-  pub whole : (e : Ended) → ending ≡ Some e → (text : List ℕ) × AreAnswered Answers lines e text × Appended text old new
-  pub begun : (e : Ended) (text : List ℕ) → AreAnswered Answers lines e text → (k : ℕ) × Appended (take k text) old new
+-- What was put of the answers to the lines of a file: all of them, up to where the lines ended; and whatever ended them, a beginning of the answers
+pub record ArePut (Answers : List ℕ → List ℕ → List ℕ → Type 0) (file : FileLines) (ending : Option Ended) (old new : Option (List ℕ)) : Type 0 where
+  pub whole : (e : Ended) → ending ≡ Some e → (text : List ℕ) × AreAnswered Answers file e text × Appended text old new
+  pub begun : (e : Ended) (text : List ℕ) → AreAnswered Answers file e text → (k : ℕ) × Appended (take k text) old new
 
--- why the line of a number ends the lines: its text asks nothing, its answer was put in part, or memory was wanting before it was put
-abbrev pub EndsAt : (List ℕ → List ℕ → List ℕ → Type 0) → ℕ → List ℕ → BatchFault → Option (List ℕ) → Option (List ℕ) → Type 0
-EndsAt Answers number text (LineWrong line) old new = (line ≡ number) × IsNoQuery text × (new ≡ old)
-EndsAt Answers number text (LineTooLong line) old new = ⊥
-EndsAt Answers number text WriteFault old new = (written : List ℕ) × IsAsked Answers text written × ((k : ℕ) × Appended (take k written) old new)
-EndsAt Answers number text NoMemory old new = new ≡ old
-
--- what must be so at a fault of lines, by the counts of faults of out before and after: a fault of writing comes only where the count rose, and at every other fault the count is as it was
-abbrev pub IsCauseOf : ℕ → ℕ → Bool → BatchFault → Type 0
-IsCauseOf before after last (LineWrong line) = after ≡ before
-IsCauseOf before after last (LineTooLong line) = after ≡ before
-IsCauseOf before after last WriteFault = Rose before after last × (before ≤ after)
-IsCauseOf before after last NoMemory = after ≡ before
+-- what must be so where lines ended, by the counts of faults of the shelf and of out before and after: a fault of reading comes only where the shelf's count rose, and one of writing only where that of out rose. Each count that did not bring the end is as it was
+abbrev pub IsCauseOf : ℕ → ℕ → Bool → ℕ → ℕ → Bool → BatchFault → Type 0
+IsCauseOf before after last out_before out_after out_last (LineWrong line) = (after ≡ before) × (out_after ≡ out_before)
+IsCauseOf before after last out_before out_after out_last (LineTooLong line) = (after ≡ before) × (out_after ≡ out_before)
+IsCauseOf before after last out_before out_after out_last (FileTooLong line) = (after ≡ before) × (out_after ≡ out_before)
+IsCauseOf before after last out_before out_after out_last ReadFault = Rose before after last × (out_after ≡ out_before)
+IsCauseOf before after last out_before out_after out_last WriteFault = (after ≡ before) × Rose out_before out_after out_last
+IsCauseOf before after last out_before out_after out_last NoMemory = (after ≡ before) × (out_after ≡ out_before)

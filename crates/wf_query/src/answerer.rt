@@ -11,24 +11,23 @@ pub trait Answerer {
     /// Whether it is as each answer needs it.
     ghost is_ready: { Self → Type 0 };
 
-    /// What may be known of it.
+    /// What may be known of it. What is known stays known, whatever it answers.
     ghost Known: { Type 0 };
 
     /// Whether this is known of it.
     ghost is_known: { Self → Known → Type 0 };
 
     /// Whether a word answers two names, by what is known.
-    ghost words: { Self → Known → List ℕ → List ℕ → List ℕ → Type 0 };
+    ghost words: { Known → List ℕ → List ℕ → List ℕ → Type 0 };
 
     /// Whether an answer may want memory.
     ghost wants_memory: { Type 0 };
 
-    /// Answers a query. What was known stays known, and no other word answers two names than before.
+    /// Answers a query.
     fn answer(&mut self, query: &Query<'_>) -> Result<Answer, AllocError>
         requires { is_ready self.old }
         ensures ready { is_ready self.new }
-        ensures answer { IfOk result (λ a. (k : Known) → is_known self.old k → words self.old k query.now.first.now query.now.second.now (answer_text a)) }
+        ensures answer { IfOk result (λ a. (k : Known) → is_known self.old k → words k query.now.first.now query.now.second.now (answer_text a)) }
         ensures memory { IsErr result → wants_memory }
-        ensures known { (k : Known) → is_known self.old k → is_known self.new k }
-        ensures words { (k : Known) (first second word : List ℕ) → words self.new k first second word → words self.old k first second word };
+        ensures known { (k : Known) → is_known self.old k → is_known self.new k };
 }

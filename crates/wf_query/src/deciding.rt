@@ -29,7 +29,8 @@ pub fn answer<L: Ledger>(
 ) -> Answer
     requires store { IsStoreFor vl.now.grammar store.now }
     requires room { most_legs vl.now.grammar ≤ scratch.old }
-    ensures answer { (u : View) (entries : List Entry) → IsLabelOfView vl.now u → AreHeldOf vl.now.grammar entries store.now → IsAnswerOfLabels vl.now.grammar u entries query.now.first.now query.now.second.now result }
+    ensures answer { (u : View) (entries : List Entry) → IsLabelOfView vl.now u → AreHeldOf vl.now.grammar entries store.now
+        → IsAnswerOfLabels vl.now.grammar u entries query.now.first.now query.now.second.now result }
     ensures room { scratch.new ≡ scratch.old }
     ensures cost { (l : ℕ) → ((k : ℕ) → length (round_at vl.now.cycles k) ≤ l) → steps.new ≤ steps.old + most_products vl.now.grammar l }
 {

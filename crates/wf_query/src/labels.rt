@@ -1,79 +1,88 @@
 // Answers from the entries of a label file.
-ghost use Rattle.std.specs.Prelude.{◌≡◌, ◌≢◌, ◌<◌, ◌≤◌, List, length, IfOk, IfErr, OnOk};
+ghost use Rattle.std.specs.Prelude.{◌≡◌, ◌≢◌, ◌<◌, ◌≤◌, ℕ, true, List, [], Some, length, IfOk, IfErr, OnOk};
 ghost use Rattle.wf_model.specs.View.{View};
 ghost use Rattle.label_model.specs.Files.{Entry};
-ghost use Rattle.wf_io.specs.Lines.{lines_of};
+ghost use Rattle.wf_io.specs.Told.{File};
+ghost use Rattle.wf_io.specs.Lines.{lines_in};
+ghost use Rattle.wf_io.specs.Readers.{Stands, left_in};
 ghost use Rattle.label_file.specs.Stored.{AreHeldOf, IsStoreFor};
 ghost use Rattle.wf_vlabel.specs.Seen.{IsLabelOfView};
 ghost use Rattle.wf_decode.specs.Reading.{most_legs};
 ghost use Rattle.wf_query.specs.Answers.{IsAnswerText};
-ghost use Rattle.wf_query.specs.Known.{ViewAndEntries};
+ghost use Rattle.wf_query.specs.Known.{IsWordOfLabels, LabelsKnown};
 ghost use Rattle.wf_query.specs.Lines.{ArePut, IsCauseOf, ended_by};
 
 use crate::answerer::Answerer;
 use crate::answers::Answer;
-use crate::batching::{BatchFault, answer_lines};
+use crate::batching::{BatchFault, answer_left};
 use crate::deciding::answer;
 use crate::query::Query;
 use bool_mat::Steps;
 use label_file::Store;
-use std::alloc::AllocError;
+use std::alloc::{AllocError, Global};
 use std::marker::Brand;
 use std::sync::ledger::{Blank, Ledger};
 use wf_decode::Scratch;
-use wf_io::Sink;
+use wf_io::{Lines, Shelf, Sink};
+use wf_lines::Due;
 use wf_vlabel::ViewLabel;
 
 /// The entries of a label file with the label of a view, room for decisions, and a count of their row products.
-#[derive(Drop)]
 struct Labels<'q, 'b, 'g, L: Ledger> {
     store: &'q Store<'b>,
     label: &'q ViewLabel<'g>,
-    scratch: Scratch,
+    scratch: &'q mut Scratch,
     steps: Steps<L>,
 }
 
 impl<L: Ledger> Answerer for Labels<'_, '_, '_, L> {
-    ghost is_ready = { λ s. IsStoreFor s.label.now.grammar s.store.now × (most_legs s.label.now.grammar ≤ s.scratch) };
+    ghost is_ready = { λ s. IsStoreFor s.label.now.grammar s.store.now × (most_legs s.label.now.grammar ≤ s.scratch.now) };
 
-    ghost Known = { ViewAndEntries };
+    ghost Known = { LabelsKnown };
 
-    ghost is_known = { λ s k. IsLabelOfView s.label.now k.view × AreHeldOf s.label.now.grammar k.entries s.store.now };
+    ghost is_known = { λ s k. (s.label.now ≡ k.label) × (s.store.now ≡ k.held) × (s.scratch.ghost_name ≡ k.place) × (s.scratch.now ≡ k.room) };
 
-    ghost words = { λ s k. IsAnswerText s.label.now.grammar k.view k.entries };
+    ghost words = { IsWordOfLabels };
 
     ghost wants_memory = { ⊥ };
 
     fn answer(&mut self, query: &Query<'_>) -> Result<Answer, AllocError> {
-        Ok(answer(
-            self.store,
-            self.label,
-            &mut self.scratch,
-            query,
-            &mut self.steps,
-        ))
+        Ok(answer(self.store, self.label, self.scratch, query, &mut self.steps))
     }
 }
 
-/// Answers all lines, with a counter of row products of its own.
-fn batch_counted<L: Ledger, O: Sink>(
+/// Answers the queries of the lines that are left of a file, with a counter of row products of its own.
+fn batch_counted<L: Ledger, H: Shelf, O: Sink>(
     blank: Blank,
-    bytes: &[u8],
+    lines: &mut Lines<'_>,
+    due: &mut Due,
+    shelf: &mut H,
     store: &Store<'_>,
     vl: &ViewLabel<'_>,
-    scratch: Scratch,
+    scratch: &mut Scratch,
     out: &mut O,
 ) -> Result<u64, BatchFault>
     requires name { blank.name ≡ L.name }
     requires parts { blank.parts ≡ L.parts }
     requires some { 0 < blank.parts }
+    requires live { lines.old.live ≡ true }
+    requires none { due.old ≡ [] }
     requires store { IsStoreFor vl.now.grammar store.now }
-    requires room { most_legs vl.now.grammar ≤ scratch }
-    ensures put { (u : View) (entries : List Entry) → IsLabelOfView vl.now u → AreHeldOf vl.now.grammar entries store.now → ArePut (IsAnswerText vl.now.grammar u entries) (lines_of bytes.now) (ended_by result) (O.put_bytes out.old) (O.put_bytes out.new) }
-    ensures memory { IfErr result (λ f. f ≢ BatchFault.NoMemory) }
-    ensures count { IfOk result (λ n. n ≡ length (lines_of bytes.now)) }
-    ensures same { OnOk result (O.faults out.new ≡ O.faults out.old) }
-    ensures cause { IfErr result (IsCauseOf (O.faults out.old) (O.faults out.new) (O.at_last out.new)) }
+    requires room { most_legs vl.now.grammar ≤ scratch.old }
+    ensures put { (f : List ℕ → File) → H.files shelf.old ≡ Some f → Stands (f lines.old.name) lines.old
+        → (u : View) (entries : List Entry) → IsLabelOfView vl.now u → AreHeldOf vl.now.grammar entries store.now
+        → ArePut (IsAnswerText vl.now.grammar u entries) (left_in (f lines.old.name) lines.old) (ended_by result) (O.put_bytes out.old) (O.put_bytes out.new) }
+    ensures count { IfOk result (λ n. (f : List ℕ → File) → H.files shelf.old ≡ Some f → Stands (f lines.old.name) lines.old
+        → n ≡ length (left_in (f lines.old.name) lines.old).lines) }
+    ensures memory { IfErr result (λ fault. fault ≢ BatchFault.NoMemory) }
+    ensures room { scratch.new ≡ scratch.old }
+    ensures files { H.files shelf.new ≡ H.files shelf.old }
+    ensures later { H.faults shelf.old ≤ H.faults shelf.new }
+    ensures put_later { O.faults out.old ≤ O.faults out.new }
+    ensures same { OnOk result (H.faults shelf.new ≡ H.faults shelf.old) }
+    ensures put_same { OnOk result (O.faults out.new ≡ O.faults out.old) }
+    ensures cause { IfErr result (IsCauseOf (H.faults shelf.old) (H.faults shelf.new) (H.at_last shelf.new)
+        (O.faults out.old) (O.faults out.new) (O.at_last out.new)) }
 {
     let mut labels = Labels {
         store,
@@ -81,26 +90,62 @@ fn batch_counted<L: Ledger, O: Sink>(
         scratch,
         steps: Steps::<L>::new(blank),
     };
-    answer_lines(&mut labels, bytes, out)
+    let answered = answer_left(&mut labels, lines, due, shelf, out);
+    // What was lent is given back, so that its value is known.
+    let Labels {
+        store: _,
+        label: _,
+        scratch: lent,
+        steps: _,
+    } = labels;
+    let _ = lent;
+    answered
 }
 
-/// Answers the queries of all lines of a file, from the entries of a label file and the label of a view, and gives their number. Each answer is put before the next line is taken.
+/// Answers the queries of all lines of the file `name`, from the entries of a label file and the label of a view, and gives their number. The answers that are due are put before each read of the file, before a refusal, and at the end.
 ///
-/// Cost: linear in the bytes, and that of `answer` for each line. Takes no memory.
-pub fn batch<O: Sink>(
-    bytes: &[u8],
+/// Memory is taken before the first read alone, so it is not wanting once an answer was put.
+///
+/// Cost: linear in the bytes of the file, and that of `answer` for each line.
+pub fn batch<H: Shelf, O: Sink>(
+    alloc: Global,
+    shelf: &mut H,
+    name: &str,
     store: &Store<'_>,
     vl: &ViewLabel<'_>,
-    scratch: Scratch,
+    scratch: &mut Scratch,
     out: &mut O,
 ) -> Result<u64, BatchFault>
     requires store { IsStoreFor vl.now.grammar store.now }
-    requires room { most_legs vl.now.grammar ≤ scratch }
-    ensures put { (u : View) (entries : List Entry) → IsLabelOfView vl.now u → AreHeldOf vl.now.grammar entries store.now → ArePut (IsAnswerText vl.now.grammar u entries) (lines_of bytes.now) (ended_by result) (O.put_bytes out.old) (O.put_bytes out.new) }
-    ensures memory { IfErr result (λ f. f ≢ BatchFault.NoMemory) }
-    ensures count { IfOk result (λ n. n ≡ length (lines_of bytes.now)) }
-    ensures same { OnOk result (O.faults out.new ≡ O.faults out.old) }
-    ensures cause { IfErr result (IsCauseOf (O.faults out.old) (O.faults out.new) (O.at_last out.new)) }
+    requires room { most_legs vl.now.grammar ≤ scratch.old }
+    ensures put { (f : List ℕ → File) → H.files shelf.old ≡ Some f
+        → (u : View) (entries : List Entry) → IsLabelOfView vl.now u → AreHeldOf vl.now.grammar entries store.now
+        → ArePut (IsAnswerText vl.now.grammar u entries) (lines_in (f name.now)) (ended_by result) (O.put_bytes out.old) (O.put_bytes out.new) }
+    ensures count { IfOk result (λ n. (f : List ℕ → File) → H.files shelf.old ≡ Some f → n ≡ length (lines_in (f name.now)).lines) }
+    ensures untouched { IfErr result (λ fault. fault ≡ BatchFault.NoMemory → O.put_bytes out.new ≡ O.put_bytes out.old) }
+    ensures room { scratch.new ≡ scratch.old }
+    ensures files { H.files shelf.new ≡ H.files shelf.old }
+    ensures later { H.faults shelf.old ≤ H.faults shelf.new }
+    ensures put_later { O.faults out.old ≤ O.faults out.new }
+    ensures same { OnOk result (H.faults shelf.new ≡ H.faults shelf.old) }
+    ensures put_same { OnOk result (O.faults out.new ≡ O.faults out.old) }
+    ensures cause { IfErr result (IsCauseOf (H.faults shelf.old) (H.faults shelf.new) (H.at_last shelf.new)
+        (O.faults out.old) (O.faults out.new) (O.at_last out.new)) }
 {
-    batch_counted::<Brand, O>(Blank::new(1), bytes, store, vl, scratch, out)
+    let Ok(mut lines) = Lines::open(alloc, name) else {
+        return Err(BatchFault::NoMemory);
+    };
+    let Ok(mut due) = Due::new(alloc) else {
+        return Err(BatchFault::NoMemory);
+    };
+    batch_counted::<Brand, H, O>(
+        Blank::new(1),
+        &mut lines,
+        &mut due,
+        shelf,
+        store,
+        vl,
+        scratch,
+        out,
+    )
 }

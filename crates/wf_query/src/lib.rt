@@ -2,6 +2,7 @@
 #![tactic(auto)]
 
 mod answerer;
+mod answering;
 mod answers;
 mod batching;
 mod deciding;

@@ -1,11 +1,14 @@
-use Rattle.std.proofs.Common.{List, refl}
-use Rattle.std.specs.Prelude.{Result, Ok, Err}
+use Rattle.std.proofs.Common.{List, refl, subst}
+use Rattle.std.specs.Prelude.{Result, Ok, Err, codes}
 use Rattle.std.proofs.lemmas.Result.{err_from_is_err_and}
 use Rattle.label_model.specs.Files.{Entry}
+use Rattle.label_file.specs.Stored.{AreHeldOf}
+use Rattle.wf_message.specs.Endings.{end_of}
 use Rattle.wf_message.specs.declared.ending.Stop.{Stop}
-use Rattle.wf_stage.specs.Stages.{OfWhole}
+use Rattle.wf_stage.specs.Stages.{Declines, OfWhole}
 use Rattle.wf_stage.proofs.Obeying.{obeys_passed}
 use Rattle.wf_stage.proofs.Reading.{reads_on, reads_stop}
+use Rattle.wf_inputs.specs.Viewed.{SpecSeen}
 use Rattle.wf_inputs.specs.LabelsTold.{TellsEntries, RefusesLabels}
 use Rattle.wf_inputs.proofs.Taking.{labels_stop, labels_go}
 use Rattle.cmd_ask.proofs.LabelsHeld.{store_for}
@@ -25,16 +28,17 @@ returns-in_err-store-clause-obeys g c =
     let d = c.in_err-store.field-0.0 in
     let none : Result (List Entry) Stop = Err d in
     obeys_passed _ _ _ _ _ _ c.from_residual-in_err-store.result d (err_from_is_err_and c.from_residual-in_err-store.result c.from_residual-in_err-store.ensures.1)
-    (labels_stop h _ _ _ _ _ (reads_on g.H.Shelf.at_last (TellsEntries h) (λ es. es) (OfWhole (RefusesLabels h)) _ _ _ c.deref.result.now c.in_ok-bytes.ensures.reads c.deref.ensures.value none tt c.in_err-store.ensures.declines))
+    (labels_stop h _ _ _ _ _ (reads_on g.H.Shelf.at_last (TellsEntries h) (λ es. es) (OfWhole (RefusesLabels h)) _ _ _ c.deref.result.now c.in_ok-bytes.ensures.reads c.deref.ensures.value none tt
+    (subst (λ (s : SpecSeen). Declines (codes "labels") (OfWhole (RefusesLabels s.grammar.core) c.deref.result.now) (end_of d)) c.spec.ensures.spec c.in_err-store.ensures.declines)))
 
-pub answer_queries-requires-clause-store : goal.answer_queries-requires-clause-store
-answer_queries-requires-clause-store g c =
-    let s = c.in_ok-store.ensures.store in
-    store_for c.args.v.now.spec.grammar.core c.deref.result.now s.0 c.in_ok-store.store s.1 s.2
+pub answer_queries-requires : goal.answer_queries-requires
+answer_queries-requires g c =
+    let s = subst (λ (s : SpecSeen). (entries : List Entry) × TellsEntries s.grammar.core c.deref.result.now entries × AreHeldOf s.grammar.core entries c.in_ok-store.store) c.spec.ensures.spec c.in_ok-store.ensures.store in
+    record { store = store_for c.args.v.now.spec.grammar.core c.deref.result.now s.0 c.in_ok-store.store s.1 s.2 }
 
 pub returns-clause-obeys : goal.returns-clause-obeys
 returns-clause-obeys g c =
     let h = c.args.v.now.spec.grammar.core in
-    let s = c.in_ok-store.ensures.store in
+    let s = subst (λ (s : SpecSeen). (entries : List Entry) × TellsEntries s.grammar.core c.deref.result.now entries × AreHeldOf s.grammar.core entries c.in_ok-store.store) c.spec.ensures.spec c.in_ok-store.ensures.store in
     let all : Result (List Entry) Stop = Ok s.0 in
     labels_go h _ _ _ _ _ _ _ s.0 (reads_on g.H.Shelf.at_last (TellsEntries h) (λ es. es) (OfWhole (RefusesLabels h)) _ _ _ c.deref.result.now c.in_ok-bytes.ensures.reads c.deref.ensures.value all s.1 tt) (c.answer_queries.ensures.obeys s.0 s.2)

@@ -1,23 +1,32 @@
-use Rattle.std.proofs.Common.{List, Option, ap, ◌∙◌}
+use Rattle.std.proofs.Common.{List, Option, sym, ap, subst, ◌∙◌}
 use Rattle.std.specs.Prelude.{ℕ}
 use Rattle.wf_model.specs.Links.{links_with}
 use Rattle.wf_model.specs.Meaning.{pairs_of}
-use Rattle.wf_flat.specs.Table.{events_of}
+use Rattle.wf_spec.specs.Held.{HeldGrammar}
+use Rattle.wf_view.specs.Held.{HeldView}
+use Rattle.wf_flat.specs.Graph.{Marks}
+use Rattle.wf_flat.specs.Table.{IsTableOf, events_of}
+use Rattle.wf_inputs.specs.Viewed.{IsViewedBy}
+use Rattle.cmd_ask.specs.Prepared.{IsPrepared}
 use Rattle.cmd_ask.proofs.trace.prepare.Goals as goal
 
-pub returns-clause-ready : goal.returns-clause-ready
-returns-clause-ready c =
+pub invariant_of-result : goal.invariant_of-result
+invariant_of-result c =
     let v = c.args.v.now in
-    let e = events_of c.args.run.now in
-    record {
-      formed = c.requires.viewed.viewed.formed;
-      proper = c.requires.viewed.viewed.proper;
-      composites = c.requires.viewed.viewed.held.is_view.expanded;
-      run = c.requires.run;
+    let g = c.grammar.result.now.core in
+    let same = c.grammar.ensures.grammar in
+    let taken = subst (λ (h : HeldGrammar). IsViewedBy h.core v.view v.full) (sym same) c.grammar.ensures.taken.viewed in
+    let marks = subst (λ (u : HeldView). Marks c.marks.result.now u.core) c.view.ensures.view c.marks.ensures in
+    subst (λ (h : HeldGrammar). IsPrepared h.core v.view.core c.args.run.now c.in_ok-flat.flat) same
+    (record {
+      formed = taken.formed;
+      proper = taken.proper;
+      composites = taken.held.is_view.expanded;
+      run = subst (λ (h : HeldGrammar). IsTableOf h.core c.args.run.now) (sym same) c.requires.run;
       full = pairs_of v.full;
-      induced = c.requires.viewed.viewed.full.induced;
-      links = c.in_ok-flat.ensures.links v.view.core c.marks.ensures
-          ∙ ap (λ (rows : List (Option (List ℕ))). links_with v.spec.grammar.core v.view.core (pairs_of rows) v.spec.grammar.core.start e) c.deps.ensures;
+      induced = taken.full.induced;
+      links = c.in_ok-flat.ensures.links v.view.core marks
+          ∙ ap (λ (rows : List (Option (List ℕ))). links_with g v.view.core (pairs_of rows) g.start (events_of c.args.run.now)) (c.deps.ensures ∙ c.full.ensures.full);
       within = c.in_ok-flat.ensures.within;
-      opens = c.in_ok-flat.ensures.opens v.view.core c.marks.ensures;
-    }
+      opens = c.in_ok-flat.ensures.opens v.view.core marks;
+    })

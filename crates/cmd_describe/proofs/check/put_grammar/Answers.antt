@@ -16,8 +16,9 @@ pub returns : goal.returns
 returns g c = record {
   writes =
       let s = c.args.spec.now in
+      let t = c.grammar-taken.ensures.taken in
       let is = c.deref.ensures.value ∙ c.in-Ok.ensures in
       writes_alike [] (IsWritten c.deref.result.now) (IsChecked s.grammar.core)
-      (text_told s.grammar.core c.requires.spec.linear s.ranking s.cycles c.deref.result.now c.requires.spec.ranked c.requires.spec.cycled is)
-      (this_text s.grammar.core c.requires.spec.linear s.ranking s.cycles c.deref.result.now c.requires.spec.ranked c.requires.spec.cycled is) _ _ _ c.put_text.ensures.writes;
+      (text_told s.grammar.core t.linear s.ranking s.cycles c.deref.result.now t.ranked t.cycled is)
+      (this_text s.grammar.core t.linear s.ranking s.cycles c.deref.result.now t.ranked t.cycled is) _ _ _ c.put_text.ensures.writes;
 }
