@@ -1,44 +1,56 @@
 -- What `ingest` writes of more events begins with what it writes of fewer.
-use Rattle.std.proofs.Common.{◌≡◌, ℕ, ◌≤◌, false, List, [], ◌++◌, length, sym, ap, ◌∙◌, subst}
+use Rattle.std.proofs.Common.{◌≡◌, ℕ, List, [], ◌++◌, sym, ap, ◌∙◌, subst, append-nil, append_assoc}
+use Rattle.std.specs.Prelude.{codes}
+use Rattle.std.proofs.lemmas.List.{append_cancel_left}
 use Rattle.wf_model.specs.Grammar.{Grammar}
 use Rattle.wf_io.specs.Told.{File}
-use Rattle.wf_io.specs.Lines.{lines_of}
+use Rattle.wf_io.specs.Lines.{FileLines, lines_in}
+use Rattle.wf_lines.proofs.Growing.{GoOnFrom, lines_grow}
 use Rattle.wf_message.specs.Endings.{End}
-use Rattle.wf_stage.specs.Stages.{Stage, OfWhole, TellsLines, RefusesNone}
+use Rattle.wf_stage.specs.LineEnds.{line_ends}
+use Rattle.wf_stage.specs.Stages.{OfWhole, too_long, broken, refused, goes_on}
 use Rattle.wf_stage.proofs.TwoStages.{stage_goes_on}
-use Rattle.wf_inputs.specs.Inputs.{spec_kind, events_kind, instance_most}
+use Rattle.wf_inputs.specs.Inputs.{spec_kind, instance_most}
 use Rattle.wf_inputs.specs.Specification.{TellsGrammar, RefusesSpec}
+use Rattle.wf_inputs.specs.RunTold.{EventsStage}
+use Rattle.wf_inputs.specs.RunTaking.{RunSoFar, TakesEvent, RefusesAt, IsAnyRun}
 use Rattle.wf_inputs.proofs.OneValue.{one_grammar}
 use Rattle.wf_inputs.proofs.OneFault.{no_refusal}
-use Rattle.cmd_ingest.specs.Ingested.{IngestsLines, file_head}
+use Rattle.wf_inputs.proofs.EventStages.{after, GoesOn, events_one_way, events_back}
+use Rattle.cmd_ingest.specs.Ingested.{file_of, WritesFile}
+use Rattle.cmd_ingest.specs.Labelled.{bytes_by}
 use Rattle.cmd_ingest.specs.Does.{Ingests}
-use Rattle.cmd_ingest.proofs.TakenLines.{file_begins}
-use Rattle.outcome_laws.specs.Laws.{IngestGrowsLaw, EndWithALine}
-use Rattle.outcome_laws.proofs.AllIngested.{IsIngested, all_ingested}
-use Rattle.outcome_laws.proofs.GrownLines.{more_lines}
+use Rattle.cmd_ingest.proofs.HeadFirst.{file_more, file_first}
+use Rattle.outcome_laws.specs.Laws.{IngestGrowsLaw, IsSealed}
+use Rattle.outcome_laws.proofs.GrownLines.{lines_go_on}
 
-module _ (spec events later : File) (more t : List ℕ) (whole : EndWithALine events.bytes) (longer : later.bytes ≡ events.bytes ++ more) (short : length later.bytes ≤ events_kind.most) (sound : later.broken ≡ false) (first : IsIngested spec events t) where
-  abbrev g : Grammar
-  g = first.grammar
+-- what is written of the lines of a file
+abbrev IsWrittenOf : Grammar → FileLines → End → List ℕ → Type 0
+IsWrittenOf g file = EventsStage g instance_most file (file_of g) (WritesFile g)
 
-  -- the lines of the later file begin with those that were taken
-  lines_grow : (e : End) (s : List ℕ) → IngestsLines g instance_most (lines_of later.bytes) e s → (rest : List ℕ) × (s ≡ t ++ rest)
-  lines_grow e s h =
-      let ls = more_lines events.bytes more whole in
-      let r = file_begins g instance_most (lines_of later.bytes) (lines_of events.bytes) ls.0 first.es (ap lines_of longer ∙ ls.1) first.run.tells.read first.run.tells.accepted e s h in
-      (r.0, r.1 ∙ ap (λ x. x ++ r.0) (sym first.is))
+-- behind the last line nothing is written
+nothing_more : (g : Grammar) (s : RunSoFar) (e : End) (t : List ℕ) → WritesFile g s.events e (file_of g s.events ++ t) → t ≡ []
+nothing_more g s e t h = append_cancel_left (file_of g s.events) t [] (h.1 ∙ sym (append-nil (file_of g s.events)))
 
-  -- the later file is taken
-  events_grow : (e : End) (s : List ℕ) → Stage events_kind (file_head g) later TellsLines RefusesNone (IngestsLines g instance_most) e s → (rest : List ℕ) × (s ≡ t ++ rest)
-  events_grow e s h =
-      lines_grow e s (stage_goes_on events_kind (file_head g) later TellsLines RefusesNone (IngestsLines g instance_most) (lines_of later.bytes) short sound (λ ls is. is) (λ l x r. r) e s h)
+-- what is written of lines begins what is written of lines that go on from them
+lines_begin : (g : Grammar) (file later : FileLines) → GoOnFrom file.lines later.lines → (d e : End) (t s : List ℕ) → IsWrittenOf g file d t → IsWrittenOf g later e s → (rest : List ℕ) × (s ≡ t ++ rest)
+lines_begin g file later on d e t s p q =
+    let a = events_back bytes_by g instance_most (file_of g) (file_more g instance_most) (WritesFile g) (file_first g) file d t p in
+    let b = events_back bytes_by g instance_most (file_of g) (file_more g instance_most) (WritesFile g) (file_first g) later e s q in
+    let closes = GoesOn bytes_by g instance_most (file_of g) (file_more g instance_most) (WritesFile g) in
+    let r = lines_grow (line_ends (codes "events")) (TakesEvent bytes_by) RefusesAt IsAnyRun (events_one_way bytes_by) closes closes later.tail (nothing_more g) file.tail file.lines later.lines (after bytes_by g instance_most []) d e a.0 b.0 tt on a.2 b.2 in
+    (r.0, b.1 ∙ (ap (λ x. file_of g [] ++ x) r.1 ∙ (sym (append_assoc (file_of g []) a.0 r.0) ∙ ap (λ x. x ++ r.0) (sym a.1))))
 
-  -- the grammar of SPEC is one
-  all_grow : (e : End) (s : List ℕ) → Ingests spec later e s → (rest : List ℕ) × (s ≡ t ++ rest)
-  all_grow e s h =
-      events_grow e s (stage_goes_on spec_kind [] spec TellsGrammar (OfWhole RefusesSpec) (λ k. Stage events_kind (file_head k) later TellsLines RefusesNone (IngestsLines k instance_most)) g first.told.short first.told.whole
-      (λ k told. one_grammar spec.bytes g k first.told.tells told) (λ l x r. no_refusal spec.bytes x g first.told.tells r.1) e s h)
+module _ (spec events later : File) (more : List ℕ) (sealed : IsSealed events) (longer : later.bytes ≡ events.bytes ++ more) where
+  -- the grammar of SPEC is one; where SPEC is refused, nothing is written
+  all_grow : (d e : End) (t s : List ℕ) → Ingests spec events d t → Ingests spec later e s → (rest : List ℕ) × (s ≡ t ++ rest)
+  all_grow d e t s (too_long l x y) q = (s, sym (ap (λ z. z ++ s) y))
+  all_grow d e t s (broken l b x y) q = (s, sym (ap (λ z. z ++ s) y))
+  all_grow d e t s (refused l b line fault r x y) q = (s, sym (ap (λ z. z ++ s) y))
+  all_grow d e t s (goes_on l b g told next) q =
+      lines_begin g (lines_in events) (lines_in later) (lines_go_on events later more sealed longer) d e t s next
+      (stage_goes_on spec_kind [] spec TellsGrammar (OfWhole RefusesSpec) (λ k. IsWrittenOf k (lines_in later)) g l b (λ k is. one_grammar spec.bytes g k told is) (λ n x r. no_refusal spec.bytes x g told r.1) e s q)
 
 pub ingest_grows_law : IngestGrowsLaw
-ingest_grows_law files more_files spec events more t s e same whole longer short sound first later =
-    all_grow (files spec) (files events) (more_files events) more t whole longer short sound (all_ingested (files spec) (files events) t first) e s (subst (λ f. Ingests f (more_files events) e s) same later)
+ingest_grows_law files more_files spec events more t s d e same sealed longer first later =
+    all_grow (files spec) (files events) (more_files events) more sealed longer d e t s first (subst (λ f. Ingests f (more_files events) e s) same later)

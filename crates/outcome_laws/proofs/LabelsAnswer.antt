@@ -11,33 +11,31 @@ use Rattle.wf_model.specs.Safe.{IsSafe}
 use Rattle.wf_model.specs.Finishing.{ExpandsComposites}
 use Rattle.wf_model.specs.Run.{IsAccepted}
 use Rattle.wf_io.specs.Told.{File}
-use Rattle.wf_io.specs.Lines.{Line}
+use Rattle.wf_io.specs.Lines.{lines_in}
 use Rattle.label_model.specs.Files.{Entry, entries_of}
 use Rattle.wf_query.specs.Answers.{IsAnswerText}
+use Rattle.wf_query.proofs.AnsweredLines.{answered_too}
 use Rattle.wf_message.specs.Endings.{End}
-use Rattle.wf_stage.specs.Stages.{goes_on, OfWhole, RefusesNone, TellsLines, IsTold, Holds}
+use Rattle.wf_stage.specs.Stages.{goes_on, OfWhole, IsTold, Holds}
 use Rattle.wf_stage.proofs.TwoStages.{stage_goes_on}
-use Rattle.wf_inputs.specs.Inputs.{events_kind, labels_kind, queries_kind, instance_most}
-use Rattle.wf_inputs.specs.RunTold.{TellsRun, RefusesRun}
+use Rattle.wf_inputs.specs.Inputs.{labels_kind, instance_most}
+use Rattle.wf_inputs.specs.RunTold.{TellsEvents, goes_on as goes_on_with}
 use Rattle.wf_inputs.specs.LabelsTold.{TellsEntries, RefusesLabels}
-use Rattle.wf_inputs.proofs.OneValue.{one_run}
-use Rattle.wf_inputs.proofs.OneRunFault.{no_refusal_of_run}
+use Rattle.wf_inputs.proofs.OneRun.{events_goes_on}
 use Rattle.wf_inputs.proofs.OneLabels.{one_entries, no_refusal_of_labels}
 use Rattle.cmd_ask.specs.Answers.{IsAnswerOfRun}
-use Rattle.cmd_ask.specs.Does.{AnswersLines, QueriesStage, AnswersRun, AnswersLabels}
+use Rattle.cmd_ask.specs.Does.{QueriesStage, AnswersRun, AnswersLabels}
 use Rattle.cmd_ask.proofs.OneWord.{one_run_word}
 use Rattle.cmd_ingest.specs.Ingested.{file_of}
 use Rattle.outcome_laws.specs.Laws.{LabelsAnswerLaw}
-use Rattle.outcome_laws.proofs.AnswersCarried.{answered_too}
-use Rattle.outcome_laws.proofs.StagesCarried.{stage_carried}
 use Rattle.outcome_laws.proofs.OneStages.{AreSame, one_queries_stage}
 use Rattle.outcome_laws.proofs.LabelEntries.{file_opens}
 use Rattle.outcome_laws.proofs.LabelsTell.{labels_tell_law}
 
 module _ (g : Grammar) (u : View) (formed : IsWellFormed g) (proper : IsProper g) (linear : IsLinear g) (composites : ExpandsComposites g u) (safe : IsSafe g u)
-    (events labels queries : File) (e : List Event) (run : IsTold events_kind events (TellsRun g instance_most) e) (file : IsTold labels_kind labels Holds (file_of g e)) where
+    (events labels queries : File) (e : List Event) (run : TellsEvents g instance_most (lines_in events) e) (file : IsTold labels_kind labels Holds (file_of g e)) where
   accepted : IsAccepted g instance_most e
-  accepted = run.tells.accepted
+  accepted = run.0.accepted
 
   abbrev entries : List Entry
   entries = entries_of g e
@@ -53,39 +51,32 @@ module _ (g : Grammar) (u : View) (formed : IsWellFormed g) (proper : IsProper g
   words_alike : (first second word : List ℕ) → IsAnswerText g u entries first second word ↔ IsAnswerOfRun g u e first second word
   words_alike = labels_tell_law g u formed proper linear composites safe e accepted entries entries_told
 
-  -- so lines have the same answers
-  lines_of_labels : (ls : List Line) (d : End) (t : List ℕ) → AnswersLines (IsAnswerOfRun g u e) ls d t → AnswersLines (IsAnswerText g u entries) ls d t
-  lines_of_labels ls d t h = (h.0, answered_too (IsAnswerOfRun g u e) (IsAnswerText g u entries) (λ first second word. (words_alike first second word).1) ls h.0 t h.1, h.2)
+  -- so QUERIES has the same answers
+  by_labels : (d : End) (t : List ℕ) → QueriesStage (IsAnswerOfRun g u e) queries d t → QueriesStage (IsAnswerText g u entries) queries d t
+  by_labels d t h = (h.0, answered_too (IsAnswerOfRun g u e) (IsAnswerText g u entries) (λ first second word. (words_alike first second word).1) (lines_in queries) h.0 t h.1, h.2)
 
-  lines_of_run : (ls : List Line) (d : End) (t : List ℕ) → AnswersLines (IsAnswerText g u entries) ls d t → AnswersLines (IsAnswerOfRun g u e) ls d t
-  lines_of_run ls d t h = (h.0, answered_too (IsAnswerText g u entries) (IsAnswerOfRun g u e) (λ first second word. (words_alike first second word).0) ls h.0 t h.1, h.2)
+  by_run : (d : End) (t : List ℕ) → QueriesStage (IsAnswerText g u entries) queries d t → QueriesStage (IsAnswerOfRun g u e) queries d t
+  by_run d t h = (h.0, answered_too (IsAnswerText g u entries) (IsAnswerOfRun g u e) (λ first second word. (words_alike first second word).0) (lines_in queries) h.0 t h.1, h.2)
 
   -- EVENTS is taken, and QUERIES answered
   of_run : (d : End) (t : List ℕ) → AnswersRun g u events queries d t → QueriesStage (IsAnswerOfRun g u e) queries d t
-  of_run = stage_goes_on events_kind [] events (TellsRun g instance_most) (RefusesRun g instance_most) (λ r. QueriesStage (IsAnswerOfRun g u r) queries) e run.short run.whole
-      (λ r h. one_run g instance_most events.bytes e r run.tells h) (λ l x r. no_refusal_of_run g instance_most events.bytes e l x run.tells r)
+  of_run = events_goes_on g instance_most (lines_in events) (λ r. []) (λ r. QueriesStage (IsAnswerOfRun g u r) queries) e run
 
   -- so it is of LABELS
   of_labels : (d : End) (t : List ℕ) → AnswersLabels g u labels queries d t → QueriesStage (IsAnswerText g u entries) queries d t
   of_labels = stage_goes_on labels_kind [] labels (TellsEntries g) (OfWhole (RefusesLabels g)) (λ es. QueriesStage (IsAnswerText g u es) queries) entries file.short file.whole
       (λ es h. one_entries g labels.bytes entries es labels_told h) (λ l x r. no_refusal_of_labels g labels.bytes entries l x labels_told r)
 
-  queries_of_run : (d : End) (t : List ℕ) → AnswersLabels g u labels queries d t → QueriesStage (IsAnswerOfRun g u e) queries d t
-  queries_of_run d t h = stage_carried queries_kind [] queries TellsLines RefusesNone (AnswersLines (IsAnswerText g u entries)) (AnswersLines (IsAnswerOfRun g u e)) lines_of_run d t (of_labels d t h)
-
-  queries_of_labels : (d : End) (t : List ℕ) → AnswersRun g u events queries d t → QueriesStage (IsAnswerText g u entries) queries d t
-  queries_of_labels d t h = stage_carried queries_kind [] queries TellsLines RefusesNone (AnswersLines (IsAnswerOfRun g u e)) (AnswersLines (IsAnswerText g u entries)) lines_of_labels d t (of_run d t h)
-
   -- what is answered over the events is answered over the labels, and back
   answers_alike : (d : End) (t : List ℕ) → AnswersRun g u events queries d t ↔ AnswersLabels g u labels queries d t
   answers_alike d t = (
-    λ h. goes_on file.short file.whole entries labels_told (queries_of_labels d t h),
-    λ h. goes_on run.short run.whole e run.tells (queries_of_run d t h),
+    λ h. goes_on file.short file.whole entries labels_told (by_labels d t (of_run d t h)),
+    λ h. goes_on_with e run (by_run d t (of_labels d t h)),
   )
 
   -- and there is one such answer
   pub answers_agree : (d c : End) (t s : List ℕ) → AnswersRun g u events queries d t → AnswersLabels g u labels queries c s → AreSame d c t s
-  answers_agree d c t s p q = one_queries_stage (IsAnswerOfRun g u e) (one_run_word g u e proper composites accepted.0) queries d c t s (of_run d t p) (queries_of_run c s q)
+  answers_agree d c t s p q = one_queries_stage (IsAnswerOfRun g u e) (one_run_word g u e proper composites accepted.0) queries d c t s (of_run d t p) (by_run c s (of_labels c s q))
 
 pub labels_answer_law : LabelsAnswerLaw
 labels_answer_law g u formed proper linear composites safe events labels queries e run file =

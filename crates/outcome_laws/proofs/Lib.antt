@@ -1,5 +1,4 @@
 pub mod AllIngested
-pub mod AnswersCarried
 pub mod AskIsTrace
 pub mod GrownLines
 pub mod IngestGrows
@@ -13,4 +12,3 @@ pub mod OneIngestion
 pub mod OneStages
 pub mod OutcomeLaws
 pub mod SameInstances
-pub mod StagesCarried

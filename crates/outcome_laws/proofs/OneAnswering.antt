@@ -1,16 +1,15 @@
 -- `trace` and `ask` have one outcome at most.
 use Rattle.std.proofs.Common.{ℕ, List, []}
 use Rattle.wf_io.specs.Told.{File}
+use Rattle.wf_io.specs.Lines.{lines_in}
 use Rattle.wf_query.specs.Answers.{IsAnswerText}
 use Rattle.wf_query.proofs.Entries.{one_word}
 use Rattle.wf_stage.specs.Stages.{OfWhole}
 use Rattle.wf_stage.proofs.TwoStages.{same_outcome}
-use Rattle.wf_inputs.specs.Inputs.{events_kind, labels_kind, instance_most}
-use Rattle.wf_inputs.specs.RunTold.{TellsRun, RefusesRun}
+use Rattle.wf_inputs.specs.Inputs.{labels_kind, instance_most}
 use Rattle.wf_inputs.specs.LabelsTold.{TellsEntries, RefusesLabels}
 use Rattle.wf_inputs.proofs.ToldGrammars.{told_formed, told_proper}
-use Rattle.wf_inputs.proofs.OneValue.{one_run}
-use Rattle.wf_inputs.proofs.OneRunFault.{one_refusal_of_run, no_refusal_of_run}
+use Rattle.wf_inputs.proofs.OneRun.{one_events}
 use Rattle.wf_inputs.proofs.OneLabels.{one_entries, one_refusal_of_labels, no_refusal_of_labels, told_differ}
 use Rattle.wf_inputs.proofs.ViewComposites.{told_composites}
 use Rattle.cmd_ask.specs.Answers.{IsAnswerOfRun}
@@ -23,8 +22,8 @@ one_trace : (spec view events queries : File) → HasOneOutcome (Traces spec vie
 one_trace spec view events queries =
     one_spec_stage spec _ (λ g p.
     one_view_stage spec.bytes g p view _ (λ u q.
-    same_outcome events_kind [] events (TellsRun g instance_most) (RefusesRun g instance_most) _ _ (one_run g instance_most events.bytes) (one_refusal_of_run g instance_most events.bytes) (no_refusal_of_run g instance_most events.bytes) (λ r told.
-    one_queries_stage (IsAnswerOfRun g u r) (one_run_word g u r (told_proper spec.bytes g p) (told_composites g (told_formed spec.bytes g p) view.bytes u q) told.accepted.0) queries)))
+    one_events g instance_most (lines_in events) (λ r. []) _ (λ r told.
+    one_queries_stage (IsAnswerOfRun g u r) (one_run_word g u r (told_proper spec.bytes g p) (told_composites g (told_formed spec.bytes g p) view.bytes u q) told.0.accepted.0) queries)))
 
 one_ask : (spec view labels queries : File) → HasOneOutcome (Asks spec view labels queries)
 one_ask spec view labels queries =

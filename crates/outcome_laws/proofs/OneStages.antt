@@ -3,19 +3,20 @@ use Rattle.std.proofs.Common.{◌≡◌, ℕ, List, [], sym, ap, ◌∙◌}
 use Rattle.wf_model.specs.Grammar.{Grammar}
 use Rattle.wf_model.specs.View.{View}
 use Rattle.wf_io.specs.Told.{File}
+use Rattle.wf_io.specs.Lines.{lines_in}
 use Rattle.wf_query.specs.Lines.{IsOneWord}
-use Rattle.wf_query.proofs.OneEnding.{one_ending}
+use Rattle.wf_query.proofs.AnsweredLines.{one_answering}
 use Rattle.wf_message.specs.Endings.{End}
-use Rattle.wf_stage.specs.Stages.{OfWhole, RefusesNone, TellsLines}
+use Rattle.wf_stage.specs.Stages.{OfWhole}
 use Rattle.wf_stage.proofs.TwoStages.{same_outcome}
-use Rattle.wf_inputs.specs.Inputs.{spec_kind, view_kind, queries_kind, SpecStage, ViewStage}
+use Rattle.wf_inputs.specs.Inputs.{spec_kind, view_kind, SpecStage, ViewStage}
 use Rattle.wf_inputs.specs.Specification.{TellsGrammar, RefusesSpec}
 use Rattle.wf_inputs.specs.ViewTold.{TellsView, RefusesView}
 use Rattle.wf_inputs.proofs.ToldGrammars.{told_formed}
 use Rattle.wf_inputs.proofs.OneValue.{one_grammar, one_view}
 use Rattle.wf_inputs.proofs.OneFault.{one_refusal, no_refusal}
 use Rattle.wf_inputs.proofs.OneViewFault.{one_refusal_of_view, no_refusal_of_view}
-use Rattle.cmd_ask.specs.Does.{AnswersLines, end_of_lines, QueriesStage}
+use Rattle.cmd_ask.specs.Does.{end_of_lines, QueriesStage}
 
 -- ends and texts that are the same
 abbrev pub AreSame : End → End → List ℕ → List ℕ → Type 0
@@ -37,6 +38,4 @@ one_view_stage bytes g told view Next next =
 
 -- so has that of QUERIES, where a query has one word
 pub one_queries_stage : (Answers : List ℕ → List ℕ → List ℕ → Type 0) → IsOneWord Answers → (queries : File) → HasOneOutcome (QueriesStage Answers queries)
-one_queries_stage Answers one queries =
-    same_outcome queries_kind [] queries TellsLines RefusesNone (AnswersLines Answers) (AnswersLines Answers) (λ a b x y. y ∙ sym x) (λ l m x y p q. absurd p) (λ a l x t r. r)
-    (λ ls h d e t s p q. let r = one_ending Answers one ls p.0 q.0 t s p.1 q.1 in (p.2 ∙ (ap end_of_lines r.0 ∙ sym q.2), r.1))
+one_queries_stage Answers one queries d e t s p q = let r = one_answering Answers one (lines_in queries) p.0 q.0 t s p.1 q.1 in (p.2 ∙ (ap end_of_lines r.0 ∙ sym q.2), r.1)

@@ -1,5 +1,5 @@
 -- Laws of the outcome.
-use Rattle.std.specs.Prelude.{◌≡◌, ◌⊎◌, ◌↔◌, ◌≤◌, ℕ, false, List, [], ◌∷◌, ◌++◌, length, codes}
+use Rattle.std.specs.Prelude.{◌≡◌, ◌⊎◌, ◌↔◌, ◌≤◌, ℕ, true, false, List, [], ◌∷◌, ◌++◌, length, codes}
 use Rattle.wf_model.specs.declared.event.Event.{Event}
 use Rattle.wf_model.specs.Grammar.{Grammar}
 use Rattle.wf_model.specs.WellFormed.{IsWellFormed}
@@ -10,12 +10,13 @@ use Rattle.wf_model.specs.Safe.{IsSafe}
 use Rattle.wf_model.specs.Run.{IsAccepted}
 use Rattle.wf_model.specs.Finishing.{ExpandsComposites}
 use Rattle.wf_io.specs.Told.{File}
+use Rattle.wf_io.specs.Lines.{lines_in}
 use Rattle.label_model.specs.Files.{Entry}
 use Rattle.wf_query.specs.Answers.{IsAnswerText}
 use Rattle.wf_message.specs.Endings.{End, Done}
 use Rattle.wf_stage.specs.Stages.{IsTold, Holds}
-use Rattle.wf_inputs.specs.Inputs.{events_kind, labels_kind, instance_most}
-use Rattle.wf_inputs.specs.RunTold.{TellsRun}
+use Rattle.wf_inputs.specs.Inputs.{labels_kind, instance_most}
+use Rattle.wf_inputs.specs.RunTold.{TellsEvents}
 use Rattle.wf_inputs.specs.LabelsTold.{TellsEntries}
 use Rattle.cmd_ask.specs.Answers.{IsAnswerOfRun}
 use Rattle.cmd_ask.specs.Does.{AnswersRun, AnswersLabels}
@@ -39,7 +40,7 @@ LabelsTellLaw =
 abbrev pub LabelsAnswerLaw : Type 0
 LabelsAnswerLaw =
     (g : Grammar) (u : View) → IsWellFormed g → IsProper g → IsLinear g → ExpandsComposites g u → IsSafe g u →
-    (events labels queries : File) (e : List Event) → IsTold events_kind events (TellsRun g instance_most) e → IsTold labels_kind labels Holds (file_of g e) →
+    (events labels queries : File) (e : List Event) → TellsEvents g instance_most (lines_in events) e → IsTold labels_kind labels Holds (file_of g e) →
     ((d : End) (t : List ℕ) → AnswersRun g u events queries d t ↔ AnswersLabels g u labels queries d t) ×
     ((d c : End) (t s : List ℕ) → AnswersRun g u events queries d t → AnswersLabels g u labels queries c s → (d ≡ c) × (t ≡ s))
 
@@ -54,9 +55,13 @@ AskIsTraceLaw =
 abbrev pub EndWithALine : List ℕ → Type 0
 EndWithALine bytes = (bytes ≡ []) ⊎ ((front : List ℕ) × (bytes ≡ front ++ 10 ∷ []))
 
--- What `ingest` writes of a run it writes of each run that goes on from it. In the first files all of EVENTS is taken, and no line is open at its end; in the later ones it has more bytes, and is neither too long nor broken
+-- no line that is open at the end of a file is taken: the file is broken there, or no line is open
+abbrev pub IsSealed : File → Type 0
+IsSealed file = (file.broken ≡ true) ⊎ EndWithALine file.bytes
+
+-- What `ingest` writes over EVENTS begins what it writes over each EVENTS that goes on from it, however either ends. In the first files EVENTS is broken at its end, or no line is open there; in the later ones it has more bytes
 abbrev pub IngestGrowsLaw : Type 0
 IngestGrowsLaw =
-    (files later : List ℕ → File) (spec events more t s : List ℕ) (e : End) →
-    later spec ≡ files spec → EndWithALine (files events).bytes → (later events).bytes ≡ (files events).bytes ++ more → length (later events).bytes ≤ events_kind.most → (later events).broken ≡ false →
-    IsOutcome files (codes "ingest" ∷ spec ∷ events ∷ []) Done t → IsOutcome later (codes "ingest" ∷ spec ∷ events ∷ []) e s → (rest : List ℕ) × (s ≡ t ++ rest)
+    (files later : List ℕ → File) (spec events more t s : List ℕ) (d e : End) →
+    later spec ≡ files spec → IsSealed (files events) → (later events).bytes ≡ (files events).bytes ++ more →
+    IsOutcome files (codes "ingest" ∷ spec ∷ events ∷ []) d t → IsOutcome later (codes "ingest" ∷ spec ∷ events ∷ []) e s → (rest : List ℕ) × (s ≡ t ++ rest)

@@ -7,7 +7,7 @@ pub fn one_outcome_law()
     ensures { OneOutcomeLaw }
 {}
 
-/// What `ingest` writes of a run begins what it writes of each run that goes on from it.
+/// What `ingest` writes over a file of events begins what it writes over each that goes on from it, however either call ends.
 pub fn ingest_grows_law()
     ensures { IngestGrowsLaw }
 {}
