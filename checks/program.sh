@@ -340,7 +340,11 @@ refuses_labels() {
     says 2 "refused: labels: $1\n" ask "$2" $line/view "$3" $line/queries
 }
 
-# Whether the label file of the line, cut at each length, is no label file where its head is not whole, is damaged where an entry is not whole, and else answers from the entries that it has.
+labels_refused() {
+    ended 2 "$nothing" "$(text expected "refused: labels: $1\n")"
+}
+
+# Whether the label file of the line, cut at each length, is no label file where its head is not whole, is truncated at the entry that is not whole, and else answers from the entries that it has.
 tells_cuts() {
     local length queries
     queries=$(text two_queries 'r.a i1.y\nr.a r.b\n')
@@ -350,8 +354,10 @@ tells_cuts() {
             36 | 43) ended 0 "$(text expected_out 'unknown\nunknown\n')" "$nothing" ;;
             50) ended 0 "$(text expected_out 'unknown\nyes\n')" "$nothing" ;;
             58) ended 0 "$(text expected_out 'yes\nyes\n')" "$nothing" ;;
-            ? | [12]? | 3[0-5]) ended 2 "$nothing" "$(text expected 'refused: labels: NotLabels\n')" ;;
-            *) ended 2 "$nothing" "$(text expected 'refused: labels: Damaged\n')" ;;
+            ? | [12]? | 3[0-5]) labels_refused NotLabels ;;
+            3? | 4[0-2]) labels_refused 'Truncated offset 36' ;;
+            4?) labels_refused 'Truncated offset 43' ;;
+            5?) labels_refused 'Truncated offset 50' ;;
         esac || return 1
     done
 }
@@ -366,9 +372,21 @@ labels_with() {
 check "another first byte is that of no label file" refuses_labels NotLabels $line/spec "$(labels_with 0 X)"
 check "another number of the form is that of no label file" refuses_labels NotLabels $line/spec "$(labels_with 3 2)"
 check "another bit of the digest is that of another grammar" refuses_labels OtherSpec $line/spec "$(labels_with 35 '\x8f')"
-check "a name without a dot is damage" refuses_labels Damaged $line/spec "$(labels_with 44 rxb)"
-check "a name that stands twice is damage" refuses_labels Damaged $line/spec "$(labels_with 44 r.a)"
-check "a bit behind a label is damage" refuses_labels Damaged $line/spec "$(labels_with 57 '\xb1')"
+check "a name without a dot is told with its entry" refuses_labels 'BadName entry 1' $line/spec "$(labels_with 44 rxb)"
+check "a name that stands twice is told with its second entry" refuses_labels 'NameTwice entry 1' $line/spec "$(labels_with 44 r.a)"
+check "a bit behind a label is told with its entry" refuses_labels 'BadLabel entry 2' $line/spec "$(labels_with 57 '\xb1')"
+
+# The label file of the line with these bytes in the place of all behind so many bytes.
+labels_then() {
+    { head -c "$1" $line/labels; printf '%b' "$2"; } >"$work/ended_labels"
+    echo "$work/ended_labels"
+}
+check "a wrong entry is told before one behind it that is not whole" refuses_labels 'BadLabel entry 0' $line/spec "$(labels_then 36 '\x03r.a\0\x01\x28\x03')"
+check "an entry that is not whole is told before its name" refuses_labels 'Truncated offset 36' $line/spec "$(labels_then 36 '\x03rxa\0\x02\x20')"
+check "a name that stands twice is told before its label" refuses_labels 'NameTwice entry 3' $line/spec "$(labels_then 58 '\x03r.a\0\x01\x28')"
+check "an empty name is told with its entry" refuses_labels 'BadName entry 3' $line/spec "$(labels_then 58 '\0\0\x01\x20')"
+check "an empty label is told with its entry" refuses_labels 'BadLabel entry 3' $line/spec "$(labels_then 58 '\x03x.y\0\0')"
+check "a label and a byte are told with their entry" refuses_labels 'BadLabel entry 3' $line/spec "$(labels_then 58 '\x03x.y\0\x02\xb0\0')"
 
 # An item has the name that the label file gives it.
 renamed() {
@@ -467,5 +485,30 @@ wanting() {
     (ulimit -v 12000 && says 5 'no memory\n' trace "$(spaces large 16000000)" $line/view $line/events $line/queries)
 }
 check "want of memory is told" wanting
+
+# EVENTS as they come through a pipe.
+ingests_from_a_pipe() {
+    local status=0
+    cat examples/phylogeny/events | "$program" ingest examples/phylogeny/spec /dev/stdin >"$work/out" 2>"$work/err" || status=$?
+    [ "$status" = 0 ] && cmp -s "$work/out" examples/phylogeny/labels && cmp -s "$work/err" "$nothing"
+}
+check "events may come through a pipe" ingests_from_a_pipe
+
+# Each file of the longest command through a pipe of its own.
+asks_from_pipes() {
+    run ask <(cat $line/spec) <(cat $line/view) <(cat $line/labels) <(cat $line/queries) && ended 0 $line/answers "$nothing"
+}
+check "each file may come through a pipe" asks_from_pipes
+
+# A folder is opened and cannot be read; the answers come to no line.
+check "events that cannot be read are a fault" says 3 'fault: reading events\n' trace $line/spec $line/view "$work" $line/queries
+
+# The label file up to where the events end with half a line.
+ingests_half_a_line() {
+    head -c -5 $line/events >"$work/half"
+    run ingest $line/spec "$work/half"
+    [ "$(cat "$work/status")" = 2 ] && head -c 36 $line/labels | cmp -s - <(head -c 36 "$work/out") && grep -q '^refused: events line [0-9]*: NotJson$' "$work/err"
+}
+check "half a line at the end of a whole file is a line" ingests_half_a_line
 
 finish

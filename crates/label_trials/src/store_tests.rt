@@ -9,13 +9,15 @@ use wf_samples::{LINE, sample};
 /// A digest of 32 bytes.
 const DIGEST: [u8; 32] = [0xab; 32];
 
-/// Each line: how many bytes are left of the file, and what is told of them.
-const CUT: [(usize, u32, Option<StoreFault>); 5] = [
-    (50, 2, None),
-    (36, 0, None),
-    (57, 0, Some(StoreFault::Truncated { offset: 50 })),
-    (37, 0, Some(StoreFault::Truncated { offset: 36 })),
-    (35, 0, Some(StoreFault::NotLabels)),
+/// Each line: the least and the greatest of some lengths, how many entries a file has that is cut there, and why it is refused.
+const CUT: [(usize, usize, u32, Option<StoreFault>); 7] = [
+    (0, 35, 0, Some(StoreFault::NotLabels)),
+    (36, 36, 0, None),
+    (37, 42, 0, Some(StoreFault::Truncated { offset: 36 })),
+    (43, 43, 1, None),
+    (44, 49, 0, Some(StoreFault::Truncated { offset: 43 })),
+    (50, 50, 2, None),
+    (51, 57, 0, Some(StoreFault::Truncated { offset: 50 })),
 ];
 
 /// Each line: the place of a byte, what is written there, and why the file is refused.
@@ -91,9 +93,11 @@ fn entries_are_found_by_name_and_number(rt: HostRuntime) -> Result<(), Fail> {
 #[test]
 fn a_cut_file_is_read_up_to_a_whole_entry(rt: HostRuntime) -> Result<(), Fail> {
     let bytes = file(rt.alloc())?;
-    for (end, entries, fault) in CUT {
-        let found = opened(rt.alloc(), first(&bytes, end))?;
-        assert_eq!(rt; found, (entries, false, fault), "at {end}");
+    for (least, greatest, entries, fault) in CUT {
+        for end in least..=greatest {
+            let found = opened(rt.alloc(), first(&bytes, end))?;
+            assert_eq!(rt; found, (entries, false, fault), "at {end}");
+        }
     }
     Ok(())
 }

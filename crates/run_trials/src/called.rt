@@ -2,7 +2,7 @@
 ghost use Rattle.std.specs.Prelude.{◌≤◌};
 
 use std::alloc::{AllocError, Global};
-use wf_io::{MemFile, MemShelf, MemSink, PlainFile, PlainShelf, PlainSink};
+use wf_io::{FuseShelf, MemFile, MemShelf, MemSink, PlainFile, PlainShelf, PlainSink};
 use wf_model::{Name, Seq};
 use wf_top::{Status, run};
 
@@ -80,6 +80,22 @@ pub fn called(
 ) -> Result<Ended, AllocError> {
     let words = words(alloc, line)?;
     called_with(alloc, shelf, &words, rooms)
+}
+
+/// The same over a shelf that passes so many calls on, and then fails.
+pub fn called_over_a_fuse(
+    alloc: Global,
+    shelf: MemShelf,
+    calls: u64,
+    line: &str,
+    rooms: (usize, usize),
+) -> Result<Ended, AllocError> {
+    let words = words(alloc, line)?;
+    let mut shelf = FuseShelf::new(shelf, calls);
+    let mut out = MemSink::new(alloc, rooms.0)?;
+    let mut err = MemSink::new(alloc, rooms.1)?;
+    let status = run(alloc, &words, &mut shelf, &mut out, &mut err);
+    Ok(Ended { status, out, err })
 }
 
 /// Calls the program over plain files of these names and texts: the status, and how many bytes went to out and to err.

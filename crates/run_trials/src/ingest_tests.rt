@@ -37,7 +37,7 @@ const ROUND_EVENTS: &str =
     "{\"start\":\"r\"}\n{\"expand\":\"r\",\"production\":0,\"names\":[\"l0\"]}\n{\"expand\":\"l0\",\"production\":1,\"names\":[\"w0\",\"l1\"]}\n{\"expand\":\"l1\",\"production\":1,\"names\":[\"w1\",\"l2\"]}";
 
 /// Each line: the specification, the events, whether reading past them fails, the status, the entries behind the head and the line on err.
-const ROWS: [(&str, &str, bool, Status, &[u8], &str); 8] = [
+const ROWS: [(&str, &str, bool, Status, &[u8], &str); 9] = [
     (LINE, EVENTS, false, Done, EDGE, ""),
     (LINE, START, false, Done, PORTS, ""),
     (LINE, "", false, Done, b"", ""),
@@ -63,8 +63,16 @@ const ROWS: [(&str, &str, bool, Status, &[u8], &str); 8] = [
         EVENTS,
         true,
         ReadFault,
-        b"",
+        EDGE,
         "fault: reading events\n",
+    ),
+    (
+        LINE,
+        NO_JSON,
+        true,
+        Refused,
+        EDGE,
+        "refused: events line 3: NotJson\n",
     ),
     (LOOP, ROUND_EVENTS, false, Done, ROUNDS, ""),
 ];

@@ -60,7 +60,7 @@ const QUERIES: &str = "r.a i1.y\ni1.y r.b\nr.b r.a\ni1.y i1.y\nr.a i2.y\n";
 const ANSWERS: &str = "yes\nyes\nno\nno\nunknown\n";
 
 /// The files of a shelf: the name, the bytes, and whether reading past them fails.
-const FILES: [(&str, &str, bool); 25] = [
+const FILES: [(&str, &str, bool); 27] = [
     ("spec", LINE, false),
     ("view", "{}", false),
     ("events", EVENTS, false),
@@ -69,6 +69,8 @@ const FILES: [(&str, &str, bool); 25] = [
     ("view-cut", "{}", true),
     ("events-cut", EVENTS, true),
     ("queries-cut", QUERIES, true),
+    ("queries-half", "r.a r.b\nr.", true),
+    ("twice-cut", TWICE, true),
     ("empty", "", false),
     ("inside-itself", INSIDE_ITSELF, false),
     ("loosely", LINE_LOOSELY, false),
@@ -103,7 +105,7 @@ fn shelf(alloc: Global, piece: u32) -> Result<MemShelf, AllocError>
 }
 
 /// Each line: the words, the status, the text on out and the line on err.
-const ROWS: [(&str, Status, &str, &str); 41] = [
+const ROWS: [(&str, Status, &str, &str); 43] = [
     ("trace spec view events queries", Done, ANSWERS, ""),
     ("trace spec view events empty", Done, "", ""),
     ("trace spec view events two-ends", Done, "yes\nno\n", ""),
@@ -215,8 +217,22 @@ const ROWS: [(&str, Status, &str, &str); 41] = [
     (
         "trace spec view events queries-cut",
         ReadFault,
-        "",
+        ANSWERS,
         "fault: reading queries\n",
+    ),
+    // What stands behind the last newline of a file that breaks is no line.
+    (
+        "trace spec view events queries-half",
+        ReadFault,
+        "yes\n",
+        "fault: reading queries\n",
+    ),
+    // A line that is refused stands before the break.
+    (
+        "trace spec view twice-cut queries",
+        Refused,
+        "",
+        "refused: events line 3: AlreadyExpanded\n",
     ),
     (
         "trace inside-itself none events queries",

@@ -3,25 +3,36 @@ ghost use Rattle.std.specs.Prelude.{◌≡◌, ◌^◌, ◌-◌, ◌≤◌, nat_
 
 use std::alloc::Global;
 use std::fs::{self, File};
-use std::io::ErrorKind;
+use std::hash::{BuildHasher, RandomState};
+use std::io::{ErrorKind, Read};
 use std::os::unix::fs::FileExt;
 use wf_io::{Failed, Shelf};
 
-/// An open file and the path by which it was opened.
+/// An open file, the path by which it was opened, and the place in it up to which it was read on.
 #[derive(Drop)]
 struct Held {
     path: String,
     file: File,
+    place: u64,
 }
 
 /// The files of the system, each by its path from the working folder. It does not tell its files.
 ///
-/// The file that was read last stays open. The count of faults stays at 2^64 - 1 once it is there.
+/// The file that was read last stays open. It is read on from where it was read last, so a pipe may stand for it; a read at any other place of a pipe is a fault. The count of faults stays at 2^64 - 1 once it is there. The key of tables is drawn once, and 0 where the system gives no random bytes.
 #[derive(Drop)]
 pub struct DirShelf<'r> {
     rt: &'r HostRuntime,
     held: Option<Held>,
     faults: u64,
+    key: u64,
+}
+
+/// A random key, or 0 where the system gives no random bytes.
+fn drawn_key(rt: &HostRuntime) -> u64 {
+    match RandomState::new(rt) {
+        Ok(state) => state.hash_one(0u64),
+        Err(_) => 0,
+    }
 }
 
 impl<'r> DirShelf<'r> {
@@ -31,6 +42,7 @@ impl<'r> DirShelf<'r> {
             rt,
             held: None,
             faults: 0,
+            key: drawn_key(rt),
         }
     }
 }
@@ -40,7 +52,11 @@ fn opened(rt: &HostRuntime, name: &str) -> Option<Held> {
     let alloc: Global = rt.alloc();
     let path = String::from_str(alloc, name).ok()?;
     let file = fs::open(rt, name).ok()?;
-    Some(Held { path, file })
+    Some(Held {
+        path,
+        file,
+        place: 0,
+    })
 }
 
 /// Reads from a place of a file. A read that a signal interrupts is tried again.
@@ -58,6 +74,35 @@ fn read_from(file: &File, at: u64, buf: &mut [u8]) -> Option<usize>
         }
     }
     None
+}
+
+/// Reads on in a file. A read that a signal interrupts is tried again.
+fn read_on(file: &mut File, buf: &mut [u8]) -> Option<usize>
+    ensures { IfSome result (λ n. n ≤ length buf.old) }
+{
+    for _ in 0..u64::MAX {
+        match file.read(buf) {
+            Ok(n) => return Some(n),
+            Err(error) => {
+                if error.kind() != ErrorKind::Interrupted {
+                    return None;
+                }
+            }
+        }
+    }
+    None
+}
+
+/// Reads from a place of a file that is open: on from where it was read last, or elsewhere.
+fn read_at_place(held: &mut Held, at: u64, buf: &mut [u8]) -> Option<usize>
+    ensures { IfSome result (λ n. n ≤ length buf.old) }
+{
+    if at != held.place {
+        return read_from(&held.file, at, buf);
+    }
+    let count = read_on(&mut held.file, buf)?;
+    held.place = at.saturating_add(count as u64);
+    Some(count)
 }
 
 /// Reads from the file of a name, which is opened first if another is held. It reads nothing into an empty buffer.
@@ -81,8 +126,8 @@ fn read_held(
     if !is_held {
         *held = opened(rt, name);
     }
-    let h = held.as_ref()?;
-    read_from(&h.file, at, buf)
+    let h = held.as_mut()?;
+    read_at_place(h, at, buf)
 }
 
 impl<'r> Shelf for DirShelf<'r> {
@@ -100,5 +145,9 @@ impl<'r> Shelf for DirShelf<'r> {
                 Err(Failed)
             }
         }
+    }
+
+    fn hash_key(&self) -> u64 {
+        self.key
     }
 }
