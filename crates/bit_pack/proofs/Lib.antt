@@ -6,4 +6,5 @@ pub mod Packing
 pub mod Bytes
 pub mod Parts
 pub mod CodesRead
+pub mod CodeOrNone
 pub mod Filling

@@ -2,3 +2,4 @@ pub mod EntryFronts
 pub mod HeadReadings
 pub mod NamedEntries
 pub mod ReadSoFar
+pub mod SomeReading

@@ -38,3 +38,4 @@ pub mod RunPrefixes
 pub mod PrefixRoom
 pub mod WorkedLabels
 pub mod EntrySizes
+pub mod LabelOrNot

@@ -14,3 +14,6 @@ pub mod UnitRules
 pub mod UnitSimple
 pub mod UnitTold
 pub mod OneRanking
+pub mod Derived
+pub mod UnitOrNone
+pub mod ProperOrFault

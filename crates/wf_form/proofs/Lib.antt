@@ -29,3 +29,4 @@ pub mod Sides
 pub mod Sizes
 pub mod Whole
 pub mod Wired
+pub mod KeptOrFault

@@ -14,3 +14,4 @@ pub mod Taking
 pub mod ToldGrammars
 pub mod ViewComposites
 pub mod ViewSteps
+pub mod SomeRun

@@ -14,6 +14,7 @@ use Rattle.wf_spec.specs.FirstFaults.{AllHold, IsFirstFault}
 use Rattle.wf_form.specs.Rules.{AreKept, first_rules, body_rules, link_rules, IsFaultOf as IsFaultOfParts}
 use Rattle.wf_spec.proofs.FirstFaults.{no_fault, one_first}
 use Rattle.wf_form.proofs.Lawful.{law}
+use Rattle.wf_check.proofs.Loops.{only_first, walk_of}
 use Rattle.wf_check.specs.declared.fault.CheckFault.{CheckFault}
 use Rattle.wf_check.specs.declared.fault.CheckFault.TheVariants.{Unreachable, Unproductive, UnitCycle, NoMemory}
 use Rattle.wf_check.specs.Improper.{IsLeastWithout, UnitPath, IsUnitCycle, IsFirstOf, IsToldCycle, IsFaultOf as IsFaultOfGrammar}
@@ -88,19 +89,10 @@ module _ (g : Grammar) where
   one_of_grammar (UnitCycle ps) NoMemory p q = absurd q
   one_of_grammar NoMemory h p q = absurd p
 
-  only_in : (xs : List ℕ) → length xs ≡ 1 → IsIn (get_or xs 0 0) xs
-  only_in [] e = absurd (omega arith)
-  only_in (x ∷ xs) e = inl refl
-
-  -- unit productions lead along
-  unit_walk : (ps : List ℕ) (a b : ℕ) → UnitPath g a ps b → Walk (Becomes g) a b
-  unit_walk [] a b h = subst (λ z. Walk (Becomes g) a z) h here
-  unit_walk (p ∷ ps) a b h = onward (p, h.0, h.1, only_in (body_of g p) h.1) (unit_walk ps (get_or (body_of g p) 0 0) b h.2)
-
   no_cycle : (m : ℕ) (ps : List ℕ) → IsProper g → IsUnitCycle g m ps → ⊥
   no_cycle m [] proper h = let none = h.0 in absurd (omega arith)
   no_cycle m (p ∷ ps) proper h =
-      proper.no_unit_loop m (get_or (body_of g p) 0 0) (p, h.1.0, h.1.1, only_in (body_of g p) h.1.1) (unit_walk ps (get_or (body_of g p) 0 0) m h.1.2)
+      proper.no_unit_loop m (get_or (body_of g p) 0 0) (p, h.1.0, h.1.1, only_first (body_of g p) h.1.1) (walk_of g ps (get_or (body_of g p) 0 0) m h.1.2)
 
   -- a proper grammar has none
   none_of_proper : (f : CheckFault) → IsProper g → IsFaultOfGrammar g f → ⊥

@@ -2,3 +2,4 @@ pub mod Appended
 pub mod Joined
 pub mod Places
 pub mod Seen
+pub mod Readings

@@ -20,7 +20,8 @@ use Rattle.wf_laws.proofs.Safe.{KidsJoin, open_joins, bare_links, pairs_join, pe
 use Rattle.wf_laws.proofs.Growth.{finishing}
 use Rattle.wf_laws.proofs.Making.{first_name, first_is_name}
 use Rattle.wf_laws.proofs.Routes.{fresh_for, can_fresh}
-use Rattle.wf_laws.proofs.PathTests.{Either, path_either}
+use Rattle.wf_model.proofs.Deciding.{Either, is_so, so_gives, so_from, bytes_either}
+use Rattle.wf_laws.proofs.PathTests.{path_either}
 
 -- a run of a start event alone
 start_run : (g : Grammar) (m : ℕ) → IsRun g m (Start first_name ∷ [])
@@ -72,19 +73,6 @@ full_law g u d wf proper ec = (
   (λ ind. one_test_suffices g u d wf ind),
 )
 
--- a test of what is so or not
-abbrev is_so : {P : Type 0} → Either P → Bool
-is_so (inl p) = true
-is_so (inr n) = false
-
-so_gives : {P : Type 0} (e : Either P) → IsTrue (is_so e) → P
-so_gives (inl p) t = p
-so_gives (inr n) t = absurd (true≢false (sym t))
-
-so_from : {P : Type 0} (e : Either P) → P → IsTrue (is_so e)
-so_from (inl p) q = refl
-so_from (inr n) q = absurd (n q)
-
 module _ (g : Grammar) (u : View) (proper : IsProper g) (ec : ExpandsComposites g u) where
   some_expansion : (m : ℕ) → IsExpansion g u m (expansion_events g u proper ec m)
   some_expansion m =
@@ -93,7 +81,7 @@ module _ (g : Grammar) (u : View) (proper : IsProper g) (ec : ExpandsComposites 
 
   -- whether some expansion joins an input to an output
   joined_in_one : (m i o : ℕ) → Either (Joins g u m (expansion_events g u proper ec m) i o)
-  joined_in_one m i o = path_either (links g u m (expansion_events g u proper ec m)) (input first_name i) (output first_name o)
+  joined_in_one m i o = path_either bytes_either (links g u m (expansion_events g u proper ec m)) (input first_name i) (output first_name o)
 
   -- the pairs that some expansion joins
   abbrev pairs_of_one : Assignment

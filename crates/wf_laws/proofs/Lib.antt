@@ -35,3 +35,4 @@ pub mod GraftedRuns
 pub mod Graft
 pub mod FreshGrafts
 pub mod GraftAt
+pub mod SeenOrNot

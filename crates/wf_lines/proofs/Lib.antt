@@ -6,4 +6,5 @@ pub mod Openings
 pub mod Makings
 pub mod Seekings
 pub mod SoFar
+pub mod SomeEnding
 pub mod Stoppings

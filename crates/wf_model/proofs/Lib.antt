@@ -17,6 +17,9 @@ pub mod Mapping
 pub mod Positions
 pub mod NumberLists
 pub mod Tests
+pub mod Deciding
+pub mod Settling
+pub mod Listing
 pub mod Options
 pub mod Going
 pub mod Expanding

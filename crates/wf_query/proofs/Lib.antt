@@ -5,3 +5,4 @@ pub mod PutAnswers
 pub mod Opening
 pub mod Faults
 pub mod Lent
+pub mod SomeAnswers

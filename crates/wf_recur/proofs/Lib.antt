@@ -10,3 +10,4 @@ pub mod Telling
 pub mod Ways
 pub mod OneCycles
 pub mod OneLoops
+pub mod LinearOrLoops

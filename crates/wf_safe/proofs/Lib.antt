@@ -25,3 +25,4 @@ pub mod LowestBit
 pub mod SeenBelow
 pub mod SetRows
 pub mod Showing
+pub mod SafeOrWitness

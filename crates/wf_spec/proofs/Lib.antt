@@ -12,3 +12,4 @@ pub mod Reading
 pub mod Rows
 pub mod Tables
 pub mod Tests
+pub mod SomeFault

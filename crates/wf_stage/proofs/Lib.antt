@@ -6,3 +6,4 @@ pub mod Reading
 pub mod Stages
 pub mod TwoStages
 pub mod Writing
+pub mod SomeStages

@@ -14,3 +14,4 @@ pub mod Places
 pub mod Ports
 pub mod Showing
 pub mod Viewed
+pub mod ViewedOrFault
