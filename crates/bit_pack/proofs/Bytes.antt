@@ -1,6 +1,6 @@
 -- The bits of bytes by their places.
 use Rattle.std.proofs.Common.{◌≡◌, ℕ, suc, ◌+◌, ◌-◌, ◌*◌, ◌/◌, ◌%◌, ◌^◌, ◌<◌, ◌≤◌, Bool, true, false, eqb, List, [], ◌∷◌, ◌++◌, length, get_or, take, drop, replicate, sym, ap, ◌∙◌, subst, arith, append_assoc, append-nil, length-append}
-use Rattle.std.proofs.lemmas.List.{drop-drop, take_more, drop_at, drop_all, drop-append-le, drop_more, take-append-drop, length-take-le, length-drop, length-replicate, replicate-append-replicate}
+use Rattle.std.proofs.lemmas.List.{drop-drop, take_more, take_at, drop_at, drop_all, drop-append-le, drop_more, take-append-drop, length-take-le, length-drop, length-replicate, replicate-append-replicate}
 use Rattle.std.proofs.lemmas.Nat.{and_mask, pow_pos, mod_below}
 use Rattle.std.proofs.lemmas.Nat.Bits.{ones_shr}
 use Rattle.std.specs.Prelude.{◌≢◌, bit_and}
@@ -15,6 +15,23 @@ use Rattle.bit_pack.proofs.Packing.{length-bits_of, bits_of-append}
 pub bits_at : (bytes : List ℕ) (q : ℕ) → q < length bytes → bits_of bytes ≡ bits_of (take q bytes) ++ (low_bits 8 (get_or bytes q 0) ++ bits_of (drop (q + 1) bytes))
 bits_at bytes q h =
     ap bits_of (sym (take-append-drop q bytes)) ∙ (bits_of-append (take q bytes) (drop q bytes) ∙ ap (λ z. bits_of (take q bytes) ++ bits_of z) (drop_more bytes q 0 h))
+
+-- the bits before a place: those of the bytes before its byte, and the first of its own
+pub bits_before : (bytes : List ℕ) (at : ℕ) → at < 8 * length bytes → take at (bits_of bytes) ≡ bits_of (take (at / 8) bytes) ++ low_bits (at % 8) (get_or bytes (at / 8) 0 / 2 ^ (8 - at % 8))
+bits_before bytes at h =
+    let q = at / 8 in
+    let byte = get_or bytes q 0 in
+    let before = bits_of (take q bytes) in
+    let after = bits_of (drop (q + 1) bytes) in
+    let begun = low_bits (at % 8) (byte / 2 ^ (8 - at % 8)) in
+    let rest = low_bits (8 - at % 8) byte ++ after in
+    let e : 8 ≡ at % 8 + (8 - at % 8) = omega arith in
+    let its : low_bits 8 byte ≡ begun ++ low_bits (8 - at % 8) byte = ap (λ w. low_bits w byte) e ∙ low_bits-add (at % 8) (8 - at % 8) byte in
+    let lt : length (take q bytes) ≡ q = length-take-le q bytes (omega arith) in
+    let lb : length (before ++ begun) ≡ at = omega (arith, length-append before begun, length-bits_of (take q bytes), lt, length-low_bits (at % 8) (byte / 2 ^ (8 - at % 8))) in
+    let s : bits_of bytes ≡ (before ++ begun) ++ rest =
+    bits_at bytes q (omega arith) ∙ (ap (λ z. before ++ (z ++ after)) its ∙ (ap (λ z. before ++ z) (append_assoc begun (low_bits (8 - at % 8) byte) after) ∙ sym (append_assoc before begun rest))) in
+    ap (take at) s ∙ take_at (before ++ begun) rest at lb
 
 drop_low : (j x : ℕ) → j ≤ 8 → drop j (low_bits 8 x) ≡ low_bits (8 - j) x
 drop_low j x h =
@@ -33,16 +50,6 @@ bits_from bytes at h =
     let e : at ≡ 8 * q + at % 8 = omega arith in
     ap (λ z. drop z (bits_of bytes)) e ∙ (sym (drop-drop (at % 8) (8 * q) (bits_of bytes)) ∙ (ap (λ z. drop (at % 8) (drop (8 * q) z)) (bits_at bytes q (omega arith)) ∙
     (ap (drop (at % 8)) (drop_at before (low_bits 8 x ++ after) (8 * q) lb) ∙ (drop-append-le (at % 8) (low_bits 8 x) after (omega (arith, length-low_bits 8 x)) ∙ ap (λ z. z ++ after) (drop_low (at % 8) x (omega arith))))))
-
-pub next_bit : (bytes : List ℕ) (at : ℕ) → at < 8 * length bytes → drop at (bits_of bytes) ≡ eqb (get_or bytes (at / 8) 0 / 2 ^ (7 - at % 8) % 2) 1 ∷ drop (at + 1) (bits_of bytes)
-next_bit bytes at h =
-    let x = get_or bytes (at / 8) 0 in
-    let b = eqb (x / 2 ^ (7 - at % 8) % 2) 1 in
-    let k : 8 - at % 8 ≡ suc (7 - at % 8) = omega arith in
-    let rest = low_bits (7 - at % 8) x ++ bits_of (drop (at / 8 + 1) bytes) in
-    let e : drop at (bits_of bytes) ≡ b ∷ rest = bits_from bytes at h ∙ ap (λ z. z ++ bits_of (drop (at / 8 + 1) bytes)) (ap (λ w. low_bits w x) k ∙ low_bits-suc (7 - at % 8) x) in
-    let t : drop (at + 1) (bits_of bytes) ≡ rest = sym (drop-drop 1 at (bits_of bytes)) ∙ ap (drop 1) e in
-    e ∙ ap (λ z. b ∷ z) (sym t)
 
 pub no_bit : (bytes : List ℕ) (at : ℕ) → length bytes ≤ at / 8 → drop at (bits_of bytes) ≡ []
 no_bit bytes at h = drop_all at (bits_of bytes) (omega (arith, length-bits_of bytes))

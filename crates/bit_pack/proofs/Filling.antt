@@ -7,7 +7,7 @@ use Rattle.bit_pack.specs.Written.{first_bits, IsFree, IsFilled, HasRoom, Writes
 use Rattle.bit_pack.proofs.Numbers.{number_small, number-append, number-zeros}
 use Rattle.bit_pack.proofs.LowBits.{length-low_bits, number-low_bits, number_of_low_bits, low_bits-number, low_bits-add, low_bits-mod, low_bits-zero}
 use Rattle.bit_pack.proofs.Packing.{length-bits_of, bits_of-append, number-zeros_after, packed_law, held_law}
-use Rattle.bit_pack.proofs.Bytes.{bits_at, bits_from}
+use Rattle.bit_pack.proofs.Bytes.{bits_before, bits_from}
 
 pub length-first_bits : (bytes : List ℕ) (n : ℕ) → n ≤ 8 * length bytes → length (first_bits bytes n) ≡ n
 length-first_bits bytes n h = length-take-le n (bits_of bytes) (omega (arith, length-bits_of bytes))
@@ -124,18 +124,8 @@ module _ (bytes : List ℕ) (at count part : ℕ) (free : IsFree bytes at) (one_
       sym (drop_at (low_bits (8 - at % 8) byte) after (8 - at % 8) (length-low_bits (8 - at % 8) byte)) ∙
       (ap (drop (8 - at % 8)) zeros_from ∙ drop-replicate (8 - at % 8) (8 * length bytes - at) false)
 
-  byte_begun : low_bits 8 byte ≡ begun ++ low_bits (8 - at % 8) byte
-  byte_begun = let e : 8 ≡ at % 8 + (8 - at % 8) = omega arith in ap (λ w. low_bits w byte) e ∙ low_bits-add (at % 8) (8 - at % 8) byte
-
   first_is : first_bits bytes at ≡ bits_of (take (at / 8) bytes) ++ begun
-  first_is =
-      let before = bits_of (take (at / 8) bytes) in
-      let lt : length (take (at / 8) bytes) ≡ at / 8 = length-take-le (at / 8) bytes (omega arith) in
-      let lb : length (before ++ begun) ≡ at = omega (arith, length-append before begun, length-bits_of (take (at / 8) bytes), lt, length-low_bits (at % 8) (byte / 2 ^ (8 - at % 8))) in
-      let rest = low_bits (8 - at % 8) byte ++ after in
-      let s : bits_of bytes ≡ (before ++ begun) ++ rest =
-      bits_at bytes (at / 8) (omega arith) ∙ (ap (λ z. before ++ (z ++ after)) byte_begun ∙ (ap (λ z. before ++ z) (append_assoc begun (low_bits (8 - at % 8) byte) after) ∙ sym (append_assoc before begun rest))) in
-      ap (take at) s ∙ take_at (before ++ begun) rest at lb
+  first_is = bits_before bytes at inside
 
   abbrev filled : List Bool
   filled = begun ++ (low_bits count part ++ replicate (8 - at % 8 - count) false)

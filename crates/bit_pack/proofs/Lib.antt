@@ -7,4 +7,6 @@ pub mod Bytes
 pub mod Parts
 pub mod CodesRead
 pub mod CodeOrNone
+pub mod Words
 pub mod Filling
+pub mod Cutting

@@ -1,9 +1,18 @@
 // Bits that are held by bytes.
-ghost use Rattle.std.specs.Prelude.{◌≡◌, ◌^◌, ◌≤◌, length};
+ghost use Rattle.std.specs.Prelude.{◌≡◌, ◌+◌, ◌*◌, ◌^◌, ◌<◌, ◌≤◌, length};
 ghost use Rattle.bit_pack.specs.Bits.{packed, Holds};
 ghost use Rattle.bit_pack.specs.Written.{first_bits, IsFilled};
 
 use std::marker::Model;
+
+/// Bytes that are filled with bits: those into which the bits are packed.
+pub(crate) fn packed_bytes(bytes: &[u8], end: u32) -> &[u8]
+    requires { IsFilled bytes.now end }
+    ensures packed { result.now ≡ packed (first_bits bytes.now end) }
+    ensures few { 8 * length result.now < length (first_bits bytes.now end) + 8 }
+{
+    bytes
+}
 
 /// Bits in bytes, as a writer leaves them. A caller sees them as a list of bits.
 #[derive(Drop)]

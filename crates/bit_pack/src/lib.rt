@@ -7,11 +7,13 @@
 
 mod bits;
 mod code;
+mod cut;
 mod fault;
 mod law;
 mod put;
 mod reader;
 mod scan;
+mod word;
 mod writer;
 
 pub use bits::Bits;

@@ -1,12 +1,12 @@
 // A reader of bits and gamma codes.
-ghost use Rattle.std.specs.Prelude.{◌≡◌, ◌+◌, ◌^◌, ◌<◌, ◌≤◌, ◌↔◌, [], ◌∷◌, length, IfOk, OnOk, OnErr, IsErr, IsOkUnless, IsTrue, Err};
+ghost use Rattle.std.specs.Prelude.{◌≡◌, ◌+◌, ◌-◌, ◌^◌, ◌<◌, ◌≤◌, ◌↔◌, [], ◌∷◌, length, drop, IfOk, OnOk, OnErr, IsErr, IsOkUnless, IsTrue, Err};
 ghost use Rattle.bit_pack.specs.Bits.{bits_of};
 ghost use Rattle.bit_pack.specs.Gamma.{gamma, Begins, BeginsAbove, HasNoCode};
 ghost use Rattle.bit_pack.specs.Reading.{IsPadding};
 
-use crate::code::code_at;
 use crate::fault::BitFault;
-use crate::scan::{bit_at, is_padding};
+use crate::scan::is_padding;
+use crate::word::{first_bit, first_word, next_code, next_word};
 use std::marker::Model;
 
 /// A reader of the bits of bytes, the most significant bit of each byte first.
@@ -16,27 +16,36 @@ use std::marker::Model;
 pub struct BitReader<'a> {
     bytes: &'a [u8],
     at: usize,
+    /// The next bits, so many, in a word.
+    word: u64,
+    held: usize,
 }
 
 impl<'a> Model for BitReader<'a> {
-    ghost use Rattle.std.specs.Prelude.{◌*◌, ◌^◌, ◌<◌, ◌≤◌, length, drop};
+    ghost use Rattle.std.specs.Prelude.{drop};
     ghost use Rattle.bit_pack.specs.Bits.{bits_of};
-    ghost use Rattle.bit_pack.specs.Reading.{Reading};
+    ghost use Rattle.bit_pack.specs.Reading.{Reading, IsReaderAt};
 
     ghost Value = { Reading };
 
     ghost view = { λ r. record { at = r.at; left = drop r.at (bits_of r.bytes.now) } };
 
-    ghost invariant = { λ r. (r.at ≤ 8 * length r.bytes.now) × (length r.bytes.now < 2 ^ 60) };
+    ghost invariant = { λ r. IsReaderAt r.bytes.now r.at r.held r.word };
 }
 
 impl<'a> BitReader<'a> {
-    /// Opens a reader of the bits of `bytes`. It reads nothing yet.
+    /// Opens a reader of the bits of `bytes`, at the first of them.
     pub fn new(bytes: &'a [u8]) -> BitReader<'a>
         requires { length bytes.now < 2 ^ 60 }
         ensures { result ≡ record { at = 0; left = bits_of bytes.now } }
     {
-        BitReader { bytes, at: 0 }
+        let (word, held) = first_word(bytes);
+        BitReader {
+            bytes,
+            at: 0,
+            word,
+            held,
+        }
     }
 
     /// How many bits have been read.
@@ -54,18 +63,18 @@ impl<'a> BitReader<'a> {
         ensures fault { IsOkUnless result BitFault.Ended }
         ensures err { OnErr result (self.new ≡ self.old) }
     {
-        if self.at / 8 >= self.bytes.len() {
+        if self.held == 0 {
             return Err(BitFault::Ended);
         }
-        let bit = bit_at(self.bytes, self.at);
-        self.at += 1;
+        let bit = first_bit(self.word);
+        self.go_to(self.at + 1);
         Ok(bit)
     }
 
     /// Reads the Elias gamma code of a number from 1 to `most`.
     ///
     /// A whole code of a larger number is a `TooLarge`, also where the number has more than 64 binary
-    /// digits. A code that is cut off is an `Ended`. Zeros and digits are read byte by byte.
+    /// digits. A code that is cut off is an `Ended`. A code among the bits of one word is read at once.
     pub fn gamma(&mut self, most: u64) -> Result<u64, BitFault>
         requires { most < 2 ^ 63 }
         ensures number { IfOk result (λ n. n ≤ most) }
@@ -75,9 +84,22 @@ impl<'a> BitReader<'a> {
         ensures ended { (result ≡ Err BitFault.Ended) ↔ HasNoCode self.old.left }
         ensures err { OnErr result (self.new ≡ self.old) }
     {
-        let (number, end) = code_at(self.bytes, self.at, most)?;
-        self.at = end;
+        let (number, end) = next_code(self.bytes, self.at, self.word, self.held, most)?;
+        self.go_to(end);
         Ok(number)
+    }
+
+    /// Goes on to a place.
+    fn go_to(&mut self, end: usize)
+        requires order { self.old.at ≤ end }
+        requires inside { end ≤ self.old.at + length self.old.left }
+        ensures at { self.new.at ≡ end }
+        ensures left { self.new.left ≡ drop (end - self.old.at) self.old.left }
+    {
+        let (word, held) = next_word(self.bytes, self.at, self.word, self.held, end);
+        self.at = end;
+        self.word = word;
+        self.held = held;
     }
 
     /// Whether fewer than eight bits are left, and all of them are zero.

@@ -1,15 +1,7 @@
 // Bits of bytes by their places. The first is the most significant bit of the first byte.
-ghost use Rattle.std.specs.Prelude.{◌≡◌, ◌+◌, ◌-◌, ◌*◌, ◌%◌, ◌^◌, ◌<◌, ◌≤◌, ◌↔◌, false, ◌∷◌, length, take, drop, replicate, MatchOption, IsTrue};
+ghost use Rattle.std.specs.Prelude.{◌≡◌, ◌+◌, ◌-◌, ◌*◌, ◌%◌, ◌^◌, ◌<◌, ◌≤◌, ◌↔◌, false, length, take, drop, replicate, MatchOption, IsTrue};
 ghost use Rattle.bit_pack.specs.Bits.{bits_of, number};
 ghost use Rattle.bit_pack.specs.Reading.{IsNextOne, IsPadding};
-
-/// The bit at a place.
-pub fn bit_at(bytes: &[u8], at: usize) -> bool
-    requires { at < 8 * length bytes.now }
-    ensures { drop at (bits_of bytes.now) ≡ result ∷ drop (at + 1) (bits_of bytes.now) }
-{
-    (bytes[at / 8] >> (7 - at % 8)) % 2 == 1
-}
 
 /// How many zero bits stand before the first one in bytes.
 fn leading_zeros(bytes: &[u8]) -> Option<usize>

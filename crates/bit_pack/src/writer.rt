@@ -1,17 +1,18 @@
 // A writer of bits and gamma codes.
-ghost use Rattle.std.specs.Prelude.{◌≡◌, ◌+◌, ◌^◌, ◌<◌, ◌≤◌, false, [], ◌∷◌, ◌++◌, length, replicate, IfOk, OnOk, OnErr};
-ghost use Rattle.bit_pack.specs.Bits.{low_bits};
+ghost use Rattle.std.specs.Prelude.{◌≡◌, ◌+◌, ◌*◌, ◌^◌, ◌<◌, ◌≤◌, false, [], ◌∷◌, ◌++◌, length, take, replicate, IfOk, OnOk, OnErr};
+ghost use Rattle.bit_pack.specs.Bits.{low_bits, packed};
 ghost use Rattle.bit_pack.specs.Gamma.{gamma};
 ghost use Rattle.bit_pack.specs.Written.{first_bits, IsFilled};
 
-use crate::bits::Bits;
+use crate::bits::{Bits, packed_bytes};
+use crate::cut::cut;
 use crate::put::append;
 use std::alloc::{AllocError, Global};
 use std::marker::Model;
 
 /// A writer of bits, one after another. A caller sees it as the list of the bits that it has written.
 ///
-/// It takes a byte for each eight bits. Before a bit or a code, fewer than 2^31 bits have been written.
+/// It takes a byte for each eight bits, and keeps this memory where it begins anew. Before a bit or a code, fewer than 2^31 bits have been written.
 #[derive(Drop)]
 pub struct BitWriter {
     bytes: Vec<u8>,
@@ -47,10 +48,49 @@ impl BitWriter {
         requires { IsFilled bytes.now length }
         ensures { IfOk result (λ w. w ≡ first_bits bytes.now length) }
     {
-        Ok(BitWriter {
-            bytes: Vec::from_slice(alloc, bytes)?,
-            end: length,
-        })
+        let mut writer = BitWriter::new(alloc);
+        writer.restart(bytes, length)?;
+        Ok(writer)
+    }
+
+    /// Goes on behind the bits that bytes hold, so many of them, in place of those that were written. The bytes are copied.
+    ///
+    /// The only error is that memory is refused, and then there are no bits. Where bytes as many were written before, no memory is taken.
+    pub fn restart(&mut self, bytes: &[u8], count: u32) -> Result<(), AllocError>
+        requires { IsFilled bytes.now count }
+        ensures ok { OnOk result (self.new ≡ first_bits bytes.now count) }
+        ensures err { OnErr result (self.new ≡ []) }
+    {
+        self.bytes.clear();
+        self.end = 0;
+        self.bytes.extend_from_slice(bytes)?;
+        self.end = count;
+        Ok(())
+    }
+
+    /// How many bits are written.
+    pub fn length(&self) -> u32
+        ensures { result ≡ length self.now }
+    {
+        self.end
+    }
+
+    /// The bytes that hold the bits. Zero bits fill the last byte.
+    pub fn bytes(&self) -> &[u8]
+        ensures packed { result.now ≡ packed self.now }
+        ensures few { 8 * length result.now < length self.now + 8 }
+    {
+        packed_bytes(&self.bytes, self.end)
+    }
+
+    /// Cuts off the bits behind the first ones, so many. It keeps the memory.
+    pub fn cut(&mut self, count: u32)
+        requires { count ≤ length self.old }
+        ensures bits { self.new ≡ take count self.old }
+        ensures length { length self.new ≡ count }
+    {
+        cut(&mut self.bytes, count);
+        self.end = count;
     }
 
     /// Writes one bit. The only error is that memory is refused.
