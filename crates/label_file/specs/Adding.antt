@@ -1,6 +1,6 @@
 -- Entries in a table, and what is told of an entry that is to follow them.
 use Rattle.std.specs.Prelude.{◌≡◌, Bool, List, [], ◌∷◌, ◌++◌, map, length}
-use Rattle.wf_names.specs.declared.keyed.NameKey.{NameKey}
+use Rattle.label_file.specs.declared.key.HashedName.{HashedName}
 use Rattle.wf_model.specs.Lists.{IsIn}
 use Rattle.wf_model.specs.Grammar.{Grammar}
 use Rattle.wf_model.specs.Items.{IsItemName}
@@ -13,7 +13,7 @@ use Rattle.label_file.specs.declared.fault.StoreFault.{StoreFault}
 use Rattle.label_file.specs.declared.fault.StoreFault.TheVariants.{NotLabels as IsNoLabels, OtherSpec as IsOfOther, Truncated as IsTruncated, BadName as HasBadName, NameTwice as HasNameTwice, BadLabel as HasBadLabel, NoMemory as HasNoMemory}
 
 -- the entries of a table
-abbrev pub held : List (NameKey × List Bool) → List EntryHeld
+abbrev pub held : List (HashedName × List Bool) → List EntryHeld
 held es = map (λ e. record { name = e.0.bytes.now; bits = e.1 }) es
 
 -- An entry with the name of an item, which is new, and a label of the grammar, is held behind the others

@@ -1,5 +1,6 @@
 // The parts of a label file, appended to bytes.
-ghost use Rattle.std.specs.Prelude.{◌≡◌, ◌++◌, ◌<◌, ◌≤◌, length, take, OnOk, OnErr};
+ghost use Rattle.std.specs.Prelude.{◌≡◌, ◌+◌, ◌/◌, ◌%◌, ◌<◌, ◌≤◌, [], ◌∷◌, ◌++◌, length, take, vec_len, vec_capacity, OnOk, OnErr};
+ghost use Rattle.wf_model.specs.Items.{dotted};
 ghost use Rattle.label_model.specs.Files.{entry_bytes, head_bytes};
 
 use std::alloc::AllocError;
@@ -16,22 +17,6 @@ pub fn append_head(digest: &[u8; 32], to: &mut Vec<u8>) -> Result<(), AllocError
     append_part(digest, before, to)
 }
 
-/// Appends an entry: one byte with the length of the name, the name, two bytes with the length of the label in bytes, the higher byte first, and the label.
-///
-/// The only error is that memory is refused, and then nothing is appended. Cost: linear in the entry.
-pub fn append_entry(name: &[u8], label: &[u8], to: &mut Vec<u8>) -> Result<(), AllocError>
-    requires name { length name.now ≤ 129 }
-    requires label { length label.now ≤ 65535 }
-    ensures entry { OnOk result (to.new.items ≡ to.old.items ++ entry_bytes (record { name = name.now; label = label.now })) }
-    ensures err { OnErr result (to.new.items ≡ to.old.items) }
-{
-    let before = to.len();
-    to.push(name.len() as u8)?;
-    append_part(name, before, to)?;
-    append_part(&(label.len() as u16).to_be_bytes(), before, to)?;
-    append_part(label, before, to)
-}
-
 /// Appends a part of what began at a place. After an error all of it is gone.
 fn append_part(part: &[u8], begun: usize, to: &mut Vec<u8>) -> Result<(), AllocError>
     requires { begun ≤ length to.old.items }
@@ -42,5 +27,65 @@ fn append_part(part: &[u8], begun: usize, to: &mut Vec<u8>) -> Result<(), AllocE
         to.truncate(begun);
         return Err(fault);
     }
+    Ok(())
+}
+
+/// Puts a part for which there is room.
+fn put(part: &[u8], to: &mut Vec<u8>)
+    requires { vec_len to.old + length part.now ≤ vec_capacity to.old }
+    ensures items { to.new.items ≡ to.old.items ++ part.now }
+    ensures len { vec_len to.new ≡ vec_len to.old + length part.now }
+    ensures capacity { vec_capacity to.old ≤ vec_capacity to.new }
+{
+    to.extend_from_slice(part).unwrap();
+}
+
+/// Puts the length of a label in two bytes, the higher first, and the label. There is room for both.
+fn put_label(label: &[u8], to: &mut Vec<u8>)
+    requires label { length label.now ≤ 65535 }
+    requires room { vec_len to.old + length label.now + 2 ≤ vec_capacity to.old }
+    ensures { to.new.items ≡ to.old.items ++ (length label.now / 256 ∷ length label.now % 256 ∷ []) ++ label.now }
+{
+    put(&(label.len() as u16).to_be_bytes(), to);
+    put(label, to);
+}
+
+/// Appends an entry: one byte with the length of the name, the name, two bytes with the length of the label in bytes, the higher byte first, and the label.
+///
+/// The only error is that memory is refused, and then nothing is appended. Cost: linear in the entry, for which memory is taken at once.
+pub fn append_entry(name: &[u8], label: &[u8], to: &mut Vec<u8>) -> Result<(), AllocError>
+    requires name { length name.now ≤ 129 }
+    requires label { length label.now ≤ 65535 }
+    ensures entry { OnOk result (to.new.items ≡ to.old.items ++ entry_bytes (record { name = name.now; label = label.now })) }
+    ensures err { OnErr result (to.new.items ≡ to.old.items) }
+{
+    to.reserve(name.len() + label.len() + 3)?;
+    to.push_reserved(name.len() as u8);
+    put(name, to);
+    put_label(label, to);
+    Ok(())
+}
+
+/// Appends the entry of the item that is named by an instance and a port, as `append_entry` does: its name is these two with a dot between.
+///
+/// The only error is that memory is refused, and then nothing is appended. Cost: linear in the entry, for which memory is taken at once.
+pub fn append_item(
+    instance: &[u8],
+    port: &[u8],
+    label: &[u8],
+    to: &mut Vec<u8>,
+) -> Result<(), AllocError>
+    requires name { length (dotted instance.now port.now) ≤ 129 }
+    requires label { length label.now ≤ 65535 }
+    ensures entry { OnOk result (to.new.items ≡ to.old.items ++ entry_bytes (record { name = dotted instance.now port.now; label = label.now })) }
+    ensures err { OnErr result (to.new.items ≡ to.old.items) }
+{
+    let count = instance.len() + port.len() + 1;
+    to.reserve(count + label.len() + 3)?;
+    to.push_reserved(count as u8);
+    put(instance, to);
+    to.push_reserved(b'.');
+    put(port, to);
+    put_label(label, to);
     Ok(())
 }

@@ -5,8 +5,9 @@ mod append;
 mod fault;
 mod front;
 mod head;
+mod key;
 mod store;
 
-pub use append::{append_entry, append_head};
+pub use append::{append_entry, append_head, append_item};
 pub use fault::StoreFault;
 pub use store::Store;

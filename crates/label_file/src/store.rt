@@ -5,62 +5,89 @@ ghost use Rattle.wf_model.specs.Linear.{IsLinear};
 ghost use Rattle.wf_recur.specs.Cycles.{AreCyclesOf};
 ghost use Rattle.label_file.specs.Stored.{IsStoreFault, IsStoreOf, names_held, no_entry};
 ghost use Rattle.label_file.specs.Adding.{held, IsAdded, IsRefused};
+ghost use Rattle.label_file.specs.Hashed.{AreHashed, IsHashed};
 
 use crate::fault::StoreFault;
 use crate::front::{count_entries, cut_front};
 use crate::head::behind_head;
+use crate::key::HashedName;
 use indexmap::IndexMap;
 use name_text::split_item;
 use std::alloc::{AllocError, Global};
 use std::marker::Model;
 use wf_label::LabelRef;
-use wf_names::{KeyedHash, NameKey};
+use wf_names::KeyedHash;
 use wf_recur::Cycles;
 use wf_spec::Grammar;
 
 /// Whether an entry has this name.
-fn holds(entries: &IndexMap<NameKey, LabelRef, KeyedHash>, name: &[u8]) -> bool
-    ensures { IsTrue result ↔ IsIn name.now (names_held (held entries.now.entries)) }
+fn holds(keyed: &KeyedHash, entries: &IndexMap<HashedName, LabelRef>, name: HashedName<'_>) -> bool
+    requires entries { AreHashed keyed.now entries.now.entries }
+    requires name { IsHashed keyed.now name }
+    ensures { IsTrue result ↔ IsIn name.entry.bytes.now (names_held (held entries.now.entries)) }
 {
-    let key = NameKey { bytes: name };
-    entries.contains_key(&key)
+    let _keyed = keyed;
+    entries.contains_key(&name)
 }
 
 /// Adds an entry behind the others, if its name is new, and tells whether it is. Where it is not, the entry of this name has the label now. The only error is that memory is refused.
-///
-/// The name is hashed once. An `Entry` of the map would leave the label before in its place, but no clause tells what a map with borrowed keys holds after an `Entry` of it is dropped.
 fn put<'a>(
-    entries: &mut IndexMap<NameKey<'a>, LabelRef<'a>, KeyedHash>,
-    name: &'a [u8],
+    keyed: &KeyedHash,
+    entries: &mut IndexMap<HashedName<'a>, LabelRef<'a>>,
+    name: HashedName<'a>,
     label: LabelRef<'a>,
 ) -> Result<bool, AllocError>
-    ensures free { IfOk result (λ is_new. is_new ≡ true → IsIn name.now (names_held (held entries.old.entries)) → ⊥) }
-    ensures added { IfOk result (λ is_new. is_new ≡ true → held entries.new.entries ≡ held entries.old.entries ++ record { name = name.now; bits = label.entry } ∷ []) }
-    ensures taken { IfOk result (λ is_new. is_new ≡ false → IsIn name.now (names_held (held entries.old.entries))) }
+    requires entries { AreHashed keyed.now entries.old.entries }
+    requires name { IsHashed keyed.now name }
+    ensures free { IfOk result (λ is_new. is_new ≡ true → IsIn name.entry.bytes.now (names_held (held entries.old.entries)) → ⊥) }
+    ensures added { IfOk result (λ is_new. is_new ≡ true → held entries.new.entries ≡ held entries.old.entries ++ record { name = name.entry.bytes.now; bits = label.entry } ∷ []) }
+    ensures taken { IfOk result (λ is_new. is_new ≡ false → IsIn name.entry.bytes.now (names_held (held entries.old.entries))) }
     ensures few { length entries.new.entries ≤ length entries.old.entries + 1 }
+    ensures entries { AreHashed keyed.now entries.new.entries }
 {
-    match entries.insert(NameKey { bytes: name }, label) {
+    let _keyed = keyed;
+    match entries.insert(name, label) {
         Ok(None) => Ok(true),
         Ok(Some(_)) => Ok(false),
         Err(_) => Err(AllocError),
     }
 }
 
+/// The label of the entry of this name; None where no entry has it.
+fn find<'a>(
+    keyed: &KeyedHash,
+    entries: &IndexMap<HashedName<'a>, LabelRef<'a>>,
+    name: HashedName<'_>,
+) -> Option<LabelRef<'a>>
+    requires entries { AreHashed keyed.now entries.now.entries }
+    requires name { IsHashed keyed.now name }
+    ensures found { IfSome result (λ l. IsIn (record { name = name.entry.bytes.now; bits = l }) (held entries.now.entries)) }
+    ensures none { IfNone result (IsIn name.entry.bytes.now (names_held (held entries.now.entries)) → ⊥) }
+{
+    let _keyed = keyed;
+    let Some(label) = entries.get(&name) else {
+        return None;
+    };
+    Some(label.copied())
+}
+
 /// The entries of a label file, in the order of the file, found by name. It keeps no copy of a name or of a label: all are parts of the bytes of the file.
 #[derive(Drop)]
 pub struct Store<'a> {
-    entries: IndexMap<NameKey<'a>, LabelRef<'a>, KeyedHash>,
+    keyed: KeyedHash,
+    entries: IndexMap<HashedName<'a>, LabelRef<'a>>,
 }
 
 impl<'a> Model for Store<'a> {
     ghost use Rattle.std.specs.Prelude.{◌<◌, ◌^◌, List, length, map};
     ghost use Rattle.label_file.specs.Stored.{EntryHeld};
+    ghost use Rattle.label_file.specs.Hashed.{AreHashed};
 
     ghost Value = { List EntryHeld };
 
     ghost view = { λ s. map (λ e. record { name = e.0.bytes.now; bits = e.1 }) s.entries.entries };
 
-    ghost invariant = { λ s. length s.entries.entries < 2 ^ 32 };
+    ghost invariant = { λ s. (length s.entries.entries < 2 ^ 32) × AreHashed s.keyed s.entries.entries };
 }
 
 impl<'a> Store<'a> {
@@ -103,7 +130,8 @@ impl<'a> Store<'a> {
         let mut rest = behind_head(digest, bytes)?;
         let count = count_entries(rest);
         let mut store = Store {
-            entries: IndexMap::with_capacity_and_hasher(alloc, count, KeyedHash::new(key))?,
+            keyed: KeyedHash::new(key),
+            entries: IndexMap::with_capacity(alloc, count)?,
         };
         while !rest.is_empty() {
             let Some(front) = cut_front(rest) else {
@@ -135,13 +163,15 @@ impl<'a> Store<'a> {
         if split_item(name).is_none() {
             return Err(StoreFault::BadName { entry });
         }
+        let name = HashedName::new(&self.keyed, name);
+        // What is read of the table here is at hand when the entry is put.
+        if holds(&self.keyed, &self.entries, name) {
+            return Err(StoreFault::NameTwice { entry });
+        }
         let Ok(label) = LabelRef::check(g, cycles, label) else {
-            if holds(&self.entries, name) {
-                return Err(StoreFault::NameTwice { entry });
-            }
             return Err(StoreFault::BadLabel { entry });
         };
-        if !put(&mut self.entries, name, label)? {
+        if !put(&self.keyed, &mut self.entries, name, label)? {
             return Err(StoreFault::NameTwice { entry });
         }
         Ok(())
@@ -154,11 +184,29 @@ impl<'a> Store<'a> {
         ensures found { IfSome result (λ l. IsIn (record { name = name.now; bits = l }) self.now) }
         ensures none { IfNone result (IsIn name.now (names_held self.now) → ⊥) }
     {
-        let key = NameKey { bytes: name };
-        let Some(label) = self.entries.get(&key) else {
-            return None;
-        };
-        Some(label.copied())
+        let name = HashedName::new(&self.keyed, name);
+        find(&self.keyed, &self.entries, name)
+    }
+
+    /// The labels of the entries of two names, each as `get` gives it.
+    ///
+    /// Cost: two look-ups by hashing, which wait for memory at one time. Takes no memory.
+    pub fn get_both(
+        &self,
+        first: &[u8],
+        second: &[u8],
+    ) -> (Option<LabelRef<'a>>, Option<LabelRef<'a>>)
+        ensures first_found { IfSome result.0 (λ l. IsIn (record { name = first.now; bits = l }) self.now) }
+        ensures first_none { IfNone result.0 (IsIn first.now (names_held self.now) → ⊥) }
+        ensures second_found { IfSome result.1 (λ l. IsIn (record { name = second.now; bits = l }) self.now) }
+        ensures second_none { IfNone result.1 (IsIn second.now (names_held self.now) → ⊥) }
+    {
+        let first = HashedName::new(&self.keyed, first);
+        let second = HashedName::new(&self.keyed, second);
+        (
+            find(&self.keyed, &self.entries, first),
+            find(&self.keyed, &self.entries, second),
+        )
     }
 
     /// How many entries there are. Takes no memory.

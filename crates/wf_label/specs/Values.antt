@@ -1,7 +1,8 @@
 -- Labels as the definitions see them.
-use Rattle.std.specs.Prelude.{◌≡◌, ℕ, ◌≤◌, Bool, List, map, length}
+use Rattle.std.specs.Prelude.{◌≡◌, ℕ, ◌+◌, ◌≤◌, Bool, false, List, ◌∷◌, ◌++◌, map, length, Option}
+use Rattle.bit_pack.specs.Gamma.{gamma}
 use Rattle.wf_model.specs.Grammar.{Grammar}
-use Rattle.label_model.specs.Labels.{PlaceStep, Place, Label, Input, Output, OfEdge, label_bits, IsLabel}
+use Rattle.label_model.specs.Labels.{PlaceStep, Place, Label, Input, Output, OfEdge, chain_bits, label_bits, IsLabel}
 use Rattle.wf_label.specs.declared.label.PlaceStep.{PlaceStep as PlaceStepHeld}
 use Rattle.wf_label.specs.declared.label.Place.{Place as PlaceHeld}
 use Rattle.wf_label.specs.declared.label.Label.{Label as LabelHeld}
@@ -30,3 +31,7 @@ HasSteps most (OfEdgeHeld p) = length p.steps ≤ most
 -- the bits of a label of the grammar
 abbrev pub AreLabelBits : Grammar → List Bool → Type 0
 AreLabelBits g bits = (l : Label) × IsLabel g l × (bits ≡ label_bits l)
+
+-- an ending up to its edge: its chain number, a zero, and the number of the alternative
+abbrev pub alternative_bits : Option ℕ → ℕ → List Bool
+alternative_bits chain a = chain_bits chain ++ (false ∷ gamma (a + 1))

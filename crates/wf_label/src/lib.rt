@@ -17,4 +17,4 @@ pub use check::Malformed;
 pub use cursor::{Cursor, Mark};
 pub use label::{Label, Place, PlaceStep};
 pub use reference::LabelRef;
-pub use write::{with_ending, with_step, write_label};
+pub use write::{begin_labels, end_label, with_step, write_anew, write_label};

@@ -8,9 +8,9 @@ use Rattle.wf_label.proofs.write.write_place.Goals as goal
 behind : (w x y : List Bool) → ((w ++ true ∷ []) ++ x) ++ y ≡ w ++ ((true ∷ x) ++ y)
 behind w x y = ap (λ z. z ++ y) (append_assoc w (true ∷ []) x) ∙ append_assoc w (true ∷ x) y
 
-pub returns : goal.returns
+pub returns-clause-ok : goal.returns-clause-ok
 unfolding label_bits
-returns c =
+returns-clause-ok c =
     let p = c.args.place.now in
     let e = ending_bits p.chain p.alternative p.edge.0 in
     let all : take c.loop-step.step-index c.items-step-items.result.now ≡ p.steps = take_all c.loop-step.step-index c.items-step-items.result.now c.loop-step-test.false ∙ c.items-step-items.ensures in

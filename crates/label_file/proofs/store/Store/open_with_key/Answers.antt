@@ -12,8 +12,8 @@ returns-in_err-rest-clause-fault c =
 
 pub loop-rest-init : goal.loop-rest-init
 loop-rest-init c =
-    let entries = c.in_ok-with_capacity_and_hasher.field-0.entries in
-    let none : entries ≡ [] = nil_from_length entries c.in_ok-with_capacity_and_hasher.ensures.len in
+    let entries = c.in_ok-with_capacity.field-0.entries in
+    let none : entries ≡ [] = nil_from_length entries c.in_ok-with_capacity.ensures.len in
     subst (λ es. AreReadSoFar c.args.g.now.core c.args.digest.now c.args.bytes.now c.in_ok-rest.rest.now (held es)) (sym none)
     (none_read c.args.g.now.core c.args.digest.now c.args.bytes.now c.in_ok-rest.rest.now (omega arith) c.in_ok-rest.ensures.head)
 
