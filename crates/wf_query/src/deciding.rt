@@ -19,7 +19,7 @@ use wf_vlabel::ViewLabel;
 
 /// Answers a query from the labels of the two entries and the label of a view alone.
 ///
-/// Cost: two look-ups by hashing, and one decision, whose row products are counted. Takes no memory.
+/// Cost: two look-ups by hashing, at one time, and one decision, whose row products are counted. Takes no memory.
 pub fn answer<L: Ledger>(
     store: &Store<'_>,
     vl: &ViewLabel<'_>,
@@ -34,10 +34,11 @@ pub fn answer<L: Ledger>(
     ensures room { scratch.new ≡ scratch.old }
     ensures cost { (l : ℕ) → ((k : ℕ) → length (round_at vl.now.cycles k) ≤ l) → steps.new ≤ steps.old + most_products vl.now.grammar l }
 {
-    let Some(first) = store.get(query.first) else {
+    let (first_label, second_label) = store.get_both(query.first, query.second);
+    let Some(first) = first_label else {
         return Answer::Unknown;
     };
-    let Some(second) = store.get(query.second) else {
+    let Some(second) = second_label else {
         return Answer::Unknown;
     };
     told(decide(vl, scratch, first, second, steps))
