@@ -1,10 +1,11 @@
 // Why an expand event is refused.
-ghost use Rattle.std.specs.Prelude.{◌≡◌, ℕ, List, length};
+ghost use Rattle.std.specs.Prelude.{◌≡◌, ℕ, true, List, length, is_some, IfSome, IfNone};
 ghost use Rattle.wf_model.specs.declared.event.Event.{Event};
 ghost use Rattle.wf_model.specs.declared.event.Event.TheVariants.{Expand};
 ghost use Rattle.wf_model.specs.Run.{IsRun, made, names_of};
 ghost use Rattle.wf_model.specs.Faults.{fault_of};
-ghost use Rattle.run_faults.specs.Standing.{IsFound};
+ghost use Rattle.run_faults.specs.Standing.{IsFound, Fits};
+ghost use Rattle.run_faults.specs.Order.{names_fault, HasFault, IsLeftToNames};
 
 use crate::names::{Taken, repeats};
 use name_text::are_short;
@@ -17,22 +18,22 @@ pub struct Found {
     pub expanded: bool,
 }
 
-/// Why a run of at most `most` instances refuses to expand the instance of a name; None where it takes the event. The table has the names of the instances, `count` of them, and `found` is the instance.
+/// Why a run refuses to expand the instance of a name, whatever names are taken; None where only the names of new instances are left to try. There are `count` instances, and `found` is the instance of the name.
 ///
-/// In order of trial: `NotStarted`, `UnknownInstance`, `UnknownProduction`, `WrongHead`, `AlreadyExpanded`, `PositionsWrong`, `NameBad`, `NameTwice`, `TooManyInstances`.
+/// In order of trial: `NotStarted`, `UnknownInstance`, `UnknownProduction`, `WrongHead`, `AlreadyExpanded`, `PositionsWrong`, `NameBad`.
 ///
-/// Cost: one look-up for each name of the event, which is also compared with the names before it in the event, at most 63.
-pub fn expand_fault<T: Taken>(
+/// Cost: linear in the bytes of the names. No name is looked up.
+pub fn fault_before_names(
     g: &Grammar,
-    most: u32,
-    taken: &T,
     count: usize,
     found: Option<Found>,
     production: u64,
     names: &[Name],
 ) -> Option<RunFault>
-    requires { count ≡ length (T.names taken.now) }
-    ensures { (events : List Event) (name : List ℕ) → IsRun g.now.core g.now.core.start events → T.names taken.now ≡ names_of (made g.now.core g.now.core.start events) → IsFound g.now.core events name found → result ≡ fault_of g.now.core most events (Expand name production names.now) }
+    ensures first { IfSome result (HasFault g.now.core count found production names.now) }
+    ensures left { IfNone result (IsLeftToNames g.now.core count found production names.now) }
+    ensures there { IfNone result (is_some found ≡ true) }
+    ensures fits { IfNone result (Fits g.now.core production names.now) }
 {
     if count == 0 {
         return Some(RunFault::NotStarted);
@@ -57,6 +58,23 @@ pub fn expand_fault<T: Taken>(
     if !are_short(names) {
         return Some(RunFault::NameBad);
     }
+    None
+}
+
+/// Why names cannot be those of new instances of a run of at most `most`; None where they can. The table has the names of the instances, `count` of them.
+///
+/// In order of trial: `NameTwice`, `TooManyInstances`.
+///
+/// Cost: one look-up for each of the names, which is also compared with those before it.
+pub fn fault_of_names<T: Taken>(
+    most: u32,
+    taken: &T,
+    count: usize,
+    names: &[Name],
+) -> Option<RunFault>
+    requires { count ≡ length (T.names taken.now) }
+    ensures { result ≡ names_fault most (T.names taken.now) names.now }
+{
     if repeats(taken, names) {
         return Some(RunFault::NameTwice);
     }
@@ -64,4 +82,27 @@ pub fn expand_fault<T: Taken>(
         return Some(RunFault::TooManyInstances);
     }
     None
+}
+
+/// Why a run of at most `most` instances refuses to expand the instance of a name; None where it takes the event. The table has the names of the instances, `count` of them, and `found` is the instance.
+///
+/// In order of trial: `NotStarted`, `UnknownInstance`, `UnknownProduction`, `WrongHead`, `AlreadyExpanded`, `PositionsWrong`, `NameBad`, `NameTwice`, `TooManyInstances`.
+///
+/// Cost: one look-up for each name of the event, which is also compared with the names before it in the event, at most 63.
+pub fn expand_fault<T: Taken>(
+    g: &Grammar,
+    most: u32,
+    taken: &T,
+    count: usize,
+    found: Option<Found>,
+    production: u64,
+    names: &[Name],
+) -> Option<RunFault>
+    requires { count ≡ length (T.names taken.now) }
+    ensures { (events : List Event) (name : List ℕ) → IsRun g.now.core g.now.core.start events → T.names taken.now ≡ names_of (made g.now.core g.now.core.start events) → IsFound g.now.core events name found → result ≡ fault_of g.now.core most events (Expand name production names.now) }
+{
+    if let Some(fault) = fault_before_names(g, count, found, production, names) {
+        return Some(fault);
+    }
+    fault_of_names(most, taken, count, names)
 }

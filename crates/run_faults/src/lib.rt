@@ -5,6 +5,6 @@ mod expand;
 mod names;
 mod start;
 
-pub use expand::{Found, expand_fault};
+pub use expand::{Found, expand_fault, fault_before_names, fault_of_names};
 pub use names::Taken;
 pub use start::start_fault;

@@ -1,8 +1,9 @@
 -- What the fields of a run keep, an expansion later.
-use Rattle.std.proofs.Common.{◌≡◌, ℕ, suc, ◌+◌, ◌^◌, ◌<◌, ◌∙◌, List, [], ◌∷◌, ◌++◌, map, length, sym, ap, subst, arith}
+use Rattle.std.proofs.Common.{◌≡◌, ℕ, suc, ◌+◌, ◌^◌, ◌<◌, ◌∙◌, false, List, [], ◌∷◌, ◌++◌, map, length, sym, ap, subst, arith}
 use Rattle.wf_model.specs.Lists.{IsIn}
 use Rattle.wf_model.specs.WellFormed.{IsWellFormed}
 use Rattle.wf_model.specs.declared.event.Event.TheVariants.{Expand}
+use Rattle.wf_model.specs.Faults.{some_twice}
 use Rattle.wf_model.proofs.Lists.{in_at, at_below, at_is, in_map}
 use Rattle.bit_pack.specs.Written.{IsWhole}
 use Rattle.wf_spec.specs.Held.{HeldGrammar}
@@ -14,6 +15,7 @@ use Rattle.wf_run.specs.Opening.{opened_nodes, opened_run}
 use Rattle.wf_run.specs.Growing.{held_at, CanOpen}
 use Rattle.wf_run.proofs.Whole.{whole_length}
 use Rattle.wf_run.proofs.Limits.{prefix_small}
+use Rattle.wf_run.proofs.NewNames.{none_twice}
 use Rattle.wf_run.proofs.Extending.{opened}
 
 -- a node that fills its bytes has fewer than 2^17 bits where the instances have
@@ -30,11 +32,11 @@ module _ (g : HeldGrammar) (most : ℕ) (names : List (List ℕ)) (nodes after :
       ap (λ l. record { grammar = g; most = most; names = names ++ new; nodes = l; expands = expands + 1 }) map_is ∙
       ap (λ n. record { grammar = g; most = most; names = names ++ new; nodes = opened_nodes g.core (map node_of nodes) k p (held_at nodes k) (length new); expands = n }) e
 
-  pub kept_after : (c : CyclesSeen) → IsWellFormed g.core → IsRunKept (run_of g most names nodes expands) c nodes → CanOpen (run_of g most names nodes expands) k p new →
+  pub kept_after : (c : CyclesSeen) → IsWellFormed g.core → IsRunKept (run_of g most names nodes expands) c nodes → CanOpen (run_of g most names nodes expands) k p new → some_twice names new ≡ false →
       ((n : NodeHeld) → IsIn n after → IsWhole n.bytes.now n.length) → IsRunKept (run_of g most (names ++ new) after (expands + 1)) c after
-  kept_after c wf kept opens whole =
+  kept_after c wf kept opens fresh whole =
       let r = run_of g most names nodes expands in
-      let next = opened r kept.events k p new wf kept.run opens in
+      let next = opened r kept.events k p new wf kept.run opens.there (opens.left kept.events kept.run ∙ none_twice names new fresh) in
       let few = prefix_small (opened_run r k p new) _ wf next kept.most kept.linear in
       record {
         linear = kept.linear;

@@ -11,6 +11,9 @@ pub mod OpenedNodes
 pub mod OpenedRun
 pub mod NextEvents
 pub mod Limits
+pub mod InsertedNames
+pub mod NewNames
+pub mod EventFaults
 pub mod Extending
 pub mod Kept
 pub mod Roots

@@ -1,14 +1,18 @@
 -- What an expansion adds to the nodes of a run.
-use Rattle.std.specs.Prelude.{◌≡◌, ℕ, ◌<◌, ◌^◌, List, [], ◌++◌, map, length, get_or, None, IfSome}
+use Rattle.std.specs.Prelude.{◌≡◌, ℕ, ◌<◌, ◌≤◌, ◌+◌, ◌^◌, List, [], ◌++◌, map, length, get_or, position, bytes_eq, Option, None, option_map, IfSome}
 use Rattle.wf_model.specs.Lists.{IsIn, numbers_from}
 use Rattle.wf_model.specs.Grammar.{Grammar}
 use Rattle.wf_model.specs.declared.event.Event.{Event}
 use Rattle.wf_model.specs.declared.event.Event.TheVariants.{Expand}
+use Rattle.wf_model.specs.declared.event.RunFault.{RunFault}
 use Rattle.wf_model.specs.Faults.{fault_of}
 use Rattle.bit_pack.specs.Written.{first_bits, IsWhole}
+use Rattle.run_faults.specs.Standing.{Fits}
 use Rattle.wf_run.specs.declared.node.Node.{Node as NodeHeld}
+use Rattle.wf_run.specs.declared.node.NodeNo.{NodeNo}
 use Rattle.wf_run.specs.declared.prefix.PrefixRef.{PrefixRef}
 use Rattle.wf_run.specs.Runs.{Node, Prefix, RunSeen, name_at, IsRunOf}
+use Rattle.wf_run.specs.Names.{twice_fault}
 use Rattle.wf_run.specs.Nodes.{node_of}
 use Rattle.wf_run.specs.Opening.{child_node}
 
@@ -33,7 +37,17 @@ pub record AddsChildren (g : Grammar) (p : ℕ) (parent : Prefix) (count : ℕ) 
   pub nodes : map node_of more ≡ map (child_node g p parent) (numbers_from 0 count)
   pub whole : (n : NodeHeld) → IsIn n more → IsWhole n.bytes.now n.length
 
--- instance k of a run is there, and an event that expands it by production p with these names extends the run
+-- why the event is refused that expands the instance of a name by production p with these names, whatever the events of the run were
+abbrev pub IsExpandFault : RunSeen → List ℕ → ℕ → List (List ℕ) → Option RunFault → Type 0
+IsExpandFault r name p names fault = (events : List Event) → IsRunOf r events → fault_of r.grammar.core r.most events (Expand name p names) ≡ fault
+
+-- the same of each name by which this number of an instance, or none, is found
+abbrev pub IsFaultAt : RunSeen → Option NodeNo → ℕ → List (List ℕ) → Option RunFault → Type 0
+IsFaultAt r n p names fault = (name : List ℕ) → option_map (λ (n : NodeNo). n.0) n ≡ position (bytes_eq name) r.names → IsExpandFault r name p names fault
+
+-- instance k of a run is there, production p has a position for each of these names, there is room for as many instances, and the event that expands the instance so is refused for no more than a name that is taken
 pub record CanOpen (r : RunSeen) (k p : ℕ) (names : List (List ℕ)) : Type 0 where
   pub there : k < length r.nodes
-  pub extends : (events : List Event) → IsRunOf r events → fault_of r.grammar.core r.most events (Expand (name_at r k) p names) ≡ None
+  pub fits : Fits r.grammar.core p names
+  pub room : length r.nodes + length names ≤ r.most
+  pub left : IsExpandFault r (name_at r k) p names (twice_fault r.names names)

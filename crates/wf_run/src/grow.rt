@@ -1,5 +1,5 @@
 // An expansion, added to the fields of a run.
-ghost use Rattle.std.specs.Prelude.{◌≡◌, ℕ, ◌<◌, ◌≤◌, ◌+◌, ◌^◌, ◌++◌, Some, false, length, take, map, IfOk, IfSome, OnOk, OnErr};
+ghost use Rattle.std.specs.Prelude.{◌≡◌, ℕ, ◌<◌, ◌≤◌, ◌+◌, ◌^◌, ◌++◌, Some, false, length, take, map, IfOk, IfErr, IfSome, OnOk, OnErr};
 ghost use Rattle.wf_model.specs.Lists.{IsIn, numbers_from};
 ghost use Rattle.wf_model.specs.Grammar.{body_of};
 ghost use Rattle.wf_model.specs.Linear.{IsLinear};
@@ -7,6 +7,7 @@ ghost use Rattle.wf_model.specs.Faults.{some_twice};
 ghost use Rattle.bit_pack.specs.Written.{IsWhole};
 ghost use Rattle.wf_recur.specs.Cycles.{AreCyclesOf};
 ghost use Rattle.wf_run.specs.declared.node.Node.{Node as NodeHeld};
+ghost use Rattle.wf_run.specs.Names.{AreNamesRefused};
 ghost use Rattle.wf_run.specs.Nodes.{node_of, IsFilledPrefix};
 ghost use Rattle.wf_run.specs.Opening.{opened_nodes};
 ghost use Rattle.wf_run.specs.Growing.{prefix_of, held_at, CanGoOn, AddsChildren};
@@ -16,9 +17,10 @@ use crate::names::PlacedNames;
 use crate::node::{Node, NodeNo};
 use crate::prefix::PrefixRef;
 use bumpalo::Bump;
+use bumpalo::collections::into_bump_slice;
 use std::alloc::{AllocError, Global};
 use wf_recur::Cycles;
-use wf_spec::{Grammar, Name, PosNo, ProdNo, Step};
+use wf_spec::{Grammar, Name, PosNo, ProdNo, RunFault, Step};
 
 /// Appends the nodes of the children that a production makes. After an error some of them may be there.
 fn append_children<'a>(
@@ -49,20 +51,15 @@ fn append_children<'a>(
 }
 
 /// A list of instances, the numbers from one on, so many, in the arena.
-fn place_list<'a>(
-    alloc: Global,
-    arena: &'a Bump,
-    first: u32,
-    count: u32,
-) -> Result<&'a [NodeNo], AllocError>
+fn place_list<'a>(arena: &'a Bump, first: u32, count: u32) -> Result<&'a [NodeNo], AllocError>
     requires { first + count < 2 ^ 32 }
     ensures { IfOk result (λ ks. map (λ k. k.0) ks.now ≡ numbers_from first count) }
 {
-    let mut list = Vec::new(alloc);
+    let mut list = Vec::with_capacity(arena, count as usize)?;
     for k in first..first + count {
         list.push(NodeNo(k))?;
     }
-    Ok(arena.try_alloc_slice_copy(&list)?)
+    Ok(into_bump_slice(list))
 }
 
 /// An expansion of an instance by a production, with a name for each child.
@@ -75,7 +72,7 @@ pub(crate) struct Expansion<'n> {
 
 /// Adds an expansion: the nodes of the children, their names, and to the instance the list of them. After an error all is as it was.
 ///
-/// The only error is that memory is refused. The list is set last, and nothing after it can be refused.
+/// Errors: `NameTwice` where a name is taken already, or stands twice among them; `NoMemory`. The list is set last, and nothing after it can be refused.
 pub(crate) fn grow<'a>(
     alloc: Global,
     arena: &'a Bump,
@@ -84,19 +81,20 @@ pub(crate) fn grow<'a>(
     taken: &mut PlacedNames<'a>,
     nodes: &mut Vec<Node<'a>>,
     e: Expansion,
-) -> Result<(), AllocError>
+) -> Result<(), RunFault>
     requires there { e.instance.0 < length nodes.old.items }
     requires production { e.production.0 < length g.now.core.productions }
     requires one_each { length e.names.now ≡ length (body_of g.now.core e.production.0) }
-    requires fresh { some_twice taken.old e.names.now ≡ false }
     requires room { length nodes.old.items + length e.names.now ≤ 2 ^ 24 }
     requires linear { IsLinear g.now.core }
     requires cycles { AreCyclesOf g.now.core cycles.now }
     requires filled { (n : NodeHeld) → IsIn n nodes.old.items → IsFilledPrefix n }
     requires chain { IfSome (held_at nodes.old.items e.instance.0).chain (λ c. c < 2 ^ 24) }
+    ensures fresh { OnOk result (some_twice taken.old e.entry.names.now ≡ false) }
     ensures names { OnOk result (taken.new ≡ taken.old ++ e.entry.names.now) }
     ensures nodes { OnOk result (map node_of nodes.new.items ≡ opened_nodes g.now.core (map node_of nodes.old.items) e.entry.instance.0 e.entry.production.0 (held_at nodes.old.items e.entry.instance.0) (length e.entry.names.now)) }
     ensures whole { OnOk result ((n : NodeHeld) → IsIn n nodes.new.items → IsWhole n.bytes.now n.length) }
+    ensures refused { IfErr result (AreNamesRefused taken.old e.entry.names.now) }
     ensures same_taken { OnErr result (taken.new ≡ taken.old) }
     ensures same_nodes { OnErr result (nodes.new.items ≡ nodes.old.items) }
 {
@@ -107,13 +105,13 @@ pub(crate) fn grow<'a>(
         length: node.length,
         chain: node.chain,
     };
-    if let Err(fault) = append_children(alloc, arena, g, cycles, nodes, parent, e.production) {
+    if let Err(_) = append_children(alloc, arena, g, cycles, nodes, parent, e.production) {
         nodes.truncate(before);
-        return Err(fault);
+        return Err(RunFault::NoMemory);
     }
-    let Ok(list) = place_list(alloc, arena, before as u32, e.names.len() as u32) else {
+    let Ok(list) = place_list(arena, before as u32, e.names.len() as u32) else {
         nodes.truncate(before);
-        return Err(AllocError);
+        return Err(RunFault::NoMemory);
     };
     if let Err(fault) = taken.add_all(e.names) {
         nodes.truncate(before);

@@ -1,15 +1,15 @@
 // Names in an arena, and their numbers.
-ghost use Rattle.std.specs.Prelude.{◌≡◌, ◌<◌, ◌++◌, ◌∷◌, [], List, ℕ, Option, Some, None, false, length, take, map, get_or, position, IfOk, OnOk, OnErr, IfSome, bytes_eq};
+ghost use Rattle.std.specs.Prelude.{◌≡◌, ◌<◌, ◌++◌, ◌∷◌, [], List, ℕ, Option, Some, None, false, length, take, map, get_or, position, OnOk, IfErr, OnErr, IfSome, bytes_eq};
 ghost use Rattle.wf_model.specs.Faults.{is_one_of, some_twice};
-ghost use Rattle.wf_run.specs.Names.{placed};
+ghost use Rattle.wf_run.specs.Names.{placed, IsNameRefused, AreNamesRefused};
 
 use bumpalo::Bump;
 use indexmap::IndexSet;
 use run_faults::Taken;
-use std::alloc::{AllocError, Global};
+use std::alloc::Global;
 use std::marker::Model;
 use wf_names::{KeyedHash, NameKey};
-use wf_spec::Name;
+use wf_spec::{Name, RunFault};
 
 fn holds(names: &IndexSet<NameKey, KeyedHash>, name: &[u8]) -> bool
     ensures { result ≡ is_one_of (placed names.now.keys) name.now }
@@ -22,13 +22,17 @@ fn put<'a>(
     arena: &'a Bump,
     names: &mut IndexSet<NameKey<'a>, KeyedHash>,
     name: &[u8],
-) -> Result<(), AllocError>
-    requires { is_one_of (placed names.old.keys) name.now ≡ false }
+) -> Result<(), RunFault>
+    ensures fresh { OnOk result (is_one_of (placed names.old.keys) name.now ≡ false) }
     ensures added { OnOk result (placed names.new.keys ≡ placed names.old.keys ++ name.now ∷ []) }
-    ensures err { OnErr result (names.new.keys ≡ names.old.keys) }
+    ensures refused { IfErr result (IsNameRefused (placed names.old.keys) name.now) }
+    ensures unchanged { OnErr result (names.new.keys ≡ names.old.keys) }
 {
     let bytes: &'a [u8] = arena.try_alloc_slice_copy(name)?;
-    names.insert(NameKey { bytes })?;
+    let is_new = names.insert(NameKey { bytes })?;
+    if !is_new {
+        return Err(RunFault::NameTwice);
+    }
     Ok(())
 }
 
@@ -75,20 +79,30 @@ impl<'a> PlacedNames<'a> {
         self.numbers[i].bytes
     }
 
-    /// Adds a new name. After an error its bytes may lie in the arena, where nothing finds them.
-    pub(crate) fn add(&mut self, name: &[u8]) -> Result<(), AllocError>
-        requires { is_one_of self.old name.now ≡ false }
+    /// Adds a name. After an error the names are as they were, and its bytes may lie in the arena, where nothing finds them.
+    ///
+    /// Errors: `NameTwice` where the name is there already; `NoMemory`.
+    ///
+    /// Cost: one look-up; the name is hashed once.
+    pub(crate) fn add(&mut self, name: &[u8]) -> Result<(), RunFault>
+        ensures fresh { OnOk result (is_one_of self.old name.now ≡ false) }
         ensures added { OnOk result (self.new ≡ self.old ++ name.now ∷ []) }
-        ensures err { OnErr result (self.new ≡ self.old) }
+        ensures refused { IfErr result (IsNameRefused self.old name.now) }
+        ensures unchanged { OnErr result (self.new ≡ self.old) }
     {
         put(self.arena, &mut self.numbers, name)
     }
 
-    /// Adds new names, all or none.
-    pub(crate) fn add_all(&mut self, list: &[Name]) -> Result<(), AllocError>
-        requires { some_twice self.old list.now ≡ false }
+    /// Adds names one after another, all or none.
+    ///
+    /// Errors: `NameTwice` where a name is there already, or stands twice in the list; `NoMemory`. The first that is met is told.
+    ///
+    /// Cost: one look-up for each name.
+    pub(crate) fn add_all(&mut self, list: &[Name]) -> Result<(), RunFault>
+        ensures fresh { OnOk result (some_twice self.old list.now ≡ false) }
         ensures added { OnOk result (self.new ≡ self.old ++ list.now) }
-        ensures err { OnErr result (self.new ≡ self.old) }
+        ensures refused { IfErr result (AreNamesRefused self.old list.now) }
+        ensures unchanged { OnErr result (self.new ≡ self.old) }
     {
         let before = self.numbers.len();
         for name in list {

@@ -1,5 +1,6 @@
 // The first instance of a run.
-ghost use Rattle.std.specs.Prelude.{◌≡◌, ◌∷◌, [], OnOk, OnErr};
+ghost use Rattle.std.specs.Prelude.{◌≡◌, ◌∷◌, [], OnOk, IfErr, OnErr};
+ghost use Rattle.wf_model.specs.declared.event.RunFault.TheVariants.{NoMemory};
 ghost use Rattle.wf_model.specs.Linear.{IsLinear};
 ghost use Rattle.wf_model.specs.WellFormed.{IsWellFormed};
 ghost use Rattle.wf_recur.specs.Cycles.{AreCyclesOf};
@@ -9,9 +10,8 @@ ghost use Rattle.wf_run.specs.Opening.{closed_node, root_prefix};
 use crate::child::begun;
 use crate::names::PlacedNames;
 use crate::node::Node;
-use std::alloc::AllocError;
 use wf_recur::Cycles;
-use wf_spec::Grammar;
+use wf_spec::{Grammar, RunFault};
 
 /// The root: its prefix has one bit, which is set, and no bits where the start module is atomic.
 pub(crate) fn root<'a>(g: &Grammar, cycles: &Cycles) -> Node<'a>
@@ -40,17 +40,18 @@ pub(crate) fn root<'a>(g: &Grammar, cycles: &Cycles) -> Node<'a>
     }
 }
 
-/// Adds the root, or leaves all as it was.
+/// Adds the root, or leaves all as it was. The only error is that memory is refused.
 pub(crate) fn plant<'a>(
     names: &mut PlacedNames<'a>,
     nodes: &mut Vec<Node<'a>>,
     root: Node<'a>,
     name: &[u8],
-) -> Result<(), AllocError>
+) -> Result<(), RunFault>
     requires no_names { names.old ≡ [] }
     requires no_nodes { nodes.old.items ≡ [] }
     ensures names { OnOk result (names.new ≡ name.now ∷ []) }
     ensures nodes { OnOk result (nodes.new.items ≡ root.entry ∷ []) }
+    ensures refused { IfErr result (λ f. f ≡ NoMemory) }
     ensures same_names { OnErr result (names.new ≡ names.old) }
     ensures same_nodes { OnErr result (nodes.new.items ≡ nodes.old.items) }
 {

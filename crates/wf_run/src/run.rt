@@ -1,17 +1,19 @@
 // Runs.
-ghost use Rattle.std.specs.Prelude.{◌≡◌, ◌⊎◌, ◌<◌, ◌≤◌, ◌^◌, ◌++◌, ◌∷◌, [], ℕ, List, Option, Some, None, length, map, option_map, position, bytes_eq, IfOk, IfErr, IfSome, OnOk, OnErr};
+ghost use Rattle.std.specs.Prelude.{◌≡◌, ◌⊎◌, ◌<◌, ◌≤◌, ◌^◌, ◌+◌, ◌++◌, ◌∷◌, [], ℕ, true, false, List, Option, Some, None, length, map, option_map, position, bytes_eq, is_some, IfOk, IfErr, IfSome, IfNone, OnOk, OnErr};
 ghost use Rattle.wf_model.specs.declared.event.Event.{Event};
 ghost use Rattle.wf_model.specs.declared.event.Event.TheVariants.{Start, Expand};
 ghost use Rattle.wf_model.specs.declared.event.RunFault.TheVariants.{NoMemory};
-ghost use Rattle.wf_model.specs.Faults.{fault_of};
+ghost use Rattle.wf_model.specs.Faults.{fault_of, some_twice};
 ghost use Rattle.wf_model.specs.Linear.{IsLinear};
 ghost use Rattle.wf_model.specs.WellFormed.{IsWellFormed};
 ghost use Rattle.bit_pack.specs.Bits.{packed};
-ghost use Rattle.run_faults.specs.Standing.{IsFound};
+ghost use Rattle.run_faults.specs.Standing.{IsFound, Fits};
+ghost use Rattle.run_faults.specs.Order.{names_fault};
 ghost use Rattle.wf_recur.specs.Cycles.{AreCyclesOf};
 ghost use Rattle.wf_run.specs.Runs.{RunSeen, node_at, name_at, IsRunOf, GoesOn};
 ghost use Rattle.wf_run.specs.Opening.{opened_run};
-ghost use Rattle.wf_run.specs.Growing.{CanOpen};
+ghost use Rattle.wf_run.specs.Names.{twice_fault, AreNamesRefused};
+ghost use Rattle.wf_run.specs.Growing.{IsExpandFault, IsFaultAt, CanOpen};
 
 use crate::grow::{Expansion, grow};
 use crate::names::PlacedNames;
@@ -19,8 +21,8 @@ use crate::node::{Node, NodeNo};
 use crate::prefix::PrefixRef;
 use crate::root::{plant, root};
 use bumpalo::Bump;
-use run_faults::{Found, expand_fault, start_fault};
-use std::alloc::{AllocError, Global};
+use run_faults::{Found, fault_before_names, fault_of_names, start_fault};
+use std::alloc::Global;
 use std::marker::Model;
 use wf_recur::Cycles;
 use wf_spec::{Grammar, ModNo, Name, ProdNo, RunFault};
@@ -198,7 +200,8 @@ impl<'a> Run<'a> {
     /// What the faults of an event depend on, of an instance that was looked up.
     fn found(&self, n: Option<NodeNo>) -> Option<Found>
         requires { IfSome n (λ n. n.0 < length self.now.nodes) }
-        ensures { (events : List Event) (name : List ℕ) → IsRunOf self.now events → option_map (λ n. n.0) n ≡ position (bytes_eq name) self.now.names → IsFound self.now.grammar.core events name result }
+        ensures found { (events : List Event) (name : List ℕ) → IsRunOf self.now events → option_map (λ n. n.0) n ≡ position (bytes_eq name) self.now.names → IsFound self.now.grammar.core events name result }
+        ensures there { is_some result ≡ is_some n }
     {
         let Some(n) = n else {
             return None;
@@ -209,7 +212,19 @@ impl<'a> Run<'a> {
         })
     }
 
-    /// Why the run refuses to expand an instance that was looked up.
+    /// Why names are refused for which the run has no room; None where it has.
+    fn fault_without_room(&self, names: &[Name]) -> Option<RunFault>
+        ensures fault { IfSome result (λ f. names_fault self.now.most self.now.names names.now ≡ Some f) }
+        ensures room { IfNone result (length self.now.nodes + length names.now ≤ self.now.most) }
+    {
+        let count = self.nodes.len();
+        if count.saturating_add(names.len()) <= self.most as usize {
+            return None;
+        }
+        fault_of_names(self.most, &self.names, count, names)
+    }
+
+    /// Why the run refuses to expand an instance that was looked up; None where no more than a name that is taken can stand against it.
     fn fault_of_expand(
         &self,
         n: Option<NodeNo>,
@@ -217,30 +232,29 @@ impl<'a> Run<'a> {
         names: &[Name],
     ) -> Option<RunFault>
         requires { IfSome n (λ n. n.0 < length self.now.nodes) }
-        ensures { (events : List Event) (name : List ℕ) → IsRunOf self.now events → option_map (λ n. n.0) n ≡ position (bytes_eq name) self.now.names → result ≡ fault_of self.now.grammar.core self.now.most events (Expand name production names.now) }
+        ensures fault { IfSome result (λ f. IsFaultAt self.now n production names.now (Some f)) }
+        ensures left { IfNone result (IsFaultAt self.now n production names.now (twice_fault self.now.names names.now)) }
+        ensures there { IfNone result (is_some n ≡ true) }
+        ensures fits { IfNone result (Fits self.now.grammar.core production names.now) }
+        ensures room { IfNone result (length self.now.nodes + length names.now ≤ self.now.most) }
     {
         let found = self.found(n);
         let count = self.nodes.len();
-        expand_fault(
-            self.grammar,
-            self.most,
-            &self.names,
-            count,
-            found,
-            production,
-            names,
-        )
+        if let Some(fault) = fault_before_names(self.grammar, count, found, production, names) {
+            return Some(fault);
+        }
+        self.fault_without_room(names)
     }
 
-    /// The numbers of an event that extends the run, or why it does not.
+    /// The numbers of an event that extends the run if none of its names is taken, or why it does not extend it.
     fn expansion<'n>(
         &self,
         instance: &[u8],
         production: u64,
         names: &'n [Name],
     ) -> Result<Expansion<'n>, RunFault>
-        ensures refused { IfErr result (λ f. (events : List Event) → IsRunOf self.now events → fault_of self.now.grammar.core self.now.most events (Expand instance.now production names.now) ≡ Some f) }
-        ensures extends { OnOk result ((events : List Event) → IsRunOf self.now events → fault_of self.now.grammar.core self.now.most events (Expand instance.now production names.now) ≡ None) }
+        ensures refused { IfErr result (λ f. IsExpandFault self.now instance.now production names.now (Some f)) }
+        ensures left { OnOk result (IsExpandFault self.now instance.now production names.now (twice_fault self.now.names names.now)) }
         ensures instance { IfOk result (λ e. position (bytes_eq instance.now) self.now.names ≡ Some e.instance.0) }
         ensures production { IfOk result (λ e. e.production.0 ≡ production) }
         ensures names { IfOk result (λ e. e.names.now ≡ names.now) }
@@ -262,15 +276,19 @@ impl<'a> Run<'a> {
         })
     }
 
-    /// Takes an expansion that extends the run. After an error the run is as it was.
-    fn open(&mut self, e: Expansion) -> Result<(), AllocError>
+    /// Takes an expansion that extends the run if none of its names is taken. After an error the run is as it was.
+    ///
+    /// Errors: `NameTwice` where one is taken, or stands twice among them; `NoMemory`.
+    fn open(&mut self, e: Expansion) -> Result<(), RunFault>
         requires { CanOpen self.old e.instance.0 e.production.0 e.names.now }
         ensures opened { OnOk result (self.new ≡ opened_run self.old e.entry.instance.0 e.entry.production.0 e.entry.names.now) }
+        ensures fresh { OnOk result (some_twice self.old.names e.entry.names.now ≡ false) }
         ensures formed { IsWellFormed self.old.grammar.core }
+        ensures refused { IfErr result (AreNamesRefused self.old.names e.entry.names.now) }
         ensures unchanged { OnErr result (self.new ≡ self.old) }
     {
         let _formed = self.grammar.start();
-        grow(
+        if let Err(fault) = grow(
             self.alloc,
             self.arena,
             self.grammar,
@@ -278,16 +296,18 @@ impl<'a> Run<'a> {
             &mut self.names,
             &mut self.nodes,
             e,
-        )?;
+        ) {
+            return Err(fault);
+        }
         self.expands += 1;
         Ok(())
     }
 
     /// Expands an instance by the production of a number, with a name for each position, and gives the number of the first child. After an error the run is as it was.
     ///
-    /// Errors, in order of trial: `NotStarted`, `UnknownInstance`, `UnknownProduction`, `WrongHead` (the production is not one of the instance's module), `AlreadyExpanded`, `PositionsWrong` (not one name for each position), `NameBad`, `NameTwice` (a name that the run or the event has already), `TooManyInstances`; `NoMemory` last.
+    /// Errors, in order of trial: `NotStarted`, `UnknownInstance`, `UnknownProduction`, `WrongHead` (the production is not one of the instance's module), `AlreadyExpanded`, `PositionsWrong` (not one name for each position), `NameBad`, `NameTwice` (a name that the run or the event has already), `TooManyInstances`; `NoMemory` last, or in place of `NameTwice`.
     ///
-    /// Cost: one look-up for each name of the event, which is also compared with the names before it in the event, at most 63. The prefix of a child is that of its parent, or the parent's with the bits of one step more, however long the run is.
+    /// Cost: one look-up for the instance and one for each name of the event, which is hashed once; where the run has no room for so many instances, each name is also compared with the names before it in the event, at most 63. The prefix of a child is that of its parent, or the parent's with the bits of one step more, however long the run is.
     pub fn expand(
         &mut self,
         instance: &[u8],
@@ -303,7 +323,9 @@ impl<'a> Run<'a> {
     {
         let e = self.expansion(instance, production, names)?;
         let first = self.instances();
-        self.open(e)?;
+        if let Err(fault) = self.open(e) {
+            return Err(fault);
+        }
         Ok(NodeNo(first))
     }
 }

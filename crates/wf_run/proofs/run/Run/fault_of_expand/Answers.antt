@@ -1,16 +1,44 @@
-use Rattle.std.proofs.Common.{◌≡◌, ap, sym, subst, ◌∙◌}
-use Rattle.wf_model.specs.declared.event.Event.TheVariants.{Expand}
-use Rattle.wf_model.specs.Run.{IsRun, made, names_of}
-use Rattle.wf_model.specs.Faults.{fault_of}
-use Rattle.run_faults.specs.Standing.{IsFound}
+use Rattle.std.proofs.Common.{◌≡◌, ◌+◌, ◌≤◌, length, Some, ap, sym, subst, ◌∙◌, arith}
+use Rattle.std.proofs.lemmas.List.{length-map}
+use Rattle.std.proofs.lemmas.Option.{IfSome_then}
+use Rattle.run_faults.specs.Standing.{Fits}
+use Rattle.run_faults.specs.Order.{names_fault, HasFault, IsLeftToNames}
 use Rattle.wf_run.specs.Runs.{RunSeen}
+use Rattle.wf_run.specs.Names.{twice_fault}
+use Rattle.wf_run.specs.Growing.{IsFaultAt}
+use Rattle.wf_run.proofs.NamedInstances.{names_count}
+use Rattle.wf_run.proofs.NewNames.{fault_with_room, if_none}
+use Rattle.wf_run.proofs.EventFaults.{has_fault, left_to_names}
 use Rattle.wf_run.proofs.run.Run.fault_of_expand.Goals as goal
 
-pub returns : goal.returns
-returns c events name run place =
-    let v = sym c.self.view_is in
-    c.expand_fault.ensures events name
-    (subst (λ (r : RunSeen). IsRun r.grammar.core r.grammar.core.start events) v run.accepted.0)
-    (subst (λ (r : RunSeen). r.names ≡ names_of (made r.grammar.core r.grammar.core.start events)) v run.names)
-    (subst (λ (r : RunSeen). IsFound r.grammar.core events name c.found-found.result) v (c.found-found.ensures events name run place))
-    ∙ ap (λ (r : RunSeen). fault_of r.grammar.core r.most events (Expand name c.args.production c.args.names.now)) c.self.view_is
+pub returns-in-Some-clause-fault : goal.returns-in-Some-clause-fault
+returns-in-Some-clause-fault c name place events run =
+    let each = subst (λ (r : RunSeen). HasFault r.grammar.core c.len-count.result c.found-found.result c.args.production c.args.names.now c.in-Some.fault) c.self.view_is c.in-Some.ensures.first in
+    let counted = c.len-count.ensures ∙ (c.self.inside.nodes.ok.0 ∙ (sym (length-map _ _) ∙ ap (λ (r : RunSeen). length r.nodes) c.self.view_is)) in
+    has_fault c.args.self.now events run c.len-count.result counted c.found-found.result name (c.found-found.ensures.found events name run place) c.args.production c.args.names.now _ each
+
+pub returns-clause-fault : goal.returns-clause-fault
+returns-clause-fault c =
+    let r = c.args.self.now in
+    let names = c.args.names.now in
+    let each = subst (λ (r : RunSeen). IsLeftToNames r.grammar.core c.len-count.result c.found-found.result c.args.production names) c.self.view_is c.in_default.ensures.left in
+    let counted = c.len-count.ensures ∙ (c.self.inside.nodes.ok.0 ∙ (sym (length-map _ _) ∙ ap (λ (r : RunSeen). length r.nodes) c.self.view_is)) in
+    IfSome_then _ {P = λ f. names_fault r.most r.names names ≡ Some f} {Q = λ f. IsFaultAt r c.args.n c.args.production names (Some f)} c.fault_without_room.ensures.fault
+    (λ f e name place events run. left_to_names r events run c.len-count.result counted c.found-found.result name (c.found-found.ensures.found events name run place) c.args.production names each ∙ e)
+
+pub returns-clause-left : goal.returns-clause-left
+returns-clause-left c =
+    let r = c.args.self.now in
+    let names = c.args.names.now in
+    let each = subst (λ (r : RunSeen). IsLeftToNames r.grammar.core c.len-count.result c.found-found.result c.args.production names) c.self.view_is c.in_default.ensures.left in
+    let counted = c.len-count.ensures ∙ (c.self.inside.nodes.ok.0 ∙ (sym (length-map _ _) ∙ ap (λ (r : RunSeen). length r.nodes) c.self.view_is)) in
+    if_none _ (length r.nodes + length names ≤ r.most) (IsFaultAt r c.args.n c.args.production names (twice_fault r.names names))
+    (λ room name place events run. left_to_names r events run c.len-count.result counted c.found-found.result name (c.found-found.ensures.found events name run place) c.args.production names each
+    ∙ fault_with_room r.most r.names names (omega (arith, room, names_count r events run)))
+    c.fault_without_room.ensures.room
+
+pub returns-clause-there : goal.returns-clause-there
+returns-clause-there c = if_none _ _ _ (λ room. sym c.found-found.ensures.there ∙ c.in_default.ensures.there) c.fault_without_room.ensures.room
+
+pub returns-clause-fits : goal.returns-clause-fits
+returns-clause-fits c = if_none _ _ _ (λ room. subst (λ (r : RunSeen). Fits r.grammar.core c.args.production c.args.names.now) c.self.view_is c.in_default.ensures.fits) c.fault_without_room.ensures.room

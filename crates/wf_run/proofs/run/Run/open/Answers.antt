@@ -3,32 +3,22 @@ use Rattle.std.proofs.lemmas.List.{length-map}
 use Rattle.wf_run.specs.Runs.{RunSeen}
 use Rattle.wf_run.specs.Nodes.{node_of, run_of}
 use Rattle.wf_run.specs.Growing.{CanOpen}
-use Rattle.wf_run.proofs.Extending.{one_each, fresh, room, can_rise}
+use Rattle.wf_run.proofs.Extending.{can_rise}
 use Rattle.wf_run.proofs.Kept.{kept_after}
 use Rattle.wf_run.proofs.Limits.{expands_small}
 use Rattle.wf_run.proofs.run.Run.open.Goals as goal
 
-pub grow-requires-clause-one_each : goal.grow-requires-clause-one_each
-grow-requires-clause-one_each c =
-    let i = c.self.inside in
-    let k = c.self.invariant in
-    let opens = subst (λ (r : RunSeen). CanOpen r c.args.e.instance.0 c.args.e.production.0 c.args.e.names.now) (sym c.self.view_is) c.requires in
-    one_each (run_of i.grammar.now i.most i.names i.nodes.items i.expands) k.events c.args.e.instance.0 c.args.e.production.0 c.args.e.names.now c.start-formed.ensures.formed k.run opens
+pub grow-requires-clause-production : goal.grow-requires-clause-production
+grow-requires-clause-production c = let opens = subst (λ (r : RunSeen). CanOpen r c.args.e.instance.0 c.args.e.production.0 c.args.e.names.now) (sym c.self.view_is) c.requires in opens.fits.in_range
 
-pub grow-requires-clause-fresh : goal.grow-requires-clause-fresh
-grow-requires-clause-fresh c =
-    let i = c.self.inside in
-    let k = c.self.invariant in
-    let opens = subst (λ (r : RunSeen). CanOpen r c.args.e.instance.0 c.args.e.production.0 c.args.e.names.now) (sym c.self.view_is) c.requires in
-    fresh (run_of i.grammar.now i.most i.names i.nodes.items i.expands) k.events c.args.e.instance.0 c.args.e.production.0 c.args.e.names.now c.start-formed.ensures.formed k.run opens
+pub grow-requires-clause-one_each : goal.grow-requires-clause-one_each
+grow-requires-clause-one_each c = let opens = subst (λ (r : RunSeen). CanOpen r c.args.e.instance.0 c.args.e.production.0 c.args.e.names.now) (sym c.self.view_is) c.requires in opens.fits.one_each
 
 pub grow-requires-clause-room : goal.grow-requires-clause-room
 grow-requires-clause-room c =
     let i = c.self.inside in
-    let k = c.self.invariant in
     let opens = subst (λ (r : RunSeen). CanOpen r c.args.e.instance.0 c.args.e.production.0 c.args.e.names.now) (sym c.self.view_is) c.requires in
-    let few = room (run_of i.grammar.now i.most i.names i.nodes.items i.expands) k.events c.args.e.instance.0 c.args.e.production.0 c.args.e.names.now c.start-formed.ensures.formed k.run opens in
-    omega (arith, few, length-map i.nodes.items node_of, k.most)
+    omega (arith, opens.room, length-map i.nodes.items node_of, c.self.invariant.most)
 
 pub grow-requires-clause-chain : goal.grow-requires-clause-chain
 grow-requires-clause-chain c =
@@ -49,5 +39,5 @@ invariant_of-self-2 c =
     let i = c.self.inside in
     let e = c.args.e in
     let opens = subst (λ (r : RunSeen). CanOpen r e.instance.0 e.production.0 e.names.now) (sym c.self.view_is) c.requires in
-    let s = c.in_ok-grow.ensures in
-    rw (s.names) (kept_after i.grammar.now i.most i.names i.nodes.items _ i.expands e.instance.0 e.production.0 e.names.now s.nodes i.cycles.now c.start-formed.ensures.formed c.self.invariant opens s.whole)
+    let s = c.in_default.ensures in
+    rw (s.names) (kept_after i.grammar.now i.most i.names i.nodes.items _ i.expands e.instance.0 e.production.0 e.names.now s.nodes i.cycles.now c.start-formed.ensures.formed c.self.invariant opens s.fresh s.whole)
