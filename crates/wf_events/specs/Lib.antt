@@ -1,1 +1,3 @@
 pub mod EventForm
+pub mod Plain
+pub mod Spelling

@@ -7,6 +7,7 @@ ghost use Rattle.wf_json.specs.Reading.{IsReading};
 ghost use Rattle.wf_events.specs.EventForm.{event_of, start_form, expand_form, whole_form, IsRefusal, IsToldAs};
 
 use crate::fault::EventFault;
+use crate::scan::scan_event;
 use serde_json::Value;
 use std::alloc::Global;
 use wf_json::{FromJson, TextFault, member, read_value};
@@ -18,8 +19,19 @@ use wf_model::{Event, Name, Seq};
 ///
 /// Errors: NotJson where the bytes are not UTF-8 or no JSON value of at most 127 levels; WrongShape where the value has not the form of an event; NoMemory where memory was refused.
 ///
-/// Cost: one reading of the line by `serde_json`, and one pass over the value.
+/// Cost: one pass over a line that is spelled as `write_event` spells it. For any other line, one reading by `serde_json` and one pass over the value besides.
 pub fn read_event(alloc: Global, line: &[u8]) -> Result<Event, EventFault>
+    ensures ok { IfOk result (λ e. (d : Data) × IsReading line.now d × (event_of d ≡ Some e)) }
+    ensures refused { IfErr result (λ f. IsRefusal line.now f) }
+{
+    let Some(event) = scan_event(alloc, line)? else {
+        return parse_event(alloc, line);
+    };
+    Ok(event)
+}
+
+/// Reads an event from a line in any spelling.
+fn parse_event(alloc: Global, line: &[u8]) -> Result<Event, EventFault>
     ensures ok { IfOk result (λ e. (d : Data) × IsReading line.now d × (event_of d ≡ Some e)) }
     ensures refused { IfErr result (λ f. IsRefusal line.now f) }
 {

@@ -1,11 +1,18 @@
-//! Reading events from lines of JSON.
+//! Reading events from lines of JSON, and writing them.
 #![tactic(auto)]
 
 mod event;
 mod fault;
+mod law;
+mod number;
+mod scan;
+mod text;
+mod write;
 
 pub use event::read_event;
 pub use fault::EventFault;
+pub use law::written_law;
+pub use write::write_event;
 
 #[cfg(test)]
 mod tests;
