@@ -1,6 +1,5 @@
 -- One line of events that are labelled: what is made of it.
-use Rattle.std.specs.Prelude.{◌≡◌, ◌≤◌, ℕ, List, [], ◌∷◌, ◌++◌, length, map, flat_map}
-use Rattle.wf_model.specs.Lists.{IsIn}
+use Rattle.std.specs.Prelude.{◌≡◌, ℕ, List, [], ◌∷◌, ◌++◌, map, flat_map}
 use Rattle.wf_model.specs.declared.event.Event.{Event}
 use Rattle.wf_model.specs.Grammar.{Grammar}
 use Rattle.wf_model.specs.Run.{IsAccepted}
@@ -10,10 +9,6 @@ use Rattle.wf_run.specs.Runs.{RunSeen, IsRunOf}
 use Rattle.wf_inputs.specs.RunTold.{IsEventText}
 use Rattle.wf_inputs.specs.RunTaking.{RunSoFar}
 
--- entries with room for their lengths
-abbrev pub HaveRoom : List Entry → Type 0
-HaveRoom entries = (e : Entry) → IsIn e entries → (length e.name ≤ 129) × (length e.label ≤ 65535)
-
 -- the entries of the items that an event makes after a run
 abbrev pub entries_by : Grammar → List Event → Event → List Entry
 entries_by g before e = map entry_of (labelled_by g (before ++ e ∷ []) e)
@@ -22,14 +17,7 @@ entries_by g before e = map entry_of (labelled_by g (before ++ e ∷ []) e)
 abbrev pub bytes_by : Grammar → List Event → Event → List ℕ
 bytes_by g before e = flat_map entry_bytes (entries_by g before e)
 
--- the text tells an event, the run after it is this one, and the entries are those of its items
-pub record IsTakenInto (g : Grammar) (before : List Event) (text : List ℕ) (r : RunSeen) (entries : List Entry) : Type 0 where
-  pub event : Event
-  pub told : IsEventText text event
-  pub run : IsRunOf r (before ++ event ∷ [])
-  pub entries_are : entries ≡ entries_by g before event
-
--- so, and these bytes are those of the entries
+-- the text tells an event that extends the run, the run after it is this one, and these bytes are those of the entries of its items
 pub record IsLabelledAs (g : Grammar) (limit : ℕ) (before : List Event) (text : List ℕ) (r : RunSeen) (bytes : List ℕ) : Type 0 where
   pub event : Event
   pub told : IsEventText text event

@@ -1,11 +1,9 @@
 // Lines of events, whose items are labelled and put line by line.
-ghost use Rattle.std.specs.Prelude.{◌≡◌, ◌++◌, ◌∷◌, [], List, map, flat_map, codes, IfErr, OnOk};
+ghost use Rattle.std.specs.Prelude.{◌≡◌, [], List, codes, IfErr, OnOk, OnErr};
 ghost use Rattle.wf_model.specs.declared.event.Event.{Event};
 ghost use Rattle.wf_io.specs.Told.{File};
 ghost use Rattle.wf_io.specs.Lines.{lines_in};
-ghost use Rattle.label_model.specs.Files.{entry_bytes};
 ghost use Rattle.wf_run.specs.Runs.{IsRunOf};
-ghost use Rattle.wf_labeller.specs.Entries.{entry_seen};
 ghost use Rattle.wf_message.specs.Endings.{End, end_of, end_after};
 ghost use Rattle.wf_stage.specs.LineEnds.{line_ends, told_end};
 ghost use Rattle.wf_stage.specs.Stages.{AtLine, Declines, IsRefusedOrWanting};
@@ -14,51 +12,19 @@ ghost use Rattle.wf_inputs.specs.Inputs.{instance_most};
 ghost use Rattle.wf_inputs.specs.RunTold.{RefusesText, EventsStage};
 ghost use Rattle.wf_inputs.specs.RunTaking.{RunSoFar, TakesEvent, RefusesAt, MakesNothing, NeverStops, IsAnyRun};
 ghost use Rattle.cmd_ingest.specs.Ingested.{file_head, file_of, WritesFile};
-ghost use Rattle.cmd_ingest.specs.Labelled.{HaveRoom, IsTakenInto, IsLabelledAs, IsRunHeld, bytes_by};
+ghost use Rattle.cmd_ingest.specs.Labelled.{IsLabelledAs, IsRunHeld, bytes_by};
 
 use bumpalo::Bump;
-use label_file::append_entry;
-use std::alloc::{AllocError, Global};
+use std::alloc::Global;
 use wf_inputs::{EVENTS, INSTANCES, Spec, event_of_line, event_stop};
 use wf_io::{Lines, Shelf, Sink};
-use wf_labeller::{Entry, Labeller, Records};
+use wf_labeller::Labeller;
 use wf_lines::{Due, Taker, take_lines};
 use wf_message::Stop;
 use wf_run::Run;
 use wf_stage::stop_of;
 
-/// Appends entries as they stand in a label file. Fails only for want of memory.
-fn append_entries(entries: &[Entry], to: &mut Vec<u8>) -> Result<(), AllocError>
-    requires { HaveRoom (map entry_seen entries.now) }
-    ensures { OnOk result (to.new.items ≡ to.old.items ++ flat_map entry_bytes (map entry_seen entries.now)) }
-{
-    for entry in entries {
-        append_entry(entry.name.items(), entry.label.items(), to)?;
-    }
-    Ok(())
-}
-
-/// Takes the event of a line, and gives the entries of the items that it makes.
-fn take_event(
-    alloc: Global,
-    labeller: &mut Labeller<'_>,
-    number: u64,
-    line: &[u8],
-    records: &mut Records,
-) -> Result<(), Stop>
-    ensures taken { OnOk result ((before : List Event) → IsRunOf labeller.old before → IsTakenInto labeller.old.grammar.core before line.now labeller.new records.new) }
-    ensures grammar { OnOk result (labeller.new.grammar ≡ labeller.old.grammar) }
-    ensures most { OnOk result (labeller.new.most ≡ labeller.old.most) }
-    ensures declines { IfErr result (λ d. (before : List Event) → IsRunOf labeller.old before → Declines (codes "events") (AtLine (RefusesText labeller.old.grammar.core labeller.old.most before) number line.now) (end_of d)) }
-{
-    let event = event_of_line(alloc, number, line)?;
-    match labeller.take(&event, records) {
-        Ok(()) => Ok(()),
-        Err(fault) => Err(event_stop(number, fault)),
-    }
-}
-
-/// Takes the event of a line, and appends the entries of the items that it makes, wherever the line comes from.
+/// Takes the event of a line, and appends the entries of the items that it makes, as they stand in a label file, wherever the line comes from. After an error the text is as it was.
 fn label_line(
     alloc: Global,
     labeller: &mut Labeller<'_>,
@@ -66,22 +32,17 @@ fn label_line(
     line: &[u8],
     text: &mut Vec<u8>,
 ) -> Result<(), Stop>
-    requires run { (events : List Event) × IsRunOf labeller.old events }
     requires none { text.old.items ≡ [] }
     ensures labelled { OnOk result ((before : List Event) → IsRunOf labeller.old before → IsLabelledAs labeller.old.grammar.core labeller.old.most before line.now labeller.new text.new.items) }
     ensures grammar { OnOk result (labeller.new.grammar ≡ labeller.old.grammar) }
     ensures most { OnOk result (labeller.new.most ≡ labeller.old.most) }
     ensures declines { IfErr result (λ d. (before : List Event) → IsRunOf labeller.old before → Declines (codes "events") (AtLine (RefusesText labeller.old.grammar.core labeller.old.most before) number line.now) (end_of d)) }
+    ensures same { OnErr result (text.new.items ≡ text.old.items) }
 {
-    // Entries have room since the grammar is well-formed and strictly linear.
-    let _formed = labeller.run().grammar().start();
-    let mut records = Records::new(alloc);
-    if let Err(stop) = take_event(alloc, labeller, number, line, &mut records) {
-        return Err(stop);
-    }
-    match append_entries(records.entries(), text) {
+    let event = event_of_line(alloc, number, line)?;
+    match labeller.write(&event, text) {
         Ok(()) => Ok(()),
-        Err(_) => Err(Stop::NoMemory),
+        Err(fault) => Err(event_stop(number, fault)),
     }
 }
 
@@ -132,10 +93,7 @@ impl Taker for Labelling<'_> {
         self.text.clear();
         match label_line(self.alloc, &mut self.labeller, number, text, &mut self.text) {
             Ok(()) => Ok(()),
-            Err(stop) => {
-                self.text.clear();
-                Err(stop)
-            }
+            Err(stop) => Err(stop),
         }
     }
 

@@ -1,19 +1,21 @@
 -- An expand event that a run takes: its instance is there, with the bits of the labels of the items that the event makes.
-use Rattle.std.proofs.Common.{◌≡◌, ℕ, suc, ◌<◌, true, not, List, [], ◌∷◌, ◌++◌, map, length, get_or, zip, Option, Some, None, bytes_eq, refl, ap, sym, ◌∙◌, subst, arith, true≢false}
+use Rattle.std.proofs.Common.{◌≡◌, ℕ, suc, ◌<◌, ◌≤◌, true, false, not, nat_le, List, [], ◌∷◌, ◌++◌, map, length, get_or, zip, Option, Some, None, bytes_eq, refl, inl, ap, sym, ◌∙◌, subst, arith, true≢false}
 use Rattle.std.specs.Prelude.{position, is_some, option_map, ◌==◌}
+use Rattle.std.specs.List.{list_all}
 use Rattle.std.proofs.lemmas.Bool.Decides.{nat_tests}
 use Rattle.std.proofs.lemmas.List.{length-map, get_or-map}
 use Rattle.std.proofs.lemmas.List.Quantifiers.{position-Some}
 use Rattle.wf_model.specs.declared.event.Event.{Event}
-use Rattle.wf_model.specs.declared.event.Event.TheVariants.{Expand}
+use Rattle.wf_model.specs.declared.event.Event.TheVariants.{Start, Expand}
 use Rattle.wf_model.specs.Lists.{IsIn, numbers_from}
 use Rattle.wf_model.specs.Grammar.{Grammar, Edge, production_at, head_of, alternative_of}
 use Rattle.wf_model.specs.WellFormed.{IsWellFormed}
 use Rattle.wf_model.specs.Run.{Instance, made, names_of, expanded_by, CanExpand, IsAccepted}
 use Rattle.wf_model.specs.Items.{edge_item}
 use Rattle.wf_model.specs.Faults.{fault_of}
-use Rattle.wf_model.proofs.Lists.{same_bytes, is_at, at_in}
-use Rattle.wf_model.proofs.Runs.{name_in, AllExtend-append}
+use Rattle.wf_model.proofs.Lists.{same_bytes, is_at, at_in, in_append_right}
+use Rattle.wf_model.proofs.Runs.{name_in, name_new, AllExtend-append}
+use Rattle.wf_model.proofs.ItemNames.{name_made}
 use Rattle.wf_model.proofs.Differ.{one_of_name}
 use Rattle.wf_model.proofs.Taking.{run_differs, taking_law}
 use Rattle.bit_pack.specs.Bits.{packed}
@@ -27,8 +29,24 @@ use Rattle.label_model.specs.RunLabels.{address_in, labelled_by, IsPrefix}
 use Rattle.label_model.proofs.RunPrefixes.{prefix_in_run_law}
 use Rattle.wf_run.specs.Runs.{RunSeen, Node, node_at, name_at, IsExpandedAs, IsRunOf}
 use Rattle.wf_spec.proofs.Finding.{not_found}
+use Rattle.wf_spec.proofs.Tests.{all_gives, all_from}
 use Rattle.wf_labeller.specs.Entries.{edge_entry, numbered_edges}
 use Rattle.wf_run.proofs.NamedInstances.{none_there}
+
+-- a test of lengths passes where the lengths are so
+rooms_from : (names : List (List ℕ)) → ((n : List ℕ) → IsIn n names → length n ≤ 64) → list_all (λ n. nat_le (length n) 64) names ≡ true
+rooms_from names h = all_from (λ n. nat_le (length n) 64) names (λ n i. let few = h n i in grind (arith, nat_tests))
+
+-- and where it passes, they are so
+pub rooms_give : (names : List (List ℕ)) → list_all (λ n. nat_le (length n) 64) names ≡ true → (n : List ℕ) → IsIn n names → length n ≤ 64
+rooms_give names e n i = let t = all_gives (λ n. nat_le (length n) 64) names e n i in grind (arith, nat_tests)
+
+-- the name of a run that starts has at most 64 bytes
+pub root_short : (r : RunSeen) (events : List Event) → IsRunOf r events → (n : List ℕ) → fault_of r.grammar.core r.most events (Start n) ≡ None → length n ≤ 64
+root_short r events run n taken =
+    let g = r.grammar.core in
+    let after = (taking_law g r.most events (Start n) run.accepted).0 taken in
+    after.2 n (name_made g g.start n (Start n) (events ++ Start n ∷ []) (in_append_right (Start n) events (Start n ∷ []) (inl refl)) (inl refl))
 
 module _ (r : RunSeen) (events : List Event) (run : IsRunOf r events) (i : List ℕ) (p : ℕ) (names : List (List ℕ)) (taken : fault_of r.grammar.core r.most events (Expand i p names) ≡ None) where
   abbrev g : Grammar
@@ -46,6 +64,14 @@ module _ (r : RunSeen) (events : List Event) (run : IsRunOf r events) (i : List 
 
   there : IsIn i (names_of all)
   there = name_in _ all can.stands
+
+  -- the names have at most 64 bytes
+  pub are_short : (n : List ℕ) → IsIn n names → length n ≤ 64
+  are_short n h = after.2 n (name_new g g.start events i p names n can.one_each h)
+
+  -- which a test of them does not deny
+  pub have_room : list_all (λ n. nat_le (length n) 64) names ≡ false → ⊥
+  have_room e = absurd (true≢false (sym (rooms_from names are_short) ∙ e))
 
   -- the name of the instance is found
   pub is_found : position (bytes_eq i) r.names ≡ None → ⊥
@@ -109,10 +135,10 @@ module _ (r : RunSeen) (events : List Event) (run : IsRunOf r events) (i : List 
 
     -- the entries that are made with the prefix that the run keeps of the instance are those of the items of the event
     pub made_entries : IsWellFormed g → (h : HeldGrammar) (q : ℕ) (bytes : List ℕ) (n : ℕ) (chain : Option ℕ) → h ≡ r.grammar → q ≡ p → bytes ≡ packed (node_at r k).bits → n ≡ length (node_at r k).bits → chain ≡ (node_at r k).chain →
-        (es : List Entry) → es ≡ map (edge_entry h.core q names (first_bits bytes n) chain) (numbered_edges 0 (production_at h.core q).edges) →
-        es ≡ map entry_of (labelled_by g (events ++ Expand i p names ∷ []) (Expand i p names))
-    made_entries wf h q bytes n chain a b c d f es e =
-        e ∙ (ap (λ (z : HeldGrammar). map (edge_entry z.core q names (first_bits bytes n) chain) (numbered_edges 0 (production_at z.core q).edges)) a ∙
+        map (edge_entry h.core q names (first_bits bytes n) chain) (numbered_edges 0 (production_at h.core q).edges) ≡
+        map entry_of (labelled_by g (events ++ Expand i p names ∷ []) (Expand i p names))
+    made_entries wf h q bytes n chain a b c d f =
+        ap (λ (z : HeldGrammar). map (edge_entry z.core q names (first_bits bytes n) chain) (numbered_edges 0 (production_at z.core q).edges)) a ∙
         (ap (λ z. map (edge_entry g z names (first_bits bytes n) chain) (numbered_edges 0 (production_at g z).edges)) b ∙
         (ap (λ z. map (edge_entry g p names z chain) (numbered_edges 0 (production_at g p).edges)) (ap (λ z. first_bits z n) c ∙ (ap (first_bits (packed (node_at r k).bits)) d ∙ first_packed (node_at r k).bits)) ∙
-        (ap (λ z. map (edge_entry g p names (node_at r k).bits z) (numbered_edges 0 (production_at g p).edges)) f ∙ entries_are wf 0 (production_at g p).edges))))
+        (ap (λ z. map (edge_entry g p names (node_at r k).bits z) (numbered_edges 0 (production_at g p).edges)) f ∙ entries_are wf 0 (production_at g p).edges)))

@@ -1,3 +1,4 @@
+pub mod KeptSoFar
 pub mod RootPorts
 pub mod Outputs
 pub mod EdgesRead

@@ -1,12 +1,12 @@
 -- The outputs of the positions of a body, as the program reads them.
-use Rattle.std.proofs.Common.{◌≡◌, ℕ, ◌<◌, List, [], map, length, get_or, ap, sym, ◌∙◌, subst}
+use Rattle.std.proofs.Common.{◌≡◌, ℕ, ◌<◌, ◌≤◌, List, [], map, length, get_or, ap, sym, ◌∙◌, subst}
 use Rattle.std.proofs.lemmas.List.{length-map, get_or-map, get_or_read}
 use Rattle.std.proofs.lemmas.Simd.{map-map}
 use Rattle.wf_model.specs.declared.body.Position.{Position as PositionHeld}
 use Rattle.wf_model.specs.Grammar.{Grammar, Module, Position, Inner, Production, production_at, module_at, body_of}
 use Rattle.wf_model.specs.WellFormed.{IsWellFormed, IsInnerOutput}
 use Rattle.wf_model.specs.Meaning.{position_of}
-use Rattle.wf_model.proofs.Lists.{at_below, at_is, at_in}
+use Rattle.wf_model.proofs.Lists.{at_below, at_is, is_at, at_in, in_append_right}
 use Rattle.wf_labeller.specs.Entries.{body_output_name}
 
 -- the modules of a body, read from its positions
@@ -23,6 +23,15 @@ module _ (g : Grammar) (p : ℕ) (from : Inner) (o : IsInnerOutput g p from) whe
 
   pub module_there : IsWellFormed g → p < length g.productions → o.0 < length g.modules
   module_there wf h = (wf.bodies p h).modules o.0 (at_in o.0 from.position (body_of g p) o.1)
+
+  -- the name has at most 64 bytes
+  pub output_short : IsWellFormed g → p < length g.productions → length (body_output_name g p from) ≤ 64
+  output_short wf h =
+      let m = module_at g o.0 in
+      let formed = wf.modules m (at_in m o.0 g.modules (is_at o.0 g.modules (record { name = []; inputs = []; outputs = [] }) (module_there wf h))) in
+      let n = get_or m.outputs from.port [] in
+      let short : length n ≤ 64 = (formed.ports n (in_append_right n m.inputs m.outputs (at_in n from.port m.outputs (is_at from.port m.outputs [] o.2)))).1 in
+      subst (λ k. length (get_or (module_at g k).outputs from.port []) ≤ 64) (sym (at_is o.0 from.position (body_of g p) 0 o.1)) short
 
   -- the module of the position
   pub module_read : (qs : List PositionHeld) (q : PositionHeld) → map (λ (q : PositionHeld). q.module.0) qs ≡ body_of g p → q ≡ get_or qs from.position q → q.module.0 ≡ o.0

@@ -1,39 +1,19 @@
 // The entries of the edges of a production.
-ghost use Rattle.std.specs.Prelude.{◌≡◌, ◌<◌, ◌≤◌, ◌^◌, ◌++◌, map, length, IfOk};
+ghost use Rattle.std.specs.Prelude.{◌≡◌, ◌<◌, ◌≤◌, ◌^◌, ℕ, List, map, length, OnOk};
+ghost use Rattle.wf_model.specs.Lists.{IsIn};
 ghost use Rattle.wf_model.specs.Grammar.{body_of, production_at};
 ghost use Rattle.wf_model.specs.Meaning.{inner_of};
 ghost use Rattle.wf_model.specs.WellFormed.{IsInnerOutput};
 ghost use Rattle.bit_pack.specs.Written.{first_bits, IsFilled};
-ghost use Rattle.label_model.specs.Labels.{ending_bits};
-ghost use Rattle.wf_labeller.specs.Entries.{entry_seen, body_output_name, edge_entry, numbered_edges};
+ghost use Rattle.wf_labeller.specs.Entries.{body_output_name, edge_entry, numbered_edges};
+ghost use Rattle.wf_labeller.specs.Keeping.{Adds, HasMore};
 
-use crate::entry::Entry;
-use bit_pack::Bits;
-use std::alloc::{AllocError, Global};
-use wf_label::with_ending;
+use crate::keeper::Keeper;
+use bit_pack::BitWriter;
+use std::alloc::AllocError;
+use wf_label::{begin_labels, end_label};
 use wf_run::PrefixRef;
 use wf_spec::{EdgeNo, Grammar, Inner, Name, ProdNo};
-
-/// The bits of the label of an edge of an instance with this prefix.
-fn edge_bits(
-    alloc: Global,
-    prefix: PrefixRef<'_>,
-    alternative: u16,
-    edge: EdgeNo,
-) -> Result<Bits, AllocError>
-    requires filled { IsFilled prefix.bytes.now prefix.length }
-    requires few { prefix.length < 2 ^ 17 }
-    ensures { IfOk result (λ b. b ≡ first_bits prefix.entry.bytes.now prefix.entry.length ++ ending_bits prefix.entry.chain alternative edge.0) }
-{
-    with_ending(
-        alloc,
-        prefix.bytes,
-        prefix.length,
-        prefix.chain,
-        alternative,
-        edge,
-    )
-}
 
 /// The name of an output of a position of a body.
 fn output_at<'g>(g: &'g Grammar, production: ProdNo, from: Inner) -> &'g [u8]
@@ -46,32 +26,36 @@ fn output_at<'g>(g: &'g Grammar, production: ProdNo, from: Inner) -> &'g [u8]
     outputs[from.port.0 as usize].bytes()
 }
 
-/// The entries of the items of the edges of a production, where an instance with this prefix is expanded by it, with a name for each position.
+/// Keeps the entries of the items of the edges of a production, where an instance with this prefix is expanded by it, with a name for each position. What their labels begin with is written once. After an error some of them may be kept.
 ///
 /// Cost: linear in the bytes of the entries.
-pub(crate) fn edge_entries(
-    alloc: Global,
+pub(crate) fn keep_edges<K: Keeper>(
     g: &Grammar,
     production: ProdNo,
     names: &[Name],
     prefix: PrefixRef<'_>,
-) -> Result<Vec<Entry>, AllocError>
+    bits: &mut BitWriter,
+    to: &mut K,
+) -> Result<(), AllocError>
     requires production { production.0 < length g.now.core.productions }
     requires one_each { length names.now ≡ length (body_of g.now.core production.0) }
+    requires short { (n : List ℕ) → IsIn n names.now → length n ≤ 64 }
     requires filled { IsFilled prefix.bytes.now prefix.length }
     requires few { prefix.length < 2 ^ 17 }
-    ensures { IfOk result (λ es. map entry_seen es.items ≡ map (edge_entry g.now.core production.0 names.now (first_bits prefix.entry.bytes.now prefix.entry.length) prefix.entry.chain) (numbered_edges 0 (production_at g.now.core production.0).edges)) }
+    ensures ok { OnOk result (Adds K.parts_of (K.kept to.old) (K.kept to.new) (map (edge_entry g.now.core production.0 names.now (first_bits prefix.entry.bytes.now prefix.entry.length) prefix.entry.chain) (numbered_edges 0 (production_at g.now.core production.0).edges))) }
+    ensures more { HasMore (K.kept to.old) (K.kept to.new) }
 {
     let rule = g.production(production);
     let alternative = rule.alternative();
     let edges = rule.edges();
-    let mut entries = Vec::with_capacity(alloc, edges.len())?;
+    begin_labels(bits, prefix.bytes, prefix.length, prefix.chain, alternative)?;
+    let begun = bits.length();
     for k in 0..edges.len() {
+        end_label(bits, begun, EdgeNo(k as u16))?;
         let from = edges[k].from;
         let instance = names[from.pos.0 as usize].bytes();
         let port = output_at(g, production, from);
-        let label = edge_bits(alloc, prefix, alternative, EdgeNo(k as u16))?;
-        entries.push(Entry::new(alloc, instance, port, &label)?)?;
+        to.keep(instance, port, bits.bytes())?;
     }
-    Ok(entries)
+    Ok(())
 }

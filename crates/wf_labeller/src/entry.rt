@@ -1,10 +1,9 @@
 // The entries of items.
 ghost use Rattle.std.specs.Prelude.{◌≡◌, [], map, IfOk};
 ghost use Rattle.wf_model.specs.Items.{dotted};
-ghost use Rattle.bit_pack.specs.Bits.{packed};
 ghost use Rattle.wf_labeller.specs.Entries.{entry_seen};
 
-use bit_pack::Bits;
+use crate::keeper::Keeper;
 use std::alloc::{AllocError, Global};
 use std::marker::Model;
 use wf_spec::Seq;
@@ -22,15 +21,15 @@ impl Entry {
         alloc: Global,
         instance: &[u8],
         port: &[u8],
-        label: &Bits,
+        label: &[u8],
     ) -> Result<Entry, AllocError>
-        ensures { IfOk result (λ e. entry_seen e ≡ record { name = dotted instance.now port.now; label = packed label.now }) }
+        ensures { IfOk result (λ e. entry_seen e ≡ record { name = dotted instance.now port.now; label = label.now }) }
     {
         let mut name = Vec::with_capacity(alloc, instance.len() + port.len() + 1)?;
         name.extend_from_slice(instance)?;
         name.push(b'.')?;
         name.extend_from_slice(port)?;
-        let bytes = Vec::from_slice(alloc, label.bytes())?;
+        let bytes = Vec::from_slice(alloc, label)?;
         Ok(Entry {
             name: Seq::from_vec(name),
             label: Seq::from_vec(bytes),
@@ -41,6 +40,7 @@ impl Entry {
 /// The entries of the items that an event made, in order.
 #[derive(Drop)]
 pub struct Records {
+    alloc: Global,
     entries: Vec<Entry>,
 }
 
@@ -60,15 +60,9 @@ impl Records {
         ensures { result ≡ [] }
     {
         Records {
+            alloc,
             entries: Vec::new(alloc),
         }
-    }
-
-    /// These entries.
-    pub(crate) fn of(entries: Vec<Entry>) -> Records
-        ensures { result ≡ map entry_seen entries.items }
-    {
-        Records { entries }
     }
 
     /// The entries, in order.
@@ -76,5 +70,23 @@ impl Records {
         ensures { map entry_seen result.now ≡ self.now }
     {
         &self.entries
+    }
+}
+
+/// A list keeps an entry as it is.
+impl Keeper for Records {
+    ghost use Rattle.std.specs.Prelude.{[], ◌∷◌};
+    ghost use Rattle.label_model.specs.Files.{Entry};
+
+    ghost Part = { Entry };
+
+    ghost parts_of = { λ e. e ∷ [] };
+
+    ghost kept = { λ r. r };
+
+    fn keep(&mut self, instance: &[u8], port: &[u8], label: &[u8]) -> Result<(), AllocError> {
+        let entry = Entry::new(self.alloc, instance, port, label)?;
+        self.entries.push(entry)?;
+        Ok(())
     }
 }

@@ -1,28 +1,34 @@
 // A run whose items are labelled as they are made.
-ghost use Rattle.std.specs.Prelude.{◌≡◌, ◌⊎◌, ◌<◌, ◌++◌, ◌∷◌, [], List, Some, None, length, map, position, bytes_eq, IfOk, IfErr, IfSome, IsNone, OnOk, OnErr};
+ghost use Rattle.std.specs.Prelude.{◌≡◌, ◌⊎◌, ◌<◌, ◌≤◌, ◌++◌, ◌∷◌, [], ℕ, List, Some, None, length, map, flat_map, position, bytes_eq, IfErr, IfSome, IsNone, OnOk, OnErr};
 ghost use Rattle.wf_model.specs.declared.event.Event.{Event};
 ghost use Rattle.wf_model.specs.declared.event.Event.TheVariants.{Start, Expand};
 ghost use Rattle.wf_model.specs.declared.event.RunFault.TheVariants.{NoMemory};
+ghost use Rattle.wf_model.specs.Lists.{IsIn};
 ghost use Rattle.wf_model.specs.Faults.{fault_of};
 ghost use Rattle.wf_model.specs.Grammar.{body_of};
-ghost use Rattle.label_model.specs.Files.{entry_of};
+ghost use Rattle.label_model.specs.Files.{entry_of, entry_bytes};
 ghost use Rattle.label_model.specs.RunLabels.{labelled_by};
 ghost use Rattle.wf_run.specs.Runs.{IsRunOf, GoesOn};
-ghost use Rattle.wf_labeller.specs.Entries.{entry_seen, HaveLabelsWithin};
+ghost use Rattle.wf_labeller.specs.Entries.{HaveLabelsWithin};
+ghost use Rattle.wf_labeller.specs.Keeping.{Adds, HasMore};
 
-use crate::edges::edge_entries;
-use crate::entry::{Entry, Records};
-use crate::ports::root_entries;
+use crate::edges::keep_edges;
+use crate::entry::Records;
+use crate::keeper::Keeper;
+use crate::ports::keep_root;
+use crate::room::have_room;
+use bit_pack::BitWriter;
 use std::alloc::{AllocError, Global};
 use std::marker::Model;
 use wf_run::{NodeNo, Run};
 use wf_spec::{Event, Name, ProdNo, RunFault};
 
-/// A run, and what labels the items that its events make. A caller sees it as the run.
+/// A run, and what labels the items that its events make. A caller sees it as the run. The bits of a label are written where those of the label before were, so that an item takes no memory of its own.
 #[derive(Drop)]
 pub struct Labeller<'a> {
     alloc: Global,
     run: Run<'a>,
+    bits: BitWriter,
 }
 
 impl<'a> Model for Labeller<'a> {
@@ -38,7 +44,11 @@ impl<'a> Labeller<'a> {
     pub fn new(alloc: Global, run: Run<'a>) -> Labeller<'a>
         ensures { result ≡ run.entry }
     {
-        Labeller { alloc, run }
+        Labeller {
+            alloc,
+            run,
+            bits: BitWriter::new(alloc),
+        }
     }
 
     /// The run.
@@ -65,91 +75,129 @@ impl<'a> Labeller<'a> {
     {
         // The bound holds since the grammar is well-formed and strictly linear.
         let _formed = self.run.grammar().start();
-        let entries = self.label(event)?;
-        *into = Records::of(entries);
+        let mut made = Records::new(self.alloc);
+        self.label(event, &mut made)?;
+        *into = made;
         Ok(())
     }
 
-    /// Takes an event, and gives the entries of the items that it makes.
-    fn label(&mut self, event: &Event) -> Result<Vec<Entry>, RunFault>
+    /// Takes an event as `take` does, and appends the bytes of the entries of the items that it makes, as they stand in a label file. After an error the run and the bytes are as they were.
+    ///
+    /// Errors: as `take`.
+    ///
+    /// Cost: that of the event in the run, and linear in the bytes of the entries. Memory is taken for the run and for the bytes alone.
+    pub fn write(&mut self, event: &Event, into: &mut Vec<u8>) -> Result<(), RunFault>
         ensures taken { OnOk result ((events : List Event) → IsRunOf self.old events → IsRunOf self.new (events ++ event.now ∷ [])) }
-        ensures entries { IfOk result (λ es. (events : List Event) → IsRunOf self.old events → map entry_seen es.items ≡ map entry_of (labelled_by self.old.grammar.core (events ++ event.now ∷ []) event.now)) }
+        ensures entries { OnOk result ((events : List Event) → IsRunOf self.old events → into.new.items ≡ into.old.items ++ flat_map entry_bytes (map entry_of (labelled_by self.old.grammar.core (events ++ event.now ∷ []) event.now))) }
+        ensures extends { OnOk result ((events : List Event) → IsRunOf self.old events → fault_of self.old.grammar.core self.old.most events event.now ≡ None) }
+        ensures goes_on { OnOk result (GoesOn self.old self.new) }
+        ensures refused { IfErr result (λ f. (f ≡ NoMemory) ⊎ ((events : List Event) → IsRunOf self.old events → fault_of self.old.grammar.core self.old.most events event.now ≡ Some f)) }
+        ensures run { OnErr result (self.new ≡ self.old) }
+        ensures into { OnErr result (into.new.items ≡ into.old.items) }
+    {
+        let before = into.len();
+        match self.label(event, into) {
+            Ok(()) => Ok(()),
+            Err(fault) => {
+                into.truncate(before);
+                Err(fault)
+            }
+        }
+    }
+
+    /// Takes an event, and keeps the entries of the items that it makes. After an error some of them may be kept.
+    fn label<K: Keeper>(&mut self, event: &Event, to: &mut K) -> Result<(), RunFault>
+        ensures taken { OnOk result ((events : List Event) → IsRunOf self.old events → IsRunOf self.new (events ++ event.now ∷ [])) }
+        ensures entries { OnOk result ((events : List Event) → IsRunOf self.old events → Adds K.parts_of (K.kept to.old) (K.kept to.new) (map entry_of (labelled_by self.old.grammar.core (events ++ event.now ∷ []) event.now))) }
+        ensures more { HasMore (K.kept to.old) (K.kept to.new) }
         ensures extends { OnOk result ((events : List Event) → IsRunOf self.old events → fault_of self.old.grammar.core self.old.most events event.now ≡ None) }
         ensures goes_on { OnOk result (GoesOn self.old self.new) }
         ensures refused { IfErr result (λ f. (f ≡ NoMemory) ⊎ ((events : List Event) → IsRunOf self.old events → fault_of self.old.grammar.core self.old.most events event.now ≡ Some f)) }
         ensures run { OnErr result (self.new ≡ self.old) }
     {
         match event {
-            Event::Start { name } => start(self.alloc, &mut self.run, name.bytes()),
+            Event::Start { name } => start(&mut self.run, &mut self.bits, name.bytes(), to),
             Event::Expand {
                 instance,
                 production,
                 names,
             } => expand(
-                self.alloc,
                 &mut self.run,
+                &mut self.bits,
                 instance.bytes(),
                 *production,
                 names.items(),
+                to,
             ),
         }
     }
 }
 
-/// Starts a run, and gives the entries of the ports of its root.
-fn start(alloc: Global, run: &mut Run<'_>, name: &[u8]) -> Result<Vec<Entry>, RunFault>
+/// Starts a run, and keeps the entries of the ports of its root. After an error some of them may be kept.
+fn start<K: Keeper>(
+    run: &mut Run<'_>,
+    bits: &mut BitWriter,
+    name: &[u8],
+    to: &mut K,
+) -> Result<(), RunFault>
     ensures taken { OnOk result ((events : List Event) → IsRunOf run.old events → IsRunOf run.new (events ++ Start name.now ∷ [])) }
-    ensures entries { IfOk result (λ es. (events : List Event) → IsRunOf run.old events → map entry_seen es.items ≡ map entry_of (labelled_by run.old.grammar.core (events ++ Start name.now ∷ []) (Start name.now))) }
+    ensures entries { OnOk result ((events : List Event) → IsRunOf run.old events → Adds K.parts_of (K.kept to.old) (K.kept to.new) (map entry_of (labelled_by run.old.grammar.core (events ++ Start name.now ∷ []) (Start name.now)))) }
+    ensures more { HasMore (K.kept to.old) (K.kept to.new) }
     ensures extends { OnOk result ((events : List Event) → IsRunOf run.old events → fault_of run.old.grammar.core run.old.most events (Start name.now) ≡ None) }
     ensures goes_on { OnOk result (GoesOn run.old run.new) }
     ensures refused { IfErr result (λ f. (f ≡ NoMemory) ⊎ ((events : List Event) → IsRunOf run.old events → fault_of run.old.grammar.core run.old.most events (Start name.now) ≡ Some f)) }
     ensures unchanged { OnErr result (run.new ≡ run.old) }
 {
-    let entries = root_entries(alloc, run.grammar(), name)?;
+    keep_root(run.grammar(), bits, name, to)?;
     run.start(name)?;
-    Ok(entries)
+    Ok(())
 }
 
-/// Expands an instance, and gives the entries of the edges of the production.
-fn expand(
-    alloc: Global,
+/// Expands an instance, and keeps the entries of the edges of the production. After an error some of them may be kept.
+fn expand<K: Keeper>(
     run: &mut Run<'_>,
+    bits: &mut BitWriter,
     instance: &[u8],
     production: u64,
     names: &[Name],
-) -> Result<Vec<Entry>, RunFault>
+    to: &mut K,
+) -> Result<(), RunFault>
     ensures taken { OnOk result ((events : List Event) → IsRunOf run.old events → IsRunOf run.new (events ++ Expand instance.now production names.now ∷ [])) }
-    ensures entries { IfOk result (λ es. (events : List Event) → IsRunOf run.old events → map entry_seen es.items ≡ map entry_of (labelled_by run.old.grammar.core (events ++ Expand instance.now production names.now ∷ []) (Expand instance.now production names.now))) }
+    ensures entries { OnOk result ((events : List Event) → IsRunOf run.old events → Adds K.parts_of (K.kept to.old) (K.kept to.new) (map entry_of (labelled_by run.old.grammar.core (events ++ Expand instance.now production names.now ∷ []) (Expand instance.now production names.now)))) }
+    ensures more { HasMore (K.kept to.old) (K.kept to.new) }
     ensures extends { OnOk result ((events : List Event) → IsRunOf run.old events → fault_of run.old.grammar.core run.old.most events (Expand instance.now production names.now) ≡ None) }
     ensures goes_on { OnOk result (GoesOn run.old run.new) }
     ensures refused { IfErr result (λ f. (f ≡ NoMemory) ⊎ ((events : List Event) → IsRunOf run.old events → fault_of run.old.grammar.core run.old.most events (Expand instance.now production names.now) ≡ Some f)) }
     ensures unchanged { OnErr result (run.new ≡ run.old) }
 {
-    let entries = inner_entries(alloc, run, instance, production, names)?;
+    keep_inner(run, bits, instance, production, names, to)?;
     run.expand(instance, production, names)?;
-    Ok(entries)
+    Ok(())
 }
 
-/// The entries of the items that an expand event makes, if the run takes it. There may be none if the run refuses it.
-fn inner_entries(
-    alloc: Global,
+/// Keeps the entries of the items that an expand event makes, if the run takes it. If the run refuses it, there may be none. After an error some of them may be kept.
+fn keep_inner<K: Keeper>(
     run: &Run<'_>,
+    bits: &mut BitWriter,
     instance: &[u8],
     production: u64,
     names: &[Name],
-) -> Result<Vec<Entry>, AllocError>
-    ensures { IfOk result (λ es. (events : List Event) → IsRunOf run.now events → fault_of run.now.grammar.core run.now.most events (Expand instance.now production names.now) ≡ None → map entry_seen es.items ≡ map entry_of (labelled_by run.now.grammar.core (events ++ Expand instance.now production names.now ∷ []) (Expand instance.now production names.now))) }
+    to: &mut K,
+) -> Result<(), AllocError>
+    ensures ok { OnOk result ((events : List Event) → IsRunOf run.now events → fault_of run.now.grammar.core run.now.most events (Expand instance.now production names.now) ≡ None → Adds K.parts_of (K.kept to.old) (K.kept to.new) (map entry_of (labelled_by run.now.grammar.core (events ++ Expand instance.now production names.now ∷ []) (Expand instance.now production names.now)))) }
+    ensures more { HasMore (K.kept to.old) (K.kept to.new) }
 {
     let Some((n, number)) = place(run, instance, production, names) else {
-        return Ok(Vec::new(alloc));
+        return Ok(());
     };
     let g = run.grammar();
     // A grammar is well-formed: what the run keeps of an instance is the prefix of its labels.
     let _formed = g.start();
-    edge_entries(alloc, g, number, names, run.prefix(n))
+    keep_edges(g, number, names, run.prefix(n), bits, to)?;
+    Ok(())
 }
 
-/// The numbers of an instance and of a production by which it may be expanded into these names. None tells that the run refuses the event.
+/// The numbers of an instance and of a production by which it may be expanded into these names, each of which has at most 64 bytes. None tells that the run refuses the event.
 fn place(
     run: &Run<'_>,
     instance: &[u8],
@@ -158,6 +206,7 @@ fn place(
 ) -> Option<(NodeNo, ProdNo)>
     ensures place { IfSome result (λ t. (position (bytes_eq instance.now) run.now.names ≡ Some t.0.0) × (t.0.0 < length run.now.nodes)) }
     ensures production { IfSome result (λ t. (t.1.0 ≡ production) × (production < length run.now.grammar.core.productions) × (length names.now ≡ length (body_of run.now.grammar.core production))) }
+    ensures short { IfSome result (λ _. (n : List ℕ) → IsIn n names.now → length n ≤ 64) }
     ensures none { IsNone result → (events : List Event) → IsRunOf run.now events → fault_of run.now.grammar.core run.now.most events (Expand instance.now production names.now) ≡ None → ⊥ }
 {
     let n = run.find(instance)?;
@@ -174,6 +223,9 @@ fn place(
         return None;
     }
     if names.len() != rule.positions().len() {
+        return None;
+    }
+    if !have_room(names) {
         return None;
     }
     Some((n, number))

@@ -3,8 +3,10 @@
 
 mod edges;
 mod entry;
+mod keeper;
 mod labeller;
 mod ports;
+mod room;
 
 pub use entry::{Entry, Records};
 pub use labeller::Labeller;

@@ -1,58 +1,69 @@
 // The entries of the ports of the root.
-ghost use Rattle.std.specs.Prelude.{◌≡◌, ◌<◌, ◌≤◌, ◌++◌, List, map, length, IfOk, OnOk};
+ghost use Rattle.std.specs.Prelude.{◌≡◌, ◌≤◌, ℕ, List, map, length, OnOk};
 ghost use Rattle.wf_model.specs.declared.event.Event.{Event};
 ghost use Rattle.wf_model.specs.declared.event.Event.TheVariants.{Start};
-ghost use Rattle.wf_model.specs.WellFormed.{IsWellFormed};
+ghost use Rattle.wf_model.specs.Lists.{IsIn};
 ghost use Rattle.label_model.specs.Files.{entry_of};
 ghost use Rattle.label_model.specs.Labels.{label_bits};
 ghost use Rattle.label_model.specs.RunLabels.{labelled_by};
-ghost use Rattle.wf_labeller.specs.Entries.{entry_seen, port_label, labelled_ports};
+ghost use Rattle.wf_labeller.specs.Entries.{port_label, labelled_ports};
+ghost use Rattle.wf_labeller.specs.Keeping.{Adds, HasMore};
 
-use crate::entry::Entry;
-use bit_pack::Bits;
-use std::alloc::{AllocError, Global};
-use wf_label::{Label, write_label};
+use crate::keeper::Keeper;
+use crate::room::has_room;
+use bit_pack::BitWriter;
+use std::alloc::AllocError;
+use wf_label::{Label, write_anew};
 use wf_spec::{Grammar, Name, PortNo, Side};
 
-/// The bits of the label of a port of the root.
-fn port_bits(alloc: Global, side: Side, port: PortNo) -> Result<Bits, AllocError>
-    ensures { IfOk result (λ b. b ≡ label_bits (port_label side port.0)) }
+/// Writes the label of a port of the root, in place of what was written.
+fn write_port(bits: &mut BitWriter, side: Side, port: PortNo) -> Result<(), AllocError>
+    ensures ok { OnOk result (bits.new ≡ label_bits (port_label side port.0)) }
+    ensures few { OnOk result (length bits.new ≤ 391551) }
 {
     match side {
-        Side::Input => write_label(alloc, &Label::Input(port)),
-        Side::Output => write_label(alloc, &Label::Output(port)),
+        Side::Input => write_anew(bits, &Label::Input(port)),
+        Side::Output => write_anew(bits, &Label::Output(port)),
     }
 }
 
-/// Appends the entries of the ports of one side of the root. After an error some of them may be there.
-fn append_ports(
-    alloc: Global,
+/// Keeps the entries of the ports of one side of the root. After an error some of them may be kept.
+fn keep_ports<K: Keeper>(
+    bits: &mut BitWriter,
     root: &[u8],
     side: Side,
     ports: &[Name],
-    to: &mut Vec<Entry>,
+    to: &mut K,
 ) -> Result<(), AllocError>
-    requires { length ports.now ≤ 64 }
-    ensures { OnOk result (map entry_seen to.new.items ≡ map entry_seen to.old.items ++ map entry_of (labelled_ports side root.now 0 ports.now)) }
+    requires few { length ports.now ≤ 64 }
+    requires root { length root.now ≤ 64 }
+    requires short { (n : List ℕ) → IsIn n ports.now → length n ≤ 64 }
+    ensures ok { OnOk result (Adds K.parts_of (K.kept to.old) (K.kept to.new) (map entry_of (labelled_ports side root.now 0 ports.now))) }
+    ensures more { HasMore (K.kept to.old) (K.kept to.new) }
 {
     for k in 0..ports.len() {
-        let label = port_bits(alloc, side, PortNo(k as u8))?;
-        to.push(Entry::new(alloc, root, ports[k].bytes(), &label)?)?;
+        write_port(bits, side, PortNo(k as u8))?;
+        let port = ports[k].bytes();
+        to.keep(root, port, bits.bytes())?;
     }
     Ok(())
 }
 
-/// The entries of the items that a start event makes: those of the root's inputs, and then of its outputs.
-pub(crate) fn root_entries(
-    alloc: Global,
+/// Keeps the entries of the items that a start event makes: those of the root's inputs, and then of its outputs. None are kept where the name is longer than a run takes. After an error some of them may be kept.
+pub(crate) fn keep_root<K: Keeper>(
     g: &Grammar,
+    bits: &mut BitWriter,
     root: &[u8],
-) -> Result<Vec<Entry>, AllocError>
-    ensures { IfOk result (λ es. (events : List Event) → map entry_seen es.items ≡ map entry_of (labelled_by g.now.core events (Start root.now))) }
+    to: &mut K,
+) -> Result<(), AllocError>
+    ensures ok { OnOk result (length root.now ≤ 64 → (events : List Event) → Adds K.parts_of (K.kept to.old) (K.kept to.new) (map entry_of (labelled_by g.now.core events (Start root.now)))) }
+    ensures more { HasMore (K.kept to.old) (K.kept to.new) }
 {
+    if !has_room(root) {
+        return Ok(());
+    }
     let start = &g.modules()[g.start().0 as usize];
-    let mut entries = Vec::new(alloc);
-    append_ports(alloc, root, Side::Input, start.inputs(), &mut entries)?;
-    append_ports(alloc, root, Side::Output, start.outputs(), &mut entries)?;
-    Ok(entries)
+    keep_ports(bits, root, Side::Input, start.inputs(), to)?;
+    keep_ports(bits, root, Side::Output, start.outputs(), to)?;
+    Ok(())
 }

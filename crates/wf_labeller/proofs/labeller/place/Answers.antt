@@ -1,7 +1,7 @@
 use Rattle.std.proofs.Common.{sym, ap, ◌∙◌}
 use Rattle.wf_model.specs.Grammar.{Production, head_of}
 use Rattle.wf_spec.specs.Held.{HeldGrammar}
-use Rattle.wf_labeller.proofs.Expansions.{is_found, is_of_head, is_closed}
+use Rattle.wf_labeller.proofs.Expansions.{is_found, is_of_head, is_closed, have_room, rooms_give}
 use Rattle.wf_labeller.proofs.labeller.place.Goals as goal
 
 pub returns-in_err-n-clause-none : goal.returns-in_err-n-clause-none
@@ -15,3 +15,10 @@ returns-then-ne-clause-none c none events run taken =
 pub returns-then-is_some-clause-none : goal.returns-then-is_some-clause-none
 returns-then-is_some-clause-none c none events run taken =
     is_closed c.args.run.now events run c.args.instance.now c.args.production c.args.names.now taken c.in_ok-n.n.0 (sym c.in_ok-n.ensures.place) _ _ c.children.ensures (sym c.is_some.ensures ∙ c.if-is_some.true)
+
+pub returns-then-not-have_room-clause-none : goal.returns-then-not-have_room-clause-none
+returns-then-not-have_room-clause-none c none events run taken =
+    have_room c.args.run.now events run c.args.instance.now c.args.production c.args.names.now taken (sym c.have_room.ensures ∙ c.if-not-have_room.true)
+
+pub returns-clause-short : goal.returns-clause-short
+returns-clause-short c = rooms_give c.args.names.now (sym c.have_room.ensures ∙ c.if-not-have_room.false)
