@@ -27,7 +27,7 @@ use Rattle.cmd_ask.proofs.NamedItems.{named_found, named_none}
 use Rattle.cmd_ask.proofs.PendingItems.{pending_depends}
 
 -- what the test tells is made open
-made_open : (g : Grammar) (u : View) (e : List Event) (o : Option (List ℕ)) → IsTrue (is_made_open g u e o) → IsMadeOpen g u g.start e o
+pub made_open : (g : Grammar) (u : View) (e : List Event) (o : Option (List ℕ)) → IsTrue (is_made_open g u e o) → IsMadeOpen g u g.start e o
 made_open g u e None h = tt
 made_open g u e (Some k) h = h
 

@@ -7,3 +7,5 @@ pub mod OneWord
 pub mod PathAnswers
 pub mod PendingItems
 pub mod RunAnswered
+pub mod SomeAnswering
+pub mod SomeWord

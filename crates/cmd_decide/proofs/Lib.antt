@@ -1,3 +1,4 @@
 pub mod Digits
 pub mod OneDecision
 pub mod TwoLabels
+pub mod SomeDecision

@@ -4,3 +4,4 @@ pub mod OneText
 pub mod OneViewText
 pub mod ViewLines
 pub mod ViewWritten
+pub mod SomeDescription

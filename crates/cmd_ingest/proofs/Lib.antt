@@ -1,3 +1,4 @@
 pub mod HeadFirst
 pub mod Ingesting
 pub mod Labelling
+pub mod SomeIngestion

@@ -31,6 +31,7 @@ pub mod GrammarLimits
 pub mod LabelRoom
 pub mod FileReadings
 pub mod OpenedNames
+pub mod OpenedLabels
 pub mod CutFiles
 pub mod NamesDiffer
 pub mod GoodFiles

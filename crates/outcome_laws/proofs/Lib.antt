@@ -1,5 +1,6 @@
 pub mod AllIngested
 pub mod AskIsTrace
+pub mod GoodCalls
 pub mod GrownLines
 pub mod IngestGrows
 pub mod LabelEntries
@@ -12,3 +13,4 @@ pub mod OneIngestion
 pub mod OneStages
 pub mod OutcomeLaws
 pub mod SameInstances
+pub mod SomeOutcomes

@@ -29,6 +29,10 @@ OneOutcomeLaw =
     (files : List ℕ → File) (words : List (List ℕ)) (d e : End) (t s : List ℕ) →
     IsOutcome files words d t → IsOutcome files words e s → (d ≡ e) × (t ≡ s)
 
+-- words and files have an outcome: an end and a text. By the law above it is the only one
+abbrev pub SomeOutcomeLaw : Type 0
+SomeOutcomeLaw = (files : List ℕ → File) (words : List (List ℕ)) → (ending : End) × (text : List ℕ) × IsOutcome files words ending text
+
 -- What the labels of a run tell, the run tells. Under a safe view a query is answered from the entries of the label file of an accepted run by a word exactly if this word answers it in each finishing of the run
 abbrev pub LabelsTellLaw : Type 0
 LabelsTellLaw =

@@ -1,10 +1,21 @@
 // Laws of what the program does: the contracts of functions that do nothing.
-ghost use Rattle.outcome_laws.specs.Laws.{AskIsTraceLaw, IngestGrowsLaw, LabelsAnswerLaw, LabelsTellLaw, OneOutcomeLaw};
+ghost use Rattle.outcome_laws.specs.GoodCalls.{GoodCallLaw};
+ghost use Rattle.outcome_laws.specs.Laws.{AskIsTraceLaw, IngestGrowsLaw, LabelsAnswerLaw, LabelsTellLaw, OneOutcomeLaw, SomeOutcomeLaw};
 ghost use Rattle.outcome_laws.specs.SameInstances.{SameInstancesLaw};
 
 /// The words and the files leave one end and one text at most.
 pub fn one_outcome_law()
     ensures { OneOutcomeLaw }
+{}
+
+/// The words and the files leave an end and a text: each call has an outcome.
+pub fn some_outcome_law()
+    ensures { SomeOutcomeLaw }
+{}
+
+/// Where the words are a command, each file is read and tells what the command wants of it, and the words that are labels are labels, no end is left but that all is done.
+pub fn good_call_law()
+    ensures { GoodCallLaw }
 {}
 
 /// What `ingest` writes over a file of events begins what it writes over each that goes on from it, however either call ends.

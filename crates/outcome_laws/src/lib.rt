@@ -1,6 +1,9 @@
 //! Laws of what the program does, across its commands. No library of the program depends on them.
 //!
 //! - `one_outcome_law`: words and files leave one end and one text at most.
+//! - `some_outcome_law`: words and files leave an end and a text, so exactly one.
+//! - `good_call_law`: where nothing is to be refused, the end is that all is done.
+//! - `call`, `call_plain`: the program comes to its outcome, or wants memory.
 //! - `labels_tell_law`: a query has the same answers from a run's label file as from the run, in each of its finishings.
 //! - `labels_answer_law`: so have lines of queries, to the byte and to the end.
 //! - `ask_is_trace_law`: `ask` over the label file that `ingest` wrote writes what `trace` writes over the events.
@@ -8,9 +11,11 @@
 //! - `same_instances_law`: the run of `trace` and that of `ingest` have the same instances.
 #![tactic(auto)]
 
+mod calls;
 mod law;
 
+pub use calls::{call, call_plain};
 pub use law::{
-    ask_is_trace_law, ingest_grows_law, labels_answer_law, labels_tell_law, one_outcome_law,
-    same_instances_law,
+    ask_is_trace_law, good_call_law, ingest_grows_law, labels_answer_law, labels_tell_law,
+    one_outcome_law, same_instances_law, some_outcome_law,
 };

@@ -10,3 +10,4 @@ pub mod ToldPorts
 pub mod Answering
 pub mod WorkedVerdicts
 pub mod OneVerdict
+pub mod SomeVerdict

@@ -15,3 +15,4 @@ pub mod ToldGrammars
 pub mod ViewComposites
 pub mod ViewSteps
 pub mod SomeRun
+pub mod SomeInputs

@@ -25,7 +25,7 @@ module _ (g : Grammar) (formed : IsWellFormed g) where
       let i = in_at (name_of g m) names (among_gives (name_of g m) names t) in
       subst (λ k. is_composite g k ≡ true) (number_is g formed m h) (rule i.0 (at_below (name_of g m) i.0 names i.1) (name_of g m) i.1)
 
-  viewed_composites : (parts : ViewParts) → IsViewed g parts → ExpandsComposites g (view_of g parts)
+  pub viewed_composites : (parts : ViewParts) → IsViewed g parts → ExpandsComposites g (view_of g parts)
   viewed_composites parts viewed m t =
       let k = some_gives (λ j. j == m) (view_of g parts).expanded t in
       let among = in_filter_from (is_expanded g parts) k.0 (numbers_from 0 (length g.modules)) k.1 in

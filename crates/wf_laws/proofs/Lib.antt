@@ -36,3 +36,4 @@ pub mod Graft
 pub mod FreshGrafts
 pub mod GraftAt
 pub mod SeenOrNot
+pub mod DependsOrNot

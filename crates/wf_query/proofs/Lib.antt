@@ -6,3 +6,4 @@ pub mod Opening
 pub mod Faults
 pub mod Lent
 pub mod SomeAnswers
+pub mod SomeWord

@@ -11,3 +11,4 @@ pub mod Ways
 pub mod OneCycles
 pub mod OneLoops
 pub mod LinearOrLoops
+pub mod SomeCycles
