@@ -7,7 +7,7 @@ use wf_model::{EdgePart, EntryPart, ExitPart, Parts, ProdPart, ViewParts};
 use wf_samples::{LINE, grammar};
 
 /// A workflow that makes a tree of sequences: a Main is done by an Align, a Refine, a Build and a Report; a Refine by a Realign and a Refine behind it, or by a Score; and a Build by a Split and an Infer. Pairs are given to Realign and Score.
-const PHYLO: &str = r#"{"start":"Main",
+pub(crate) const PHYLO: &str = r#"{"start":"Main",
 "modules":[
 {"name":"Main","in":["seqs","cfg"],"out":["tree","report"]},
 {"name":"Align","in":["s"],"out":["m","log"]},

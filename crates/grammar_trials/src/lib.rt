@@ -6,6 +6,8 @@ mod cycle_tests;
 #[cfg(test)]
 mod form_tests;
 #[cfg(test)]
+mod generated_tests;
+#[cfg(test)]
 mod json_tests;
 #[cfg(test)]
 mod proper_tests;

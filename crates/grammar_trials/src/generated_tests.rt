@@ -1,0 +1,97 @@
+// Runs that are generated from two numbers, and the draws after them.
+use crate::json_tests::PHYLO;
+use std::alloc::{AllocError, Global};
+use std::test::Fail;
+use wf_gen::Gen;
+use wf_samples::sample;
+use wf_spec::{Event, Name};
+
+/// An S is done by four A and a P among them; an A by a B and a P, in this order or the other; and a B by a P.
+const MANY: &str =
+    r#"{"start":"S","modules":[{"name":"S"},{"name":"A"},{"name":"B"},{"name":"P"}],"productions":[{"head":"S","body":[["a","A"],["b","A"],["c","P"],["d","A"],["e","A"]]},{"head":"A","body":[["p","B"],["q","P"]]},{"head":"A","body":[["p","P"],["q","B"]]},{"head":"B","body":[["p","P"]]}]}"#;
+
+/// A run: the text of its specification, how many expansions are asked for, the seed, and how many instances it may have.
+type Asked = (&'static str, u32, u64, u32);
+
+/// Each line: a run, its events, and the draw after the last of them. The draws of a turn that would pass the limit are spent. The values are those of a program that was written apart.
+const RUNS: [(Asked, &str, u32); 7] = [
+    (
+        (PHYLO, 12, 4, 16_777_216),
+        "n0; n0 by 0: n1 n2 n3 n4; n2 by 2: n5; n3 by 3: n6 n7; ",
+        1_575_912_754,
+    ),
+    (
+        (PHYLO, 4, 1, 16_777_216),
+        "n0; n0 by 0: n1 n2 n3 n4; n3 by 3: n5 n6; n2 by 1: n7 n8; n8 by 1: n9 n10; ",
+        3_688_506_836,
+    ),
+    (
+        (PHYLO, 1, 1, 16_777_216),
+        "n0; n0 by 0: n1 n2 n3 n4; ",
+        3_403_630_417,
+    ),
+    (
+        (PHYLO, 4, 1, 6),
+        "n0; n0 by 0: n1 n2 n3 n4; ",
+        4_177_522_235,
+    ),
+    ((PHYLO, 0, 1, 1), "n0; ", 866_585_574),
+    ((PHYLO, 4, 1, 1), "n0; ", 3_403_630_417),
+    (
+        (MANY, 8, 2, 16_777_216),
+        "n0; n0 by 0: n1 n2 n3 n4 n5; n2 by 2: n6 n7; n1 by 1: n8 n9; n5 by 1: n10 n11; n7 by 3: n12; n4 by 1: n13 n14; n13 by 3: n15; n10 by 3: n16; ",
+        1_042_745_095,
+    ),
+];
+
+fn add(out: &mut Vec<u8>, before: &[u8], name: &Name) -> Result<(), AllocError> {
+    out.extend_from_slice(before)?;
+    Ok(out.extend_from_slice(name.bytes())?)
+}
+
+/// Appends an event, told in short.
+fn tell(alloc: Global, out: &mut Vec<u8>, event: &Event) -> Result<(), Fail> {
+    match event {
+        Event::Start { name } => add(out, b"", name)?,
+        Event::Expand {
+            instance,
+            production,
+            names,
+        } => {
+            add(out, b"", instance)?;
+            out.extend_from_slice(format!(in alloc; " by {production}:")?.as_bytes())?;
+            for name in names.items() {
+                add(out, b" ", name)?;
+            }
+        }
+    }
+    Ok(out.extend_from_slice(b"; ")?)
+}
+
+/// The events of a run, and the draw after them.
+fn told(alloc: Global, asked: Asked) -> Result<(Vec<u8>, u32), Fail> {
+    let (text, n, seed, most) = asked;
+    if most < 1 {
+        return Err(Fail::new("a limit from 1 on"));
+    }
+    let s = sample(alloc, text)?;
+    let mut run = Gen::new(alloc, &s.grammar, &s.cycles, n, seed, most);
+    let mut out = Vec::new(alloc);
+    for _ in 0..16 {
+        let Some(event) = run.next()? else {
+            return Ok((out, run.draw()));
+        };
+        tell(alloc, &mut out, &event)?;
+    }
+    Err(Fail::new("a run of fewer than 16 events"))
+}
+
+#[test]
+fn runs_are_generated(rt: HostRuntime) -> Result<(), Fail> {
+    for (asked, events, draw) in RUNS {
+        let (text, next) = told(rt.alloc(), asked)?;
+        assert_eq!(rt; text.as_slice(), events.as_bytes());
+        assert_eq!(rt; next, draw);
+    }
+    Ok(())
+}

@@ -1,0 +1,9 @@
+pub mod Drawing
+pub mod Numbered
+pub mod Lists
+pub mod Choices
+pub mod Children
+pub mod Coming
+pub mod Following
+pub mod GeneratedRuns
+pub mod Worked

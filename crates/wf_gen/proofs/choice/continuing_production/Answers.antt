@@ -1,0 +1,8 @@
+use Rattle.wf_gen.proofs.Choices.{production_told}
+use Rattle.wf_gen.proofs.choice.continuing_production.Goals as goal
+
+pub returns-in-Some : goal.returns-in-Some
+returns-in-Some c = production_told c.args.g.now.core c.args.cycles.now c.start-formed.ensures.formed c.requires.linear c.requires.cycles c.args.m.0 c.requires.in_range _ c.in-Some.ensures
+
+pub returns-in-None : goal.returns-in-None
+returns-in-None c = production_told c.args.g.now.core c.args.cycles.now c.start-formed.ensures.formed c.requires.linear c.requires.cycles c.args.m.0 c.requires.in_range _ c.in-None.ensures

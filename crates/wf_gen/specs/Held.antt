@@ -1,0 +1,56 @@
+-- Generated runs as the program holds them.
+use Rattle.std.specs.Prelude.{◌≡◌, ℕ, ◌+◌, ◌<◌, ◌≤◌, List, [], map, length, Option, MatchOption}
+use Rattle.wf_model.specs.Lists.{IsIn}
+use Rattle.wf_model.specs.Grammar.{Grammar, IsComposite}
+use Rattle.wf_model.specs.Linear.{IsLinear}
+use Rattle.wf_model.specs.declared.event.Event.{Event}
+use Rattle.wf_recur.specs.Cycles.{CyclesSeen, AreCyclesOf}
+use Rattle.wf_gen.specs.declared.pending.Pending.{Pending as PendingHeld}
+use Rattle.wf_gen.specs.declared.choice.Turn.{Turn as TurnHeld}
+use Rattle.wf_gen.specs.declared.turn.State.{State as StateHeld}
+use Rattle.wf_gen.specs.Turns.{Pending, Turn, State, child_count, event_of, next_turn, draws_after, after_turn, after_draws}
+
+-- a pending instance, as the definitions see it
+abbrev pub pending_of : PendingHeld → Pending
+pending_of p = record { number = p.number; module_no = p.«module».0 }
+
+-- pending instances, as they see them
+abbrev pub all_pending : List PendingHeld → List Pending
+all_pending = map pending_of
+
+-- a turn, as they see it
+abbrev pub turn_of : TurnHeld → Turn
+turn_of t = record { place = t.place; instance = pending_of t.instance; production = t.production.0 }
+
+-- a run between two turns, as they see it
+abbrev pub state_of : StateHeld → State
+state_of s = record { made = s.made; pending = all_pending s.pending.items; draws = s.draws }
+
+-- each of them is of a composite module
+abbrev pub AreComposite : Grammar → List Pending → Type 0
+AreComposite g pending = (p : Pending) → IsIn p pending → (p.module_no < length g.modules) × IsComposite g p.module_no
+
+-- an expansion by a turn, with these draws left as they are: nothing where it would pass the limit; else the event of the turn
+abbrev pub IsExpansion : Grammar → ℕ → State → Turn → Option Event → State → Type 0
+IsExpansion g limit old t given new =
+    MatchOption given ((limit < old.made + child_count g t) × (new ≡ old))
+    (λ e. (old.made + child_count g t ≤ limit) × (e ≡ event_of g old.made t) × (new ≡ after_turn g old t old.draws))
+
+-- the next turn of a run: nothing but two draws where it would pass the limit; else the event of the turn
+abbrev pub IsTurn : Grammar → ℕ → State → Option Event → State → Type 0
+IsTurn g limit old given new =
+    MatchOption given ((limit < old.made + child_count g (next_turn g old)) × (new ≡ after_draws old))
+    (λ e. (old.made + child_count g (next_turn g old) ≤ limit) × (e ≡ event_of g old.made (next_turn g old)) × (new ≡ after_turn g old (next_turn g old) (draws_after old)))
+
+-- how many turns are left after a turn: none after one that gave no event
+abbrev pub AreLeft : ℕ → Option Event → ℕ → Type 0
+AreLeft old given new = MatchOption given (new ≡ 0) (λ e. new + 1 ≡ old)
+
+-- what the fields of a generator keep
+pub record IsKept (g : Grammar) (c : CyclesSeen) (limit : ℕ) (s : State) : Type 0 where
+  pub linear : IsLinear g
+  pub cycles : AreCyclesOf g c
+  pub room : 0 < limit
+  pub within : s.made ≤ limit
+  pub before_start : s.made ≡ 0 → s.pending ≡ []
+  pub composite : AreComposite g s.pending

@@ -1,0 +1,6 @@
+pub mod Draws
+pub mod Turns
+pub mod Coming
+pub mod Held
+pub mod Laws
+pub mod Examples

@@ -1,0 +1,142 @@
+// The generator of the events of a run.
+ghost use Rattle.std.specs.Prelude.{◌≡◌, ◌<◌, [], true, IfOk, OnOk, OnErr};
+ghost use Rattle.wf_model.specs.Linear.{IsLinear};
+ghost use Rattle.wf_recur.specs.Cycles.{AreCyclesOf};
+ghost use Rattle.wf_gen.specs.Draws.{draw, drawn};
+ghost use Rattle.wf_gen.specs.Turns.{generated};
+ghost use Rattle.wf_gen.specs.Coming.{IsNext, all_of, coming};
+ghost use Rattle.wf_gen.specs.Held.{AreLeft, IsKept, state_of};
+
+use crate::choice::draw;
+use crate::turn::{State, start, take_turn};
+use rand_core::SeedableRng;
+use rand_pcg::Pcg32;
+use std::alloc::{AllocError, Global};
+use std::marker::Model;
+use wf_recur::Cycles;
+use wf_spec::{Event, Grammar};
+
+/// A generator of a valid run: its events, one after the other, each of which extends the run of those before it. The grammar, the number of expansions, the seed and the limit determine them, the same on every machine.
+#[derive(Drop)]
+pub struct Gen<'a> {
+    alloc: Global,
+    grammar: &'a Grammar,
+    cycles: &'a Cycles,
+    most: u32,
+    left: u32,
+    state: State,
+}
+
+impl<'a> Model for Gen<'a> {
+    ghost use Rattle.wf_gen.specs.Coming.{Coming, coming};
+    ghost use Rattle.wf_gen.specs.Held.{IsKept, state_of};
+
+    ghost Value = { Coming };
+
+    ghost view = { λ g. coming g.grammar.now.core g.most g.left (state_of g.state) };
+
+    ghost invariant = { λ g. IsKept g.grammar.now.core g.cycles.now g.most (state_of g.state) };
+}
+
+/// How many turns are left after one: none after one that gave no event.
+fn turns_left(left: u32, event: &Option<Event>) -> u32
+    requires { 0 < left }
+    ensures { AreLeft left event.now result }
+{
+    match event {
+        Some(_) => left - 1,
+        None => 0,
+    }
+}
+
+/// The next event of a run of which so many turns are left; None where it ends. The only error is that memory is refused, and then the run is as it was.
+fn next_event(
+    alloc: Global,
+    g: &Grammar,
+    cycles: &Cycles,
+    most: u32,
+    left: &mut u32,
+    state: &mut State,
+) -> Result<Option<Event>, AllocError>
+    requires { IsKept g.now.core cycles.now most (state_of state.old) }
+    ensures next { IfOk result (λ e. IsNext (coming g.now.core most left.old (state_of state.old)) e (coming g.now.core most left.new (state_of state.new))) }
+    ensures kept { OnOk result (IsKept g.now.core cycles.now most (state_of state.new)) }
+    ensures same_left { OnErr result (left.new ≡ left.old) }
+    ensures same_state { OnErr result (state_of state.new ≡ state_of state.old) }
+{
+    // A grammar is well-formed.
+    let _formed = g.start();
+    if state.made == 0 {
+        let event = start(alloc, g, state)?;
+        return Ok(Some(event));
+    }
+    if *left == 0 {
+        return Ok(None);
+    }
+    if state.pending.is_empty() {
+        return Ok(None);
+    }
+    let event = take_turn(alloc, g, cycles, most, state)?;
+    *left = turns_left(*left, &event);
+    Ok(event)
+}
+
+impl<'a> Gen<'a> {
+    /// A generator of the run of at most `n` expansions that a seed gives, with at most `most` instances. Takes no memory.
+    ///
+    /// The root is named `n0`, and further instances `n1`, `n2` and so on as they are made. Each turn draws two 32-bit words, `d` and then `e`, of the PCG32 generator that the seed gives, and expands the pending instance at place `d` modulo their number. Where its module stands on a cycle, and it is the only one pending or `e` modulo 4 is not 0, the production is the one that stays on the cycle, and else the alternative `e` / 4 modulo their number. The last pending instance then takes the place of the one that was expanded, and the composite children follow.
+    pub fn new(
+        alloc: Global,
+        grammar: &'a Grammar,
+        cycles: &'a Cycles,
+        n: u32,
+        seed: u64,
+        most: u32,
+    ) -> Gen<'a>
+        requires linear { IsLinear grammar.now.core }
+        requires cycles { AreCyclesOf grammar.now.core cycles.now }
+        requires room { 0 < most }
+        ensures { result ≡ all_of (generated grammar.now.core n seed most) }
+    {
+        Gen {
+            alloc,
+            grammar,
+            cycles,
+            most,
+            left: n,
+            state: State {
+                made: 0,
+                pending: Vec::new(alloc),
+                draws: Pcg32::seed_from_u64(seed),
+            },
+        }
+    }
+
+    /// The next event, and None where there is none: `n` instances were expanded, nothing is pending, or the next event would pass the limit of instances. The two draws of a turn that would pass the limit are spent.
+    ///
+    /// The only error is that memory is refused, and then the generator is as it was.
+    ///
+    /// Cost: two draws, and one look at each position of the body, however long the run is.
+    pub fn next(&mut self) -> Result<Option<Event>, AllocError>
+        ensures next { IfOk result (λ e. IsNext self.old e self.new) }
+        ensures unchanged { OnErr result (self.new ≡ self.old) }
+    {
+        next_event(
+            self.alloc,
+            self.grammar,
+            self.cycles,
+            self.most,
+            &mut self.left,
+            &mut self.state,
+        )
+    }
+
+    /// The next draw after the last event, once `next` has answered None. Takes no memory.
+    pub fn draw(&mut self) -> u32
+        requires { self.old.ended ≡ true }
+        ensures draw { result ≡ draw self.old.draws }
+        ensures after { self.new ≡ record { events = []; draws = drawn self.old.draws; ended = true } }
+    {
+        draw(&mut self.state.draws)
+    }
+}
