@@ -1,17 +1,22 @@
 // Files by their paths.
 ghost use Rattle.std.specs.Prelude.{◌≡◌, ◌^◌, ◌-◌, ◌≤◌, nat_eq, None, Some, IfSome, length};
 
-use std::alloc::Global;
 use std::fs::{self, File};
 use std::hash::{BuildHasher, RandomState};
 use std::io::{ErrorKind, Read};
 use std::os::unix::fs::FileExt;
 use wf_io::{Failed, Shelf};
 
+/// More bytes than a path has that the system opens.
+const PATH_MOST: usize = 4096;
+
 /// An open file, the path by which it was opened, and the place in it up to which it was read on.
+///
+/// The path stands in a room of its own, so that no memory can be wanting where a file is opened.
 #[derive(Drop)]
 struct Held {
-    path: String,
+    path: [u8; PATH_MOST],
+    length: usize,
     file: File,
     place: u64,
 }
@@ -47,13 +52,16 @@ impl<'r> DirShelf<'r> {
     }
 }
 
-/// Opens a file. None where it cannot be opened, or memory for its path was refused.
+/// Opens a file. None where it cannot be opened. Takes no memory.
 fn opened(rt: &HostRuntime, name: &str) -> Option<Held> {
-    let alloc: Global = rt.alloc();
-    let path = String::from_str(alloc, name).ok()?;
+    let bytes = name.as_bytes();
+    let length = bytes.len();
+    let mut path = [0u8; PATH_MOST];
+    path.get_mut(..length)?.copy_from_slice(bytes);
     let file = fs::open(rt, name).ok()?;
     Some(Held {
         path,
+        length,
         file,
         place: 0,
     })
@@ -120,7 +128,7 @@ fn read_held(
         return Some(0);
     }
     let is_held = match held {
-        Some(h) => h.path.as_str() == name,
+        Some(h) => h.path.get(..h.length) == Some(name.as_bytes()),
         None => false,
     };
     if !is_held {

@@ -13,6 +13,7 @@ use std::env;
 use std::io::ErrorKind;
 use std::process::ExitCode;
 use std_sink::StdSink;
+use wf_io::Sink;
 use wf_top::{Status, run};
 
 /// The exit status that tells a status.
@@ -52,13 +53,20 @@ fn words_of(alloc: Global, texts: &[String]) -> Result<Vec<&str>, AllocError> {
     Ok(words)
 }
 
+/// Tells that memory was wanting before there were words.
+fn told_wanting(rt: &HostRuntime) -> ExitCode {
+    let mut err = StdSink::new(rt.stderr());
+    let _ = err.put(b"no memory\n");
+    ExitCode::from(code_of(Status::NoMemory))
+}
+
 fn main(rt: HostRuntime) -> ExitCode {
     let alloc = rt.alloc();
     let Ok(texts) = texts_of(&rt) else {
-        return ExitCode::from(code_of(Status::NoMemory));
+        return told_wanting(&rt);
     };
     let Ok(words) = words_of(alloc, &texts) else {
-        return ExitCode::from(code_of(Status::NoMemory));
+        return told_wanting(&rt);
     };
     let mut shelf = DirShelf::new(&rt);
     let mut out = StdSink::new(rt.stdout());
