@@ -36,7 +36,13 @@ def run(words, folder, wanted=0):
 
 
 def run_for_bytes(words, folder, wanted=0):
-    """The same, where what the command writes is no text.
+    """The same, where what the command writes is no text."""
+    used, out, message = run_for_use(words, folder, wanted)
+    return used["seconds"], used["peak"], out, message
+
+
+def run_for_use(words, folder, wanted=0):
+    """The same, with the seconds, those of the processor and the peak of memory by their names, and then both texts.
 
     The command is started by a small process of its own: the system counts to the peak of a process what the one that
     started it held, and a script that made large files holds much.
@@ -47,21 +53,27 @@ def run_for_bytes(words, folder, wanted=0):
         out.seek(0)
         err.seek(0)
         told.seek(0)
-        seconds, peak, status = json.load(told)
+        used = json.load(told)
         message = err.read().decode()
-        if status != wanted:
-            sys.exit(f"{' '.join(words)} ended with {status}, and not with {wanted}: {message}")
-        return seconds, peak, out.read(), message
+        if used["status"] != wanted:
+            sys.exit(f"{' '.join(words)} ended with {used['status']}, and not with {wanted}: {message}")
+        return used, out.read(), message
 
 
 def start(told, words):
-    """Runs a command, and writes its seconds, its peak of memory in bytes and its status to an open file."""
+    """Runs a command, and writes what it used to an open file: seconds, seconds of the processor, bytes of memory at most, and its status."""
     begun = time.perf_counter()
     child = subprocess.Popen(words)
     _, status, usage = os.wait4(child.pid, 0)
     seconds = time.perf_counter() - begun
     child.returncode = os.waitstatus_to_exitcode(status)
-    os.write(told, json.dumps([seconds, usage.ru_maxrss * 1024, child.returncode]).encode())
+    used = {
+        "seconds": seconds,
+        "processor": usage.ru_utime + usage.ru_stime,
+        "peak": usage.ru_maxrss * 1024,
+        "status": child.returncode,
+    }
+    os.write(told, json.dumps(used).encode())
 
 
 def clock(work):

@@ -452,6 +452,17 @@ asks_behind_the_longest_chain() {
 }
 check "items behind the longest chain are told from others by their ports" asks_behind_the_longest_chain
 
+# The same with three entries and nothing else of a run: an input, and two items behind 100,000 repetitions.
+asks_from_three_labels() {
+    (
+        head -c 36 examples/twisting/labels
+        printf '\x03p.a\x00\x01\x20\x03q.b\x00\x05\xf0\x00\x0c\x35\x0b\x03q.c\x00\x06\xf0\x00\x0c\x35\x0a\x80'
+    ) >"$work/three"
+    run ask examples/twisting/spec examples/twisting/view "$work/three" "$(text three_queries 'p.a q.b\np.a q.c\n')" &&
+        ended 0 "$(text expected_out 'no\nyes\n')" "$nothing"
+}
+check "three labels answer alone" asks_from_three_labels
+
 full_verdict() {
     [ -w /dev/full ] || return 0
     local status=0

@@ -2,6 +2,7 @@
 //
 // Of LINE 20 is the label of the input, 60 that of the output, and B0 that of the edge. Of FORKING B0 is the edge of the first way to do S, and 94 that of the second.
 use crate::called::{called, called_over_a_fuse, file};
+use crate::worked::{HEAD, START, WHOLE};
 use std::alloc::{AllocError, Global};
 use std::test::Fail;
 use wf_io::MemShelf;
@@ -13,18 +14,6 @@ use wf_top::Status::{Done, ReadFault, Refused, WriteFault};
 /// The head of the label files of LINE, without its last byte.
 const SHORT: &[u8] =
     b"WFL1\x8f\xbb\x4f\xca\xf0\xd4\x77\x63\x20\x00\x89\x79\xb9\x21\x95\x0e\x24\xba\x2b\x3f\xfd\x93\x7a\x5f\xbe\x18\x24\x81\x20\x1d\xce";
-
-/// The label file of LINE for no events: the head alone.
-const HEAD: &[u8] =
-    b"WFL1\x8f\xbb\x4f\xca\xf0\xd4\x77\x63\x20\x00\x89\x79\xb9\x21\x95\x0e\x24\xba\x2b\x3f\xfd\x93\x7a\x5f\xbe\x18\x24\x81\x20\x1d\xce\x8e";
-
-/// The label file of a run of LINE in which nothing is expanded.
-const START: &[u8] =
-    b"WFL1\x8f\xbb\x4f\xca\xf0\xd4\x77\x63\x20\x00\x89\x79\xb9\x21\x95\x0e\x24\xba\x2b\x3f\xfd\x93\x7a\x5f\xbe\x18\x24\x81\x20\x1d\xce\x8e\x03r.a\x00\x01\x20\x03r.b\x00\x01\x60";
-
-/// The label file of a run of LINE that is finished.
-const WHOLE: &[u8] =
-    b"WFL1\x8f\xbb\x4f\xca\xf0\xd4\x77\x63\x20\x00\x89\x79\xb9\x21\x95\x0e\x24\xba\x2b\x3f\xfd\x93\x7a\x5f\xbe\x18\x24\x81\x20\x1d\xce\x8e\x03r.a\x00\x01\x20\x03r.b\x00\x01\x60\x04i1.y\x00\x01\xb0";
 
 /// Labels of FORKING that no run has both.
 const FORGED: &[u8] =
@@ -184,7 +173,7 @@ fn shelf(
     files.push(file(alloc, "view", view.as_bytes(), false)?)?;
     files.push(file(alloc, "labels", labels, broken)?)?;
     files.push(file(alloc, "queries", queries.as_bytes(), false)?)?;
-    Ok(MemShelf::new(Seq::from_vec(files), 5))
+    Ok(MemShelf::new(Seq::from_vec(files), 1))
 }
 
 /// Whether the queries of a label file are answered so.

@@ -1,16 +1,13 @@
 // Label files, with bytes that were worked by hand.
 use crate::called::{Ended, called, file};
+use crate::worked::{EVENTS, HEAD};
 use std::alloc::{AllocError, Global};
 use std::test::Fail;
 use wf_io::MemShelf;
 use wf_model::Seq;
 use wf_samples::{LINE, LOOP};
 use wf_top::Status;
-use wf_top::Status::{Done, ReadFault, Refused, WriteFault};
-
-/// The head of each label file of the grammar `LINE`: four letters and the digest of its canonical text.
-const HEAD: &[u8] =
-    b"WFL1\x8f\xbb\x4f\xca\xf0\xd4\x77\x63\x20\x00\x89\x79\xb9\x21\x95\x0e\x24\xba\x2b\x3f\xfd\x93\x7a\x5f\xbe\x18\x24\x81\x20\x1d\xce\x8e";
+use wf_top::Status::{Done, ReadFault, Refused};
 
 /// The entries of the root's ports, of the grammar `LOOP` too.
 const PORTS: &[u8] = b"\x03r.a\x00\x01\x20\x03r.b\x00\x01\x60";
@@ -23,9 +20,6 @@ const ROUNDS: &[u8] =
     b"\x03r.a\x00\x01\x20\x03r.b\x00\x01\x60\x04w0.y\x00\x01\xfb\x04w1.y\x00\x02\xf4\xc0";
 
 const START: &str = "{\"start\":\"r\"}\n";
-
-const EVENTS: &str =
-    "{\"start\":\"r\"}\n{\"expand\":\"r\",\"production\":0,\"names\":[\"i1\",\"i2\"]}\n";
 
 const TWICE: &str =
     "{\"start\":\"r\"}\n{\"expand\":\"r\",\"production\":0,\"names\":[\"i1\",\"i2\"]}\n\n{\"expand\":\"r\",\"production\":0,\"names\":[\"i3\",\"i4\"]}\nx\n";
@@ -77,19 +71,13 @@ const ROWS: [(&str, &str, bool, Status, &[u8], &str); 9] = [
     (LOOP, ROUND_EVENTS, false, Done, ROUNDS, ""),
 ];
 
-/// How `ingest` ends, with room for so many bytes on out.
-fn ingested(
-    alloc: Global,
-    spec: &str,
-    events: &str,
-    broken: bool,
-    room: usize,
-) -> Result<Ended, AllocError> {
+/// How `ingest` ends.
+fn ingested(alloc: Global, spec: &str, events: &str, broken: bool) -> Result<Ended, AllocError> {
     let mut files = Vec::new(alloc);
     files.push(file(alloc, "spec", spec.as_bytes(), false)?)?;
     files.push(file(alloc, "events", events.as_bytes(), broken)?)?;
-    let mut shelf = MemShelf::new(Seq::from_vec(files), 7);
-    called(alloc, &mut shelf, "ingest spec events", (room, 64))
+    let mut shelf = MemShelf::new(Seq::from_vec(files), 1);
+    called(alloc, &mut shelf, "ingest spec events", (128, 64))
 }
 
 /// Whether bytes are a head, that of the line grammar or another, and then these entries.
@@ -112,7 +100,7 @@ fn are_labelled(
     entries: &[u8],
     message: &str,
 ) -> Result<bool, AllocError> {
-    let ended = ingested(alloc, spec, events, broken, 128)?;
+    let ended = ingested(alloc, spec, events, broken)?;
     let is_told = ended.status == status && ended.err.bytes() == message.as_bytes();
     Ok(is_told && is_file(ended.out.bytes(), spec == LINE, entries))
 }
@@ -125,25 +113,6 @@ fn items_are_labelled_line_by_line(rt: HostRuntime) -> Result<(), Fail> {
             are_labelled(alloc, spec, events, broken, status, entries, message)?,
             "at {events:?}"
         );
-    }
-    Ok(())
-}
-
-/// Whether a sink of so many bytes gets the first ones of the label file of the line grammar.
-fn gets_first(alloc: Global, room: usize) -> Result<bool, AllocError> {
-    let mut whole = Vec::from_slice(alloc, HEAD)?;
-    whole.extend_from_slice(EDGE)?;
-    let ended = ingested(alloc, LINE, EVENTS, false, room)?;
-    match whole.get(..room) {
-        Some(first) => Ok(ended.is(WriteFault, first, b"fault: writing\n")),
-        None => Ok(false),
-    }
-}
-
-#[test]
-fn a_full_sink_has_the_first_bytes(rt: HostRuntime) -> Result<(), Fail> {
-    for room in 0..58 {
-        assert!(rt; gets_first(rt.alloc(), room)?, "at {room}");
     }
     Ok(())
 }

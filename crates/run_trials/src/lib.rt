@@ -12,6 +12,10 @@ mod event_tests;
 #[cfg(test)]
 mod ingest_tests;
 #[cfg(test)]
+mod line_tests;
+#[cfg(test)]
+mod room_tests;
+#[cfg(test)]
 mod spec_tests;
 #[cfg(test)]
 mod verdict_tests;
@@ -19,3 +23,5 @@ mod verdict_tests;
 mod view_tests;
 #[cfg(test)]
 mod word_tests;
+#[cfg(test)]
+mod worked;

@@ -327,7 +327,7 @@ fn words_end_as_they_should(rt: HostRuntime) -> Result<(), Fail> {
     for (line, status, answers, message) in ROWS {
         let alloc = rt.alloc();
         assert!(rt;
-            ends_so(alloc, 2, line, status, answers, message)?,
+            ends_so(alloc, 1, line, status, answers, message)?,
             "at {line:?}"
         );
         assert!(rt;

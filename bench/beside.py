@@ -1,0 +1,179 @@
+#!/usr/bin/env python3
+"""Sets the built program beside a plain program with the same command line, on the same files in one run.
+
+The plain program is any that takes `ingest SPEC EVENTS`, `ask SPEC VIEW LABELS QUERIES` and
+`trace SPEC VIEW EVENTS QUERIES` and writes the same bytes. It is no part of this repository, and is given by its path.
+
+Each workload is a folder with the files `spec` and `events`. It may hold `view` and `queries`, too: without `view` the
+default view `{}` is taken, and without `queries` 100,000 pairs of items are drawn from the label file with a fixed seed.
+The folder's name is that of the workload. With no folder, the chains of bench/chain.py are made, with 100,000 and
+1,000,000 repetitions, and the wide run of bench/trace.py.
+
+It measures, in seconds of the processor, each the least of five, for which the two programs take turns:
+
+- `ingest`,
+- `ask` without queries, which opens the label file, and what a query takes more,
+- `trace` without queries, which makes the graph, and what a query takes more, in the mean of the first 20.
+
+It prints a Markdown table with the ratios and the peaks of memory, which are the greatest of the five; a peak below that
+of the small process that starts a command, some 15 MB, is not seen. It ends with 1
+where the label files, the answers of both programs, or those of `ask` and of `trace` are not the same to the byte, and
+judges nothing else.
+
+Call it from anywhere, after the program was built:
+bench/beside.py --plain PATH [--program PATH] [--turns N] [--without-trace] [--small] [FOLDER..]
+"""
+
+import argparse
+import json
+import os
+import random
+import sys
+import tempfile
+from pathlib import Path
+
+import chain
+import trace
+from measure import PROGRAM, built, run_for_use
+
+QUERIES = 100000
+TRACED = 20
+HEAD = 36
+
+
+def names_in(labels):
+    """The names of the entries of a label file, in order."""
+    names, at = [], HEAD
+    while at < len(labels):
+        behind = at + 1 + labels[at]
+        names.append(labels[at + 1 : behind].decode())
+        at = behind + 2 + int.from_bytes(labels[behind : behind + 2], "big")
+    return names
+
+
+def drawn(labels, count):
+    """So many queries on the items of a label file."""
+    names = names_in(labels)
+    draw = random.Random(1)
+    return "".join(f"{draw.choice(names)} {draw.choice(names)}\n" for _ in range(count))
+
+
+class Both:
+    """A workload, and what the two programs take on it."""
+
+    def __init__(self, programs, title, given, folder, turns):
+        self.programs = programs
+        self.title = title
+        self.folder = folder
+        self.turns = turns
+        for name in ["spec", "events"]:
+            (folder / name).symlink_to((given / name).resolve())
+        self.put("view", given, lambda: "{}")
+        (folder / "none").write_text("")
+
+    def put(self, name, given, made):
+        """The file of this name of the workload, or else one of this text."""
+        if (given / name).is_file():
+            (self.folder / name).symlink_to((given / name).resolve())
+        else:
+            (self.folder / name).write_text(made())
+
+    def taken(self, *words):
+        """What both programs take for a command: the seconds of the processor and the peak of memory of each, and their text."""
+        times, peaks, texts = [[], []], [0, 0], set()
+        for _ in range(self.turns):
+            for k, program in enumerate(self.programs):
+                used, out, _ = run_for_use([program, *words], self.folder)
+                times[k].append(used["processor"])
+                peaks[k] = max(peaks[k], used["peak"])
+                texts.add(out)
+        if len(texts) != 1:
+            sys.exit(f"{self.title}: `{words[0]}` of the two programs wrote different bytes")
+        return [min(t) for t in times], peaks, texts.pop()
+
+    def tell(self, work, times, peaks):
+        """A line of the table."""
+        ratio = f"{times[0] / times[1]:.1f}" if min(times) > 0 else "-"
+        cells = [self.title, work, *[in_words(t) for t in times], ratio, *[f"{p / 1e6:.0f} MB" for p in peaks]]
+        print("| " + " | ".join(cells) + " |", flush=True)
+
+    def tell_with_queries(self, work, words, queries, count):
+        """The lines of a command without queries and of what one of so many takes more. Gives the answers."""
+        base, peaks, _ = self.taken(*words, "none")
+        self.tell(f"`{words[0]}` without queries: {work}", base, peaks)
+        times, peaks, answers = self.taken(*words, queries)
+        if len(answers.splitlines()) != count:
+            sys.exit(f"{self.title}: `{words[0]}` did not answer {count} queries")
+        each = [(t - b) / count for t, b in zip(times, base)]
+        self.tell(f"`{words[0]}`, a query in the mean of {count:,}", each, peaks)
+        return answers
+
+    def measure(self, given, with_trace):
+        times, peaks, labels = self.taken("ingest", "spec", "events")
+        self.tell("`ingest`", times, peaks)
+        (self.folder / "labels").write_bytes(labels)
+        self.put("queries", given, lambda: drawn(labels, QUERIES))
+        lines = (self.folder / "queries").read_text().splitlines(keepends=True)
+        few = lines[:TRACED]
+        (self.folder / "few").write_text("".join(few))
+        words = ["ask", "spec", "view", "labels"]
+        answers = self.tell_with_queries("the label file is opened", words, "queries", len(lines))
+        if with_trace:
+            words = ["trace", "spec", "view", "events"]
+            traced = self.tell_with_queries("the graph is made", words, "few", len(few))
+            if traced != b"".join(answers.splitlines(keepends=True)[: len(few)]):
+                sys.exit(f"{self.title}: `trace` and `ask` answer differently")
+
+
+def in_words(seconds):
+    """Seconds, in the unit that fits."""
+    if seconds <= 0:
+        return "too short"
+    if seconds >= 0.001:
+        return f"{seconds:.3f} s"
+    return f"{seconds * 1e6:.2f} microseconds"
+
+
+def make_workloads(folder, is_small):
+    """The chains and the wide run, each in a folder of its own. Gives the folders."""
+    folders = []
+    for length in [1000, 10000] if is_small else [100000, 1000000]:
+        one = folder / f"chain of {length:,}"
+        one.mkdir()
+        (one / "spec").write_text(json.dumps(chain.SPEC))
+        chain.write_events(one / "events", length)
+        folders.append(one)
+    one = folder / "wide run"
+    one.mkdir()
+    size, draw = trace.Size(is_small), random.Random(1)
+    (one / "spec").write_text(json.dumps(trace.make_spec(size, draw)))
+    trace.make_events(size, draw, one / "events")
+    return folders + [one]
+
+
+def main():
+    words = argparse.ArgumentParser(description=__doc__.splitlines()[0])
+    words.add_argument("--plain", required=True, help="the plain program")
+    words.add_argument("--program", default=str(PROGRAM))
+    words.add_argument("--turns", type=int, default=5, help="how often each command is run by each program")
+    words.add_argument("--without-trace", action="store_true", help="do not measure `trace`")
+    words.add_argument("--small", action="store_true", help="small runs where no folder is given, to try the script")
+    words.add_argument("folders", nargs="*", metavar="FOLDER", type=Path, help="a workload")
+    args = words.parse_args()
+    plain = str(Path(args.plain).resolve())
+    if not os.access(plain, os.X_OK):
+        sys.exit(f"{plain} is no program")
+    programs = [built(args.program), plain]
+    print("| Workload | Work | This program | The plain program | Ratio | Peak | Peak of the plain program |")
+    print("|---|---|---|---|---|---|---|")
+    with tempfile.TemporaryDirectory(prefix="wfprov-bench-") as name:
+        folder = Path(name)
+        (folder / "made").mkdir()
+        for k, given in enumerate(args.folders or make_workloads(folder / "made", args.small)):
+            own = folder / str(k)
+            own.mkdir()
+            Both(programs, given.name, given, own, args.turns).measure(given, not args.without_trace)
+
+
+if __name__ == "__main__":
+    main()
