@@ -18,8 +18,9 @@ use Rattle.wf_flat.specs.Table.{Table, events_of, names_in}
 use Rattle.wf_flat.specs.Graph.{named_links}
 use Rattle.wf_flat.specs.Item.{named_item, IsItemWithin}
 use Rattle.wf_flat.specs.Flat.{FlatSeen, is_item_shown}
+use Rattle.wf_flat.specs.Shown.{is_made_open}
 use Rattle.wf_flat.proofs.Shown.{shown_visible}
-use Rattle.cmd_ask.specs.Answers.{item_named, is_made_open, are_visible, IsVerdictOfRun, IsShown, IsAnswerFor, IsAnswerOfRun}
+use Rattle.cmd_ask.specs.Answers.{item_named, are_visible, IsVerdictOfRun, IsShown, IsAnswerFor, IsAnswerOfRun}
 use Rattle.wf_query.specs.declared.answers.Answer.{Answer}
 use Rattle.wf_query.specs.Answers.{answer_text}
 use Rattle.cmd_ask.specs.Prepared.{IsPrepared, PathIn, TellsPath}

@@ -14,7 +14,8 @@ use Rattle.wf_model.specs.Items.{Item, items, Depends}
 use Rattle.wf_model.proofs.Deciding.{Either, bytes_either}
 use Rattle.wf_laws.proofs.Full.{full_law, safe_full_law}
 use Rattle.wf_laws.proofs.PathTests.{path_either}
-use Rattle.cmd_ask.specs.Answers.{item_named, is_made_open, IsShown, IsAnswerFor, IsAnswerOfRun}
+use Rattle.wf_flat.specs.Shown.{is_made_open}
+use Rattle.cmd_ask.specs.Answers.{item_named, IsShown, IsAnswerFor, IsAnswerOfRun}
 use Rattle.cmd_ask.specs.Prepared.{PathIn}
 use Rattle.cmd_ask.proofs.Answered.{made_open}
 use Rattle.cmd_ask.proofs.NamedItems.{IsFoundBy, found_by}

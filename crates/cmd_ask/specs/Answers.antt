@@ -3,19 +3,14 @@ use Rattle.std.specs.Prelude.{◌≡◌, ◌⊎◌, ℕ, Bool, true, false, cond
 use Rattle.wf_model.specs.declared.event.Event.{Event}
 use Rattle.wf_model.specs.Grammar.{Grammar}
 use Rattle.wf_model.specs.View.{View}
-use Rattle.wf_model.specs.Run.{opens, seen_in}
 use Rattle.wf_model.specs.Items.{Item, items, Depends}
 use Rattle.wf_model.specs.Finishing.{IsFinishing}
+use Rattle.wf_flat.specs.Shown.{is_made_open}
 
 -- the first item of this name
 abbrev pub item_named : List Item → List ℕ → Option Item
 item_named [] n = None
 item_named (t ∷ ts) n = cond (bytes_eq t.name n) (Some t) (item_named ts n)
-
--- made by an open instance, or a port of the root
-abbrev pub is_made_open : Grammar → View → List Event → Option (List ℕ) → Bool
-is_made_open g u e None = true
-is_made_open g u e (Some i) = opens u (seen_in g u g.start e) i
 
 -- both items are visible in the run e
 abbrev pub are_visible : Grammar → View → List Event → Item → Item → Bool

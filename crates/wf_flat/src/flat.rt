@@ -10,10 +10,9 @@ ghost use Rattle.wf_flat.specs.Graph.{named_links, named_port, Marks, IsMadeFor}
 ghost use Rattle.wf_graph.specs.Graph.{HasEdge, InRange};
 ghost use Rattle.wf_flat.specs.Flat.{AreWithin, numbered_port, numbered_links, IsIndex, KeepsIndex, KeepsPlaces, AddsLink, TellsPath, is_item_shown};
 
-use crate::graph::{Link, Port, links};
+use crate::graph::{Link, Port};
 use crate::item::Item;
-use crate::open::opens;
-use crate::seen::{is_set, seen};
+use crate::run_view::RunView;
 use crate::table::PlainRun;
 use indexmap::IndexSet;
 use std::alloc::{AllocError, Global};
@@ -115,11 +114,10 @@ fn is_joined(
     Ok(is_reached)
 }
 
-/// The links of a run, with an index by which paths are searched, and a flag for each instance: whether it is seen and of a marked module.
+/// A run as a view shows it, with an index of its links by which paths are searched.
 #[derive(Drop)]
 pub struct Flat {
-    links: Vec<Link>,
-    opens: Vec<bool>,
+    shown: RunView,
     ports: IndexSet<Port>,
     graph: Vec<Vec<u32>>,
 }
@@ -129,9 +127,9 @@ impl Model for Flat {
 
     ghost Value = { FlatSeen };
 
-    ghost view = { λ f. record { links = f.links.items; opens = f.opens.items } };
+    ghost view = { λ f. record { links = f.shown.links; opens = f.shown.opens } };
 
-    ghost invariant = { λ f. IsIndex f.links.items f.ports.keys f.graph.items };
+    ghost invariant = { λ f. IsIndex f.shown.links f.ports.keys f.graph.items };
 }
 
 impl Flat {
@@ -152,15 +150,12 @@ impl Flat {
         ensures opens { IfOk result (λ f. (u : View) → Marks expanded.now u → (k : ℕ) → k < length run.now.instances →
             get_or f.opens k false ≡ opens u (seen_in g.now.core u g.now.core.start (events_of run.now)) (get_or (names_in run.now.instances) k [])) }
     {
-        let all = seen(alloc, g, run, expanded)?;
-        let links = links(alloc, g, run, &all, expanded, leaf)?;
-        let opens = opens(alloc, run, &all, expanded)?;
+        let shown = RunView::of(alloc, g, run, expanded, leaf)?;
         let mut ports = IndexSet::new(alloc);
         let mut graph = Vec::new(alloc);
-        add_links(alloc, &mut ports, &mut graph, &links)?;
+        add_links(alloc, &mut ports, &mut graph, shown.links())?;
         Ok(Flat {
-            links,
-            opens,
+            shown,
             ports,
             graph,
         })
@@ -175,7 +170,7 @@ impl Flat {
         let Some(k) = item.maker else {
             return true;
         };
-        is_set(&self.opens, k as usize)
+        self.shown.opens(k)
     }
 
     /// Whether a path of links leads from a port to a port. A path may be one port, so each port is joined to itself.

@@ -186,7 +186,7 @@ impl PlainRun {
     }
 
     /// The expansions, in their order.
-    pub(crate) fn order(&self) -> &[Opened]
+    pub fn order(&self) -> &[Opened]
         ensures { result.now ≡ self.now.order }
     {
         &self.order

@@ -11,7 +11,7 @@ pub returns-clause-by_name : goal.returns-clause-by_name
 returns-clause-by_name c = λ names d w h k.
     let ls = c.args.self.now.links in
     let e = ap (λ (f : FlatSeen). f.links) c.self.view_is in
-    let i = subst (λ l. IsIndex l c.self.inside.ports.keys c.deref.result.now) e (subst (IsIndex c.self.inside.links.items c.self.inside.ports.keys) (sym c.deref.ensures.value) c.self.invariant) in
+    let i = subst (λ l. IsIndex l c.self.inside.ports.keys c.deref.result.now) e (subst (IsIndex c.self.inside.shown.links c.self.inside.ports.keys) (sym c.deref.ensures.value) c.self.invariant) in
     let r = c.in_ok-joined.ensures ls i in
     let n = by_names names ls d w c.args.from c.args.to h k in
     (λ t. n.0 (r.0 t), λ p. r.1 (n.1 p))

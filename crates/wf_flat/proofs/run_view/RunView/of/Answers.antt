@@ -2,7 +2,7 @@ use Rattle.std.proofs.Common.{subst}
 use Rattle.wf_model.specs.Lists.{IsIn}
 use Rattle.wf_flat.specs.Graph.{MarkOpen}
 use Rattle.wf_flat.proofs.Shown.{open_told}
-use Rattle.wf_flat.proofs.flat.Flat.of.Goals as goal
+use Rattle.wf_flat.proofs.run_view.RunView.of.Goals as goal
 
 pub links-requires-clause-there : goal.links-requires-clause-there
 links-requires-clause-there c = λ k i. c.in_ok-all.ensures.there k (subst (IsIn k) c.deref.ensures.value i)

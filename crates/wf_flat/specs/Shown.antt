@@ -1,0 +1,18 @@
+-- What of a run is shown.
+use Rattle.std.specs.Prelude.{ℕ, Bool, true, List, Option, Some, None}
+use Rattle.wf_model.specs.declared.event.Event.{Event}
+use Rattle.wf_model.specs.Grammar.{Grammar}
+use Rattle.wf_model.specs.View.{View}
+use Rattle.wf_model.specs.Run.{opens, seen_in}
+use Rattle.wf_flat.specs.declared.graph.Link.{Link as LinkHeld}
+
+-- what contracts see of a run as a view shows it: the numbers of the instances that are seen, the links, and for each instance whether it is seen and of an expanded module
+pub record RunSeen : Type 0 where
+  pub numbers : List ℕ
+  pub links : List LinkHeld
+  pub opens : List Bool
+
+-- made by an open instance, or a port of the root
+abbrev pub is_made_open : Grammar → View → List Event → Option (List ℕ) → Bool
+is_made_open g u e None = true
+is_made_open g u e (Some i) = opens u (seen_in g u g.start e) i
