@@ -1,0 +1,3 @@
+pub mod ExportText
+pub mod Adds
+pub mod Shown

@@ -1,0 +1,104 @@
+// The provenance of a run under a view.
+ghost use Rattle.std.specs.Prelude.{◌≡◌, ◌≤◌, IfOk, IfErr, OnOk};
+ghost use Rattle.wf_io.specs.Told.{Rose, Appended};
+ghost use Rattle.wf_lines.specs.Taking.{IsBegun};
+ghost use Rattle.wf_view.specs.Held.{IsHeldFor};
+ghost use Rattle.wf_flat.specs.Table.{IsTableOf, events_of};
+ghost use Rattle.wf_export.specs.Adds.{Adds, Writes};
+ghost use Rattle.wf_export.specs.ExportText.{export_text};
+ghost use Rattle.wf_export.specs.Shown.{IsRunSeen};
+ghost use Rattle.wf_export.specs.declared.fault.ExportFault.TheVariants.{WriteFault, NoMemory};
+
+use crate::fault::ExportFault;
+use crate::instance_lines::put_instances;
+use crate::item_lines::put_items;
+use crate::link_lines::put_links;
+use crate::perceived::perceived_rows;
+use std::alloc::{AllocError, Global};
+use wf_flat::{PlainRun, RunView};
+use wf_io::Sink;
+use wf_lines::Due;
+use wf_spec::Grammar;
+use wf_view::View;
+
+/// A run as a view shows it, where an instance whose module is not expanded has its perceived pairs, and a pending one has none. Fails only for want of memory.
+fn run_seen(alloc: Global, g: &Grammar, view: &View, run: &PlainRun) -> Result<RunView, AllocError>
+    requires run { IsTableOf g.now.core run.now }
+    requires view { IsHeldFor g.now.core view.now }
+    ensures { IfOk result (λ shown. IsRunSeen g.now.core view.now.core run.now shown) }
+{
+    // A grammar is well-formed, and each expansion of a run is of an instance that is there.
+    let _formed = g.start();
+    let _there = run.instances();
+    let rows = perceived_rows(alloc, g, view)?;
+    let shown = RunView::of(alloc, g, run, view.marks(), &rows)?;
+    Ok(shown)
+}
+
+/// Adds the whole text to what is due.
+fn put_all<O: Sink>(
+    due: &mut Due,
+    line: &mut Vec<u8>,
+    g: &Grammar,
+    view: &View,
+    run: &PlainRun,
+    shown: &RunView,
+    out: &mut O,
+) -> Result<(), ExportFault>
+    requires { IsRunSeen g.now.core view.now.core run.now shown.now }
+    ensures { Adds O.put_bytes O.faults O.at_last (export_text g.now.core view.now.core (events_of run.now)) due.old due.new out.old out.new result }
+{
+    put_instances(due, line, g, view, run, shown, out)?;
+    put_items(due, line, g, run, shown, out)?;
+    put_links(due, line, g, run, shown, out)
+}
+
+/// Writes the whole text, in large pieces.
+fn write_all<O: Sink>(
+    alloc: Global,
+    g: &Grammar,
+    view: &View,
+    run: &PlainRun,
+    shown: &RunView,
+    out: &mut O,
+) -> Result<(), ExportFault>
+    requires { IsRunSeen g.now.core view.now.core run.now shown.now }
+    ensures { Writes O.put_bytes O.faults O.at_last (export_text g.now.core view.now.core (events_of run.now)) out.old out.new result }
+{
+    let Ok(mut due) = Due::new(alloc) else {
+        return Err(ExportFault::NoMemory);
+    };
+    let mut line = Vec::new(alloc);
+    put_all(&mut due, &mut line, g, view, run, shown, out)?;
+    match due.put(out) {
+        Ok(()) => Ok(()),
+        Err(_) => Err(ExportFault::WriteFault),
+    }
+}
+
+/// Writes the plain provenance of a run under a view: a line for each instance that is seen and not open, for each visible item, and for each link between their ports. The text is put in pieces of 64 KiB.
+///
+/// Errors: `WriteFault` where the sink fails, `NoMemory`. After either a beginning of the text was put.
+///
+/// Cost: linear in the grammar, the run, its links and the text; no name is looked up.
+pub fn write_export<O: Sink>(
+    alloc: Global,
+    g: &Grammar,
+    view: &View,
+    run: &PlainRun,
+    out: &mut O,
+) -> Result<(), ExportFault>
+    requires run { IsTableOf g.now.core run.now }
+    requires view { IsHeldFor g.now.core view.now }
+    ensures ok { OnOk result (Appended (export_text g.now.core view.now.core (events_of run.now)) (O.put_bytes out.old) (O.put_bytes out.new)) }
+    ensures begun { IsBegun (export_text g.now.core view.now.core (events_of run.now)) (O.put_bytes out.old) (O.put_bytes out.new) }
+    ensures same { OnOk result (O.faults out.new ≡ O.faults out.old) }
+    ensures memory { IfErr result (λ f. f ≡ NoMemory → O.faults out.new ≡ O.faults out.old) }
+    ensures later { O.faults out.old ≤ O.faults out.new }
+    ensures cause { IfErr result (λ f. f ≡ WriteFault → Rose (O.faults out.old) (O.faults out.new) (O.at_last out.new)) }
+{
+    let Ok(shown) = run_seen(alloc, g, view, run) else {
+        return Err(ExportFault::NoMemory);
+    };
+    write_all(alloc, g, view, run, &shown, out)
+}

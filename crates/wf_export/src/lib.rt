@@ -1,0 +1,14 @@
+//! The plain provenance of a run under a view, written as lines.
+#![tactic(auto)]
+
+mod adding;
+mod export;
+mod fault;
+mod instance_lines;
+mod item_lines;
+mod link_lines;
+mod perceived;
+mod ports;
+
+pub use export::write_export;
+pub use fault::ExportFault;
