@@ -4,3 +4,4 @@ pub mod Outputs
 pub mod EdgesRead
 pub mod Expansions
 pub mod Bounds
+pub mod Cutting

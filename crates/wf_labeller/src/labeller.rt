@@ -9,12 +9,13 @@ ghost use Rattle.wf_model.specs.Grammar.{body_of};
 ghost use Rattle.label_model.specs.Files.{entry_of, entry_bytes};
 ghost use Rattle.label_model.specs.RunLabels.{labelled_by};
 ghost use Rattle.wf_run.specs.Runs.{IsRunOf, GoesOn};
-ghost use Rattle.wf_labeller.specs.Entries.{HaveLabelsWithin};
+ghost use Rattle.wf_labeller.specs.Entries.{HaveLabelsWithin, labels_in_bytes};
 ghost use Rattle.wf_labeller.specs.Keeping.{Adds, HasMore};
 
 use crate::edges::keep_edges;
 use crate::entry::Records;
 use crate::keeper::Keeper;
+use crate::labels::Labels;
 use crate::ports::keep_root;
 use crate::room::have_room;
 use bit_pack::BitWriter;
@@ -100,6 +101,30 @@ impl<'a> Labeller<'a> {
             Ok(()) => Ok(()),
             Err(fault) => {
                 into.truncate(before);
+                Err(fault)
+            }
+        }
+    }
+
+    /// Takes an event as `take` does, and appends the labels of the items that it makes, without their names. After an error the run and the labels are as they were.
+    ///
+    /// Errors: as `take`.
+    ///
+    /// Cost: that of the event in the run, and linear in the bytes of the labels. Memory is taken for the run and for the labels alone.
+    pub fn label_items(&mut self, event: &Event, into: &mut Labels) -> Result<(), RunFault>
+        ensures taken { OnOk result ((events : List Event) → IsRunOf self.old events → IsRunOf self.new (events ++ event.now ∷ [])) }
+        ensures labels { OnOk result ((events : List Event) → IsRunOf self.old events → into.new ≡ into.old ++ labels_in_bytes (labelled_by self.old.grammar.core (events ++ event.now ∷ []) event.now)) }
+        ensures extends { OnOk result ((events : List Event) → IsRunOf self.old events → fault_of self.old.grammar.core self.old.most events event.now ≡ None) }
+        ensures goes_on { OnOk result (GoesOn self.old self.new) }
+        ensures refused { IfErr result (λ f. (f ≡ NoMemory) ⊎ ((events : List Event) → IsRunOf self.old events → fault_of self.old.grammar.core self.old.most events event.now ≡ Some f)) }
+        ensures run { OnErr result (self.new ≡ self.old) }
+        ensures into { OnErr result (into.new ≡ into.old) }
+    {
+        let count = into.count();
+        match self.label(event, into) {
+            Ok(()) => Ok(()),
+            Err(fault) => {
+                into.truncate(count);
                 Err(fault)
             }
         }

@@ -5,8 +5,10 @@ mod edges;
 mod entry;
 mod keeper;
 mod labeller;
+mod labels;
 mod ports;
 mod room;
 
 pub use entry::{Entry, Records};
 pub use labeller::Labeller;
+pub use labels::Labels;
