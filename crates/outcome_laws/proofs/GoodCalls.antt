@@ -39,10 +39,13 @@ use Rattle.cmd_ask.specs.Does.{end_of_lines, QueriesStage, AnswersView, AnswersR
 use Rattle.cmd_decide.specs.Words.{Command as DecideCommand, Decide as DecideLabels}
 use Rattle.cmd_decide.specs.Decided.{DecidesLabels, first_malformed, second_malformed, decided}
 use Rattle.cmd_decide.specs.Does.{Does as Decides}
-use Rattle.wf_top.specs.Words.{Command, Describe, Ingest, Ask, Decide, command_of}
+use Rattle.cmd_make.specs.Words.{Command as MakeCommand, Export, Gen, Drill}
+use Rattle.cmd_make.specs.DrillText.{IsDrilled}
+use Rattle.cmd_make.specs.Does.{ExportsView, ExportsRun, Does as Makes}
+use Rattle.wf_top.specs.Words.{Command, Describe, Ingest, Ask, Decide, Make, command_of}
 use Rattle.wf_top.specs.Outcome.{Does, IsOutcome}
 use Rattle.wf_top.specs.Meets.{HasEnded, EndsBy}
-use Rattle.outcome_laws.specs.GoodCalls.{HasGrammar, HasView, HasEntries, IsQueryLine, AreQueries, CanDescribe, CanIngest, CanAnswer, CanDecide, AreGood, IsGoodCall, GoodCallLaw, EndedAs, IsComplete}
+use Rattle.outcome_laws.specs.GoodCalls.{HasGrammar, HasView, HasEntries, IsQueryLine, AreQueries, CanDescribe, CanIngest, CanAnswer, CanDecide, CanMake, AreGood, IsGoodCall, GoodCallLaw, EndedAs, IsComplete}
 use Rattle.outcome_laws.proofs.OutcomeLaws.{one_outcome_law}
 
 -- the stage of a good SPEC goes on with its grammar
@@ -115,6 +118,19 @@ module _ (files : List ℕ → File) (e : End) (t : List ℕ) where
       (view_goes_on g (files v) good.1.1.0 good.1.1.1 (λ w. DecidesLabels g w x y) e t
       (spec_goes_on (files s) g good.1.0 (λ k. ViewStage k (files v) (λ w. DecidesLabels k w x y)) e t h))
 
+  made : (c : MakeCommand) → CanMake files c → Makes files c e t → e ≡ Done
+  made (Export s v x) good h =
+      let g = good.0 in
+      let u = good.1.1.0 in
+      (events_goes_on g instance_most (lines_in (files x)) (λ es. []) (ExportsRun g u) good.2.0 good.2.1 e t
+      (view_goes_on g (files v) u good.1.1.1 (λ w. ExportsView g w (files x)) e t
+      (spec_goes_on (files s) g good.1.0 (λ k. ViewStage k (files v) (λ w. ExportsView k w (files x))) e t h))).0
+  made (Gen s n seed) good h = (spec_goes_on (files s) good.0 good.1 _ e t h).0
+  made (Drill s v n seed) good h =
+      let g = good.0 in
+      (view_goes_on g (files v) good.1.1.0 good.1.1.1 (λ w. IsDrilled g w n seed) e t
+      (spec_goes_on (files s) g good.1.0 (λ k. ViewStage k (files v) (λ w. IsDrilled k w n seed)) e t h)).0
+
   -- a command over good files ends where all is done
   done : (c : Option Command) → AreGood files c → Does files c e t → e ≡ Done
   done None good h = absurd good
@@ -122,6 +138,7 @@ module _ (files : List ℕ → File) (e : End) (t : List ℕ) where
   done (Some (Ingest c)) good h = ingested c good h
   done (Some (Ask c)) good h = answered c good h
   done (Some (Decide c)) good h = decided_too c good h
+  done (Some (Make c)) good h = made c good h
 
 pub good_call_law : GoodCallLaw
 good_call_law files words e t good h = done files e t (command_of words) good h

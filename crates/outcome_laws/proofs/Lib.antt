@@ -10,6 +10,7 @@ pub mod OneAnswering
 pub mod OneDeciding
 pub mod OneDescription
 pub mod OneIngestion
+pub mod OneMaking
 pub mod OneStages
 pub mod OutcomeLaws
 pub mod SameInstances

@@ -22,7 +22,8 @@ use Rattle.cmd_describe.specs.Words.{Command as DescribeCommand, Check, View}
 use Rattle.cmd_ingest.specs.Words.{Command as IngestCommand, Ingest as IngestFiles}
 use Rattle.cmd_ask.specs.Words.{Command as AskCommand, Trace, Ask as AskFiles}
 use Rattle.cmd_decide.specs.Words.{Command as DecideCommand, Decide as DecideLabels}
-use Rattle.wf_top.specs.Words.{Command, Describe, Ingest, Ask, Decide, command_of}
+use Rattle.cmd_make.specs.Words.{Command as MakeCommand, Export, Gen, Drill}
+use Rattle.wf_top.specs.Words.{Command, Describe, Ingest, Ask, Decide, Make, command_of}
 use Rattle.wf_top.specs.Outcome.{IsOutcome}
 
 -- SPEC is whole and not too long, and tells this grammar
@@ -68,6 +69,11 @@ CanAnswer files (AskFiles s v l q) = (g : Grammar) × HaveView (files s) (files 
 abbrev pub CanDecide : (List ℕ → File) → DecideCommand → Type 0
 CanDecide files (DecideLabels s v x y) = (g : Grammar) × HaveView (files s) (files v) g × IsLabelBytes g x × IsLabelBytes g y
 
+abbrev pub CanMake : (List ℕ → File) → MakeCommand → Type 0
+CanMake files (Export s v e) = (g : Grammar) × HaveView (files s) (files v) g × HasRun g (files e)
+CanMake files (Gen s n seed) = (g : Grammar) × HasGrammar (files s) g
+CanMake files (Drill s v n seed) = (g : Grammar) × HaveView (files s) (files v) g
+
 -- there is a command, and its files are good
 abbrev pub AreGood : (List ℕ → File) → Option Command → Type 0
 AreGood files None = ⊥
@@ -75,6 +81,7 @@ AreGood files (Some (Describe c)) = CanDescribe files c
 AreGood files (Some (Ingest c)) = CanIngest files c
 AreGood files (Some (Ask c)) = CanAnswer files c
 AreGood files (Some (Decide c)) = CanDecide files c
+AreGood files (Some (Make c)) = CanMake files c
 
 -- the words are a command, SPEC is accepted, VIEW is well-formed and safe, EVENTS is an accepted run, LABELS a label file of the grammar, QUERIES are queries, and the words that are labels are labels
 abbrev pub IsGoodCall : (List ℕ → File) → List (List ℕ) → Type 0

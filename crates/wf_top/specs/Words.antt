@@ -4,6 +4,7 @@ use Rattle.cmd_describe.specs.Words.{Command as DescribeCommand, command_of as d
 use Rattle.cmd_ingest.specs.Words.{Command as IngestCommand, command_of as ingest_command}
 use Rattle.cmd_ask.specs.Words.{Command as AskCommand, command_of as ask_command, IsAsk as IsAskCommand}
 use Rattle.cmd_decide.specs.Words.{Command as DecideCommand, command_of as decide_command}
+use Rattle.cmd_make.specs.Words.{Command as MakeCommand, command_of as make_command}
 
 -- a command, by its family
 pub data Command : Type 0 where
@@ -11,6 +12,7 @@ pub data Command : Type 0 where
   Ingest : IngestCommand → Command
   Ask : AskCommand → Command
   Decide : DecideCommand → Command
+  Make : MakeCommand → Command
 
 -- the first of these that is something
 abbrev pub first_of : {A : Type 0} → List (Option A) → Option A
@@ -25,7 +27,8 @@ command_of words =
     option_map Describe (describe_command words) ∷
     option_map Ingest (ingest_command words) ∷
     option_map Ask (ask_command words) ∷
-    option_map Decide (decide_command words) ∷ [])
+    option_map Decide (decide_command words) ∷
+    option_map Make (make_command words) ∷ [])
 
 -- the command is `ask`
 abbrev pub IsAsk : Option Command → Type 0

@@ -16,6 +16,7 @@ pub enum Command<'w> {
     Ingest(cmd_ingest::Command<'w>),
     Ask(cmd_ask::Command<'w>),
     Decide(cmd_decide::Command<'w>),
+    Make(cmd_make::Command<'w>),
 }
 
 /// The command that the words are, if they are one. The families are asked in turn.
@@ -33,6 +34,9 @@ pub fn command_of<'w>(words: &'w [&'w str]) -> Option<Command<'w>>
     }
     if let Some(command) = cmd_decide::command_of(words) {
         return Some(Command::Decide(command));
+    }
+    if let Some(command) = cmd_make::command_of(words) {
+        return Some(Command::Make(command));
     }
     None
 }
@@ -52,5 +56,6 @@ pub fn obey<H: Shelf, O: Sink>(
         Command::Ingest(c) => cmd_ingest::obey(alloc, c, shelf, out),
         Command::Ask(c) => cmd_ask::obey(alloc, c, shelf, out),
         Command::Decide(c) => cmd_decide::obey(alloc, c, shelf, out),
+        Command::Make(c) => cmd_make::obey(alloc, c, shelf, out),
     }
 }

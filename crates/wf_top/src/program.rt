@@ -23,6 +23,12 @@ use wf_message::{Ending, Status, status_of, tell};
 ///
 /// `decide SPEC VIEW HEX HEX` writes what two labels tell under a safe view: `yes` or `no`, whether the item of the second depends on that of the first; `hidden 1` or `hidden 2`, if the view hides one of them; or `clash`, if no run has both.
 ///
+/// `drill SPEC VIEW N SEED` makes the run that `gen` writes, labels its items, decides 1,000 pairs of them under a safe view, and writes how many instances and items there are, the bits of the longest label, and how many pairs are answered `yes`, `no` and `hidden`.
+///
+/// `export SPEC VIEW EVENTS` writes what a run shows under a safe view: the instances that are not open, the visible items, and the links.
+///
+/// `gen SPEC N SEED` writes the events of a run of at most N expansions, which the two numbers determine.
+///
 /// `trace SPEC VIEW EVENTS QUERIES` answers each query line by `yes`, `no`, `hidden` or `unknown`: whether the second item depends on the first, however the run is finished under the view.
 pub fn run<H: Shelf, O: Sink, E: Sink>(
     alloc: Global,

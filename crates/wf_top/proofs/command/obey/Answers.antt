@@ -11,3 +11,6 @@ returns-in-Ask-clause-obeys g c = rw c.in-Ask.is c.obey-in-Ask.ensures.obeys
 
 pub returns-in-Decide-clause-obeys : goal.returns-in-Decide-clause-obeys
 returns-in-Decide-clause-obeys g c = rw c.in-Decide.is c.obey-in-Decide.ensures.obeys
+
+pub returns-in-Make-clause-obeys : goal.returns-in-Make-clause-obeys
+returns-in-Make-clause-obeys g c = rw c.in-Make.is c.obey-in-Make.ensures.obeys

@@ -1,0 +1,12 @@
+pub mod EventsDue
+pub mod MakingDue
+pub mod Numbers
+pub mod DrawnPairs
+pub mod LabelsHeld
+pub mod PairVerdicts
+pub mod RunLabelled
+pub mod RunLabels
+pub mod OneDrill
+pub mod SomeDrill
+pub mod Drilled
+pub mod SomeMaking

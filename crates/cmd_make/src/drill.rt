@@ -1,0 +1,74 @@
+// `drill`: SPEC and VIEW, and then a generated run is labelled, and drawn pairs of its items are decided under the view.
+ghost use Rattle.std.specs.Prelude.{[], IfOk};
+ghost use Rattle.wf_gen.specs.Turns.{generated};
+ghost use Rattle.wf_message.specs.Endings.{end_after};
+ghost use Rattle.wf_stage.specs.Promises.{Writes, Obeys};
+ghost use Rattle.wf_inputs.specs.Inputs.{instance_most};
+ghost use Rattle.cmd_make.specs.DrillText.{IsSummary, IsDrilled};
+ghost use Rattle.cmd_make.specs.Does.{Drills};
+
+use crate::labelling::label_run;
+use crate::lengths::longest;
+use crate::pairs::{draw_pairs, pair_count};
+use crate::summary::summary_text;
+use crate::verdicts::verdicts_of;
+use std::alloc::{AllocError, Global};
+use wf_gen::Gen;
+use wf_inputs::{INSTANCES, Viewed, spec_stage, view_stage};
+use wf_io::{Shelf, Sink};
+use wf_labeller::Labels;
+use wf_message::Stop;
+use wf_stage::put_text;
+
+/// The names of the files that `drill` reads, in this order, the number of expansions at most, and the seed.
+#[derive(Clone, Copy)]
+pub struct DrillWords<'w> {
+    pub spec: &'w str,
+    pub view: &'w str,
+    pub n: u32,
+    pub seed: u64,
+}
+
+/// The summary of the run of at most `n` expansions that a seed gives, under a view. Fails only for want of memory.
+fn summary_of(alloc: Global, v: &Viewed, n: u32, seed: u64) -> Result<Vec<u8>, AllocError>
+    ensures { IfOk result (λ text. IsSummary v.now.spec.grammar.core v.now.view.core (generated v.now.spec.grammar.core n seed instance_most) text.items) }
+{
+    let g = v.grammar();
+    let cycles = v.spec().cycles();
+    let mut generator = Gen::new(alloc, g, cycles, n, seed, INSTANCES);
+    let mut labels = Labels::new(alloc);
+    let instances = label_run(alloc, g, cycles, &mut generator, &mut labels)?;
+    let items = labels.count();
+    let pairs = draw_pairs(alloc, &mut generator, pair_count(items), items)?;
+    let verdicts = verdicts_of(alloc, v, &labels, &pairs)?;
+    let bits = longest(g, cycles, &labels);
+    summary_text(alloc, instances, items, bits, &verdicts)
+}
+
+/// Puts the summary of the run of at most `n` expansions that a seed gives, of which all items are labelled and drawn pairs are decided under a view: the numbers of its instances and items, the bits of its longest label, and how many verdicts of each kind there are.
+///
+/// Nothing is put before all of it is known, so where memory is wanting nothing is.
+fn put_drill<O: Sink>(alloc: Global, v: &Viewed, n: u32, seed: u64, out: &mut O) -> Result<(), Stop>
+    ensures writes { Writes O.put_bytes O.faults O.at_last [] (IsDrilled v.now.spec.grammar.core v.now.view.core n seed) out.old out.new (end_after result) }
+{
+    let Ok(text) = summary_of(alloc, v, n, seed) else {
+        return Err(Stop::NoMemory);
+    };
+    put_text(out, &text)
+}
+
+/// Writes how a generated run is labelled, and how drawn pairs of its items are answered under a safe view.
+///
+/// Cost: linear in the run. Takes memory for the run and for its labels.
+pub(crate) fn drill<H: Shelf, O: Sink>(
+    alloc: Global,
+    words: &DrillWords<'_>,
+    shelf: &mut H,
+    out: &mut O,
+) -> Result<(), Stop>
+    ensures obeys { Obeys H.files H.faults H.at_last O.put_bytes O.faults O.at_last [] (λ f. Drills (f words.now.spec.now) (f words.now.view.now) words.now.n words.now.seed) shelf.old shelf.new out.old out.new (end_after result) }
+{
+    let spec = spec_stage(alloc, shelf, words.spec)?;
+    let viewed = view_stage(alloc, shelf, words.view, spec)?;
+    put_drill(alloc, &viewed, words.n, words.seed, out)
+}

@@ -1,0 +1,107 @@
+// `gen`: SPEC, and then the events of a generated run.
+ghost use Rattle.std.specs.Prelude.{◌≡◌, ◌++◌, [], OnOk};
+ghost use Rattle.wf_message.specs.Endings.{end_after};
+ghost use Rattle.wf_stage.specs.Ends.{IsWritten};
+ghost use Rattle.wf_stage.specs.Promises.{Writes, Obeys};
+ghost use Rattle.cmd_make.specs.EventLines.{event_line, event_lines};
+ghost use Rattle.cmd_make.specs.Putting.{MakesDue};
+ghost use Rattle.cmd_make.specs.Does.{generated_text, Generates};
+
+use std::alloc::{AllocError, Global};
+use wf_events::write_event;
+use wf_gen::Gen;
+use wf_inputs::{INSTANCES, Spec, spec_stage};
+use wf_io::{Shelf, Sink};
+use wf_message::Stop;
+use wf_spec::Event;
+use wf_stage::put_text;
+
+/// From so many bytes on a text is put.
+const PIECE: usize = 65536;
+
+/// Appends the line of an event.
+fn append_line(event: &Event, text: &mut Vec<u8>) -> Result<(), AllocError>
+    ensures { OnOk result (text.new.items ≡ text.old.items ++ event_line event.now) }
+{
+    write_event(event, text)?;
+    text.push(b'\n')?;
+    Ok(())
+}
+
+/// The line of an event is due behind a text, which is put once it is as long as a piece.
+fn add_event<O: Sink>(event: &Event, text: &mut Vec<u8>, out: &mut O) -> Result<(), Stop>
+    ensures makes { MakesDue O.put_bytes O.faults O.at_last text.old.items (event_line event.now) text.new.items out.old out.new (end_after result) }
+{
+    let Ok(()) = append_line(event, text) else {
+        return Err(Stop::NoMemory);
+    };
+    if text.len() < PIECE {
+        return Ok(());
+    }
+    match out.put(text) {
+        Ok(()) => {
+            text.clear();
+            Ok(())
+        }
+        Err(_) => Err(Stop::WriteFault),
+    }
+}
+
+/// The lines of the events that a generator has before it are due behind a text.
+fn add_events<O: Sink>(events: &mut Gen<'_>, text: &mut Vec<u8>, out: &mut O) -> Result<(), Stop>
+    ensures makes { MakesDue O.put_bytes O.faults O.at_last text.old.items (event_lines events.old.events) text.new.items out.old out.new (end_after result) }
+{
+    loop {
+        match events.next() {
+            Ok(Some(event)) => {
+                if let Err(stop) = add_event(&event, text, out) {
+                    return Err(stop);
+                }
+            }
+            Ok(None) => return Ok(()),
+            Err(_) => return Err(Stop::NoMemory),
+        }
+    }
+}
+
+/// Puts the lines of the events that a generator has before it, in pieces.
+fn put_events<O: Sink>(alloc: Global, events: &mut Gen<'_>, out: &mut O) -> Result<(), Stop>
+    ensures writes { Writes O.put_bytes O.faults O.at_last [] (IsWritten (event_lines events.old.events)) out.old out.new (end_after result) }
+{
+    let mut text = Vec::new(alloc);
+    if let Err(stop) = add_events(events, &mut text, out) {
+        return Err(stop);
+    }
+    put_text(out, &text)
+}
+
+/// Puts the events of a generated run of a grammar, as lines.
+fn put_generated<O: Sink>(
+    alloc: Global,
+    spec: &Spec,
+    n: u32,
+    seed: u64,
+    out: &mut O,
+) -> Result<(), Stop>
+    ensures writes { Writes O.put_bytes O.faults O.at_last [] (IsWritten (generated_text spec.now.grammar.core n seed)) out.old out.new (end_after result) }
+{
+    let mut events = Gen::new(alloc, spec.grammar(), spec.cycles(), n, seed, INSTANCES);
+    put_events(alloc, &mut events, out)
+}
+
+/// Writes the events of the run of a grammar that a number of expansions and a seed give.
+///
+/// Cost: linear in the text.
+pub(crate) fn generate<H: Shelf, O: Sink>(
+    alloc: Global,
+    name: &str,
+    n: u32,
+    seed: u64,
+    shelf: &mut H,
+    out: &mut O,
+) -> Result<(), Stop>
+    ensures obeys { Obeys H.files H.faults H.at_last O.put_bytes O.faults O.at_last [] (λ f. Generates (f name.now) n seed) shelf.old shelf.new out.old out.new (end_after result) }
+{
+    let spec = spec_stage(alloc, shelf, name)?;
+    put_generated(alloc, &spec, n, seed, out)
+}
