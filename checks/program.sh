@@ -522,4 +522,59 @@ ingests_half_a_line() {
 }
 check "half a line at the end of a whole file is a line" ingests_half_a_line
 
+# What a run of the line shows, and its run from two numbers.
+exports() {
+    run export $line/spec "$1" "$2" && ended 0 "$(text expected_out "$3")" "$nothing"
+}
+check "the line example is exported" exports $line/view $line/events \
+    'leaf i1 P\nleaf i2 Q\nitem r.a\nitem r.b\nitem i1.y\nlink i1.y i2.x\nlink r.a i1.x\nlink i2.y r.b\nlink i1.x i1.y\nlink i2.x i2.y\n'
+check "an instance that waits joins nothing" exports $line/view "$(text begun '{"start":"r"}\n')" 'pending r S\nitem r.a\nitem r.b\n'
+check "what a view leaves closed has the pairs that it shows" exports "$(text shut '{"expand":[]}')" $line/events \
+    'leaf r S\nitem r.a\nitem r.b\nlink r.a r.b\n'
+check "a refused event leaves nothing of a run that is exported" \
+    says 2 'refused: events line 2: StartedTwice\n' export $line/spec $line/view "$(text twice '{"start":"r"}\n{"start":"r"}\n')"
+
+generates() {
+    run gen "examples/$1/spec" "$2" "$3" && ended 0 "$(text expected_out "$4")" "$nothing"
+}
+check "a run of the line is generated" generates line 5 7 '{"start":"n0"}\n{"expand":"n0","production":0,"names":["n1","n2"]}\n'
+check "no expansion leaves the start of a run" generates line 0 7 '{"start":"n0"}\n'
+check "the draws of a seed pick instances and productions" generates phylogeny 4 1 \
+    '{"start":"n0"}\n{"expand":"n0","production":0,"names":["n1","n2","n3","n4"]}\n{"expand":"n3","production":3,"names":["n5","n6"]}\n{"expand":"n2","production":1,"names":["n7","n8"]}\n{"expand":"n8","production":1,"names":["n9","n10"]}\n'
+
+# Two calls with the same numbers.
+generates_again() {
+    "$program" gen "examples/$1/spec" 2000 3 >"$work/made" && "$program" gen "examples/$1/spec" 2000 3 | cmp -s - "$work/made" && [ "$(wc -l <"$work/made")" = "$2" ]
+}
+check "a generated run is the same at each call" generates_again twisting 2001
+for word in 007 4000001 +1 -1 1.0 1e3 '' ' 1' 18446744073709551617; do
+    check "\`$word\` is no number of expansions" says 1 'usage: wfprov COMMAND WORDS\n' gen $line/spec "$word" 1
+done
+for word in 00 18446744073709551616 0x1; do
+    check "\`$word\` is no seed" says 1 'usage: wfprov COMMAND WORDS\n' drill $line/spec $line/view 1 "$word"
+done
+
+# Whether the program takes the run that it makes, labels it, and answers alike from the events and from the labels.
+takes_what_it_makes() {
+    local spec=examples/$1/spec view=examples/$1/view
+    "$program" gen "$spec" 300 18446744073709551615 >"$work/made" || return 1
+    "$program" ingest "$spec" "$work/made" >"$work/made_labels" || return 1
+    "$program" export "$spec" "$view" "$work/made" | sed -n 's/^item //p' >"$work/made_items" || return 1
+    paste -d' ' "$work/made_items" <(tac "$work/made_items") >"$work/made_queries"
+    run trace "$spec" "$view" "$work/made" "$work/made_queries"
+    cp "$work/out" "$work/traced"
+    [ -s "$work/traced" ] && ! grep -qv '^yes$\|^no$' "$work/traced" || return 1
+    run ask "$spec" "$view" "$work/made_labels" "$work/made_queries"
+    ended 0 "$work/traced" "$nothing"
+}
+for example in line phylogeny twisting pair; do
+    check "a generated run of $example is taken, and its visible items are answered alike" takes_what_it_makes "$example"
+done
+
+drills() {
+    run drill "examples/$1/spec" "examples/$1/view" "$2" "$3" && ended 0 "$(text expected_out "$4")" "$nothing"
+}
+check "a chain of the twisting grammar is drilled" drills twisting 1001 1 'instances 3002\nitems 4004\nbits 30\nyes 240\nno 760\nhidden 0\n'
+check "a start of the line is drilled" drills line 0 3 'instances 1\nitems 2\nbits 3\nyes 246\nno 754\nhidden 0\n'
+
 finish

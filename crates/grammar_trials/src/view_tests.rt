@@ -198,15 +198,18 @@ fn are_told(rt: &impl Abort, alloc: Global, g: &Grammar) -> Result<(), Fail> {
 
 #[test]
 fn modules_are_seen_below_those_that_are_expanded(rt: HostRuntime) -> Result<(), Fail> {
-    are_seen(&rt, rt.alloc(), &grammar(rt.alloc(), LETTERS)?)
+    let g = grammar(rt.alloc(), LETTERS)?;
+    are_seen(&rt, rt.alloc(), &g)
 }
 
 #[test]
 fn pairs_are_those_of_deps_parts(rt: HostRuntime) -> Result<(), Fail> {
-    are_shown(&rt, rt.alloc(), &grammar(rt.alloc(), LETTERS)?)
+    let g = grammar(rt.alloc(), LETTERS)?;
+    are_shown(&rt, rt.alloc(), &g)
 }
 
 #[test]
 fn the_first_fault_is_told(rt: HostRuntime) -> Result<(), Fail> {
-    are_told(&rt, rt.alloc(), &grammar(rt.alloc(), LETTERS)?)
+    let g = grammar(rt.alloc(), LETTERS)?;
+    are_told(&rt, rt.alloc(), &g)
 }

@@ -49,12 +49,18 @@ fn of_edge(
 }
 
 #[test]
-fn labels_are_written(rt: HostRuntime) -> Result<(), Fail> {
+fn labels_of_ports_are_written(rt: HostRuntime) -> Result<(), Fail> {
     let alloc = rt.alloc();
     let input = Label::Input(PortNo(0));
     assert_eq!(rt; write_label(alloc, &input)?.bytes(), [0x20].as_slice());
     let output = Label::Output(PortNo(0));
     assert_eq!(rt; write_label(alloc, &output)?.bytes(), [0x60].as_slice());
+    Ok(())
+}
+
+#[test]
+fn labels_of_edges_are_written(rt: HostRuntime) -> Result<(), Fail> {
+    let alloc = rt.alloc();
     for (step, chain, alternative, bytes) in EDGES {
         let label = of_edge(alloc, step, chain, alternative)?;
         let written = write_label(alloc, &label)?;

@@ -8,7 +8,7 @@ ghost use Rattle.wf_recur.specs.Cycles.{AreCyclesOf};
 use crate::events::Given::{Expand, Start};
 use crate::events::{Given, event, placed, table, take};
 use bumpalo::Bump;
-use std::alloc::Global;
+use std::alloc::{AllocError, Global};
 use std::test::Fail;
 use wf_flat::{Flat, Item, PlainRun, Port, find_item};
 use wf_samples::{Accepted, LINE, LOOP, full, sample, view};
@@ -266,6 +266,14 @@ fn items_are_found_by_name(rt: HostRuntime) -> Result<(), Fail> {
     Ok(())
 }
 
+/// Whether the root's input is joined to its output, the ends of the edge to each other, and the root's output to its input.
+fn joined(alloc: Global, flat: &Flat) -> Result<[bool; 3], AllocError> {
+    let across = flat.joined(alloc, ROOT_INPUT, ROOT_OUTPUT)?;
+    let along = flat.joined(alloc, EDGE_FROM, EDGE_TO)?;
+    let back = flat.joined(alloc, ROOT_OUTPUT, ROOT_INPUT)?;
+    Ok([across, along, back])
+}
+
 /// Whether a view of the run of the line grammar shows the item of the edge, and what ports it joins.
 fn told_by_view(
     alloc: Global,
@@ -280,10 +288,7 @@ fn told_by_view(
     let view = view(alloc, &s.grammar, text)?;
     let full = full(alloc, s, &view)?;
     let flat = Flat::of(alloc, &s.grammar, run, view.marks(), full.deps())?;
-    let across = flat.joined(alloc, ROOT_INPUT, ROOT_OUTPUT)?;
-    let along = flat.joined(alloc, EDGE_FROM, EDGE_TO)?;
-    let back = flat.joined(alloc, ROOT_OUTPUT, ROOT_INPUT)?;
-    Ok((flat.shows(&INNER), [across, along, back]))
+    Ok((flat.shows(&INNER), joined(alloc, &flat)?))
 }
 
 /// The same of the whole run.

@@ -21,16 +21,20 @@ pub struct Viewed<'a> {
 }
 
 /// The safe view of a grammar that a text describes, with its label.
-pub fn viewed_by<'a>(alloc: Global, s: &'a Accepted, text: &str) -> Result<Viewed<'a>, Fail>
+pub fn viewed_by<'a>(alloc: Global, s: &'a Accepted, text: &str) -> Result<Box<Viewed<'a>>, Fail>
     requires proper { IsProper s.now.grammar.core }
     requires linear { IsLinear s.now.grammar.core }
     requires ranking { IsRankingOf s.now.grammar.core s.now.ranking }
     requires cycles { AreCyclesOf s.now.grammar.core s.now.cycles }
-    ensures held { IfOk result (λ v. IsHeldFor v.label.grammar v.view) }
-    ensures label { IfOk result (λ v. IsLabelOfView v.label v.view.core) }
+    ensures held { IfOk result (λ v. IsHeldFor v.value.label.grammar v.value.view) }
+    ensures label { IfOk result (λ v. IsLabelOfView v.value.label v.value.view.core) }
 {
     let view = view(alloc, &s.grammar, text)?;
     let full = full(alloc, s, &view)?;
     let label = ViewLabel::build(alloc, &s.grammar, &s.cycles, &view, &full)?;
-    Ok(Viewed { view, label })
+    let viewed = Viewed {
+        view: Box::into_inner(view),
+        label,
+    };
+    Ok(Box::new(alloc, viewed)?)
 }

@@ -1,12 +1,11 @@
 // Queries on the items of label files, worked by hand.
 //
 // Of LINE 20 is the label of the input, 60 that of the output, and B0 that of the edge. Of FORKING B0 is the edge of the first way to do S, and 94 that of the second.
-use crate::called::{called, called_over_a_fuse, file};
+use crate::called::{Filed, called, called_over_a_fuse, filed};
 use crate::worked::{HEAD, START, WHOLE};
 use std::alloc::{AllocError, Global};
 use std::test::Fail;
 use wf_io::MemShelf;
-use wf_model::Seq;
 use wf_samples::{FORKING, LINE, LOOP};
 use wf_top::Status;
 use wf_top::Status::{Done, ReadFault, Refused, WriteFault};
@@ -168,12 +167,13 @@ fn shelf(
     broken: bool,
 ) -> Result<MemShelf, AllocError> {
     let (spec, view, labels, queries) = texts;
-    let mut files = Vec::new(alloc);
-    files.push(file(alloc, "spec", spec.as_bytes(), false)?)?;
-    files.push(file(alloc, "view", view.as_bytes(), false)?)?;
-    files.push(file(alloc, "labels", labels, broken)?)?;
-    files.push(file(alloc, "queries", queries.as_bytes(), false)?)?;
-    Ok(MemShelf::new(Seq::from_vec(files), 1))
+    let files: [Filed; 4] = [
+        ("spec", spec.as_bytes(), false),
+        ("view", view.as_bytes(), false),
+        ("labels", labels, broken),
+        ("queries", queries.as_bytes(), false),
+    ];
+    filed(alloc, &files, 1)
 }
 
 /// Whether the queries of a label file are answered so.
@@ -277,12 +277,13 @@ fn ends_over_a_fuse(
     answers: &str,
     message: &str,
 ) -> Result<bool, AllocError> {
-    let mut files = Vec::new(alloc);
-    files.push(file(alloc, "spec", LINE.as_bytes(), false)?)?;
-    files.push(file(alloc, "view", b"{}", false)?)?;
-    files.push(file(alloc, "labels", WHOLE, false)?)?;
-    files.push(file(alloc, "queries", QUERIES.as_bytes(), false)?)?;
-    let shelf = MemShelf::new(Seq::from_vec(files), 4096);
+    let files: [Filed; 4] = [
+        ("spec", LINE.as_bytes(), false),
+        ("view", b"{}", false),
+        ("labels", WHOLE, false),
+        ("queries", QUERIES.as_bytes(), false),
+    ];
+    let shelf = filed(alloc, &files, 4096)?;
     let ended = called_over_a_fuse(
         alloc,
         shelf,

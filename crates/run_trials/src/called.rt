@@ -35,6 +35,20 @@ pub fn shelf_of(alloc: Global, texts: &[(&str, &str)], piece: u32) -> Result<Mem
     Ok(MemShelf::new(Seq::from_vec(files), piece))
 }
 
+/// What a file of a shelf is: its name, its bytes, and whether reading past them fails.
+pub type Filed<'a> = (&'a str, &'a [u8], bool);
+
+/// A shelf of such files, read in pieces of so many bytes.
+pub fn filed(alloc: Global, files: &[Filed], piece: u32) -> Result<MemShelf, AllocError>
+    requires { 1 ≤ piece }
+{
+    let mut list = Vec::new(alloc);
+    for (called, bytes, broken) in files {
+        list.push(file(alloc, called, bytes, *broken)?)?;
+    }
+    Ok(MemShelf::new(Seq::from_vec(list), piece))
+}
+
 fn words<'a>(alloc: Global, line: &'a str) -> Result<Vec<&'a str>, AllocError> {
     let mut words = Vec::new(alloc);
     for word in line.split_whitespace() {
@@ -98,12 +112,8 @@ pub fn called_over_a_fuse(
     Ok(Ended { status, out, err })
 }
 
-/// Calls the program over plain files of these names and texts: the status, and how many bytes went to out and to err.
-pub fn plainly_called(
-    alloc: Global,
-    texts: &[(&str, &str)],
-    line: &str,
-) -> Result<(Status, u64, u64), AllocError> {
+/// A shelf of plain files of these names and texts.
+fn plain_shelf_of(alloc: Global, texts: &[(&str, &str)]) -> Result<PlainShelf, AllocError> {
     let mut files = Vec::new(alloc);
     for (called, text) in texts {
         files.push(PlainFile {
@@ -111,7 +121,16 @@ pub fn plainly_called(
             bytes: Seq::from_vec(Vec::from_slice(alloc, text.as_bytes())?),
         })?;
     }
-    let mut shelf = PlainShelf::new(Seq::from_vec(files));
+    Ok(PlainShelf::new(Seq::from_vec(files)))
+}
+
+/// Calls the program over plain files of these names and texts: the status, and how many bytes went to out and to err.
+pub fn plainly_called(
+    alloc: Global,
+    texts: &[(&str, &str)],
+    line: &str,
+) -> Result<(Status, u64, u64), AllocError> {
+    let mut shelf = plain_shelf_of(alloc, texts)?;
     let mut out = PlainSink::new();
     let mut err = PlainSink::new();
     let words = words(alloc, line)?;

@@ -1,9 +1,7 @@
 // Lines of events that are refused, each for the first fault in the order of trial, with a later fault present too.
-use crate::called::{called, file};
+use crate::called::{Filed, called, filed};
 use std::alloc::{AllocError, Global};
 use std::test::Fail;
-use wf_io::MemShelf;
-use wf_model::Seq;
 use wf_samples::LOOP;
 
 /// Two lines that are taken.
@@ -63,11 +61,12 @@ const ROWS: [(&str, &str, &str); 12] = [
 
 /// Whether events are refused with this line.
 fn are_refused(alloc: Global, events: &[u8], line: &str) -> Result<bool, AllocError> {
-    let mut files = Vec::new(alloc);
-    files.push(file(alloc, "spec", LOOP.as_bytes(), false)?)?;
-    files.push(file(alloc, "view", b"{}", false)?)?;
-    files.push(file(alloc, "events", events, false)?)?;
-    let mut shelf = MemShelf::new(Seq::from_vec(files), 65536);
+    let files: [Filed; 3] = [
+        ("spec", LOOP.as_bytes(), false),
+        ("view", b"{}", false),
+        ("events", events, false),
+    ];
+    let mut shelf = filed(alloc, &files, 65536)?;
     let ended = called(
         alloc,
         &mut shelf,

@@ -1,10 +1,8 @@
 // Label files, with bytes that were worked by hand.
-use crate::called::{Ended, called, file};
+use crate::called::{Ended, Filed, called, filed};
 use crate::worked::{EVENTS, HEAD};
 use std::alloc::{AllocError, Global};
 use std::test::Fail;
-use wf_io::MemShelf;
-use wf_model::Seq;
 use wf_samples::{LINE, LOOP};
 use wf_top::Status;
 use wf_top::Status::{Done, ReadFault, Refused};
@@ -73,10 +71,11 @@ const ROWS: [(&str, &str, bool, Status, &[u8], &str); 9] = [
 
 /// How `ingest` ends.
 fn ingested(alloc: Global, spec: &str, events: &str, broken: bool) -> Result<Ended, AllocError> {
-    let mut files = Vec::new(alloc);
-    files.push(file(alloc, "spec", spec.as_bytes(), false)?)?;
-    files.push(file(alloc, "events", events.as_bytes(), broken)?)?;
-    let mut shelf = MemShelf::new(Seq::from_vec(files), 1);
+    let files: [Filed; 2] = [
+        ("spec", spec.as_bytes(), false),
+        ("events", events.as_bytes(), broken),
+    ];
+    let mut shelf = filed(alloc, &files, 1)?;
     called(alloc, &mut shelf, "ingest spec events", (128, 64))
 }
 

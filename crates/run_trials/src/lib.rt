@@ -14,6 +14,8 @@ mod ingest_tests;
 #[cfg(test)]
 mod line_tests;
 #[cfg(test)]
+mod make_tests;
+#[cfg(test)]
 mod room_tests;
 #[cfg(test)]
 mod spec_tests;

@@ -1,10 +1,9 @@
 // Worked calls into sinks of each room, and over files that come in pieces of each size, one byte a call among them.
-use crate::called::{called, file};
+use crate::called::{Filed, called, filed};
 use crate::worked::{EVENTS, WHOLE};
 use std::alloc::{AllocError, Global};
 use std::test::Fail;
 use wf_io::MemShelf;
-use wf_model::Seq;
 use wf_samples::LINE;
 use wf_top::Status;
 use wf_top::Status::{Done, ReadFault, WriteFault};
@@ -53,15 +52,16 @@ const CALLS: [(&str, &[u8], Status, &str); 7] = [
 
 /// A shelf of which a call reads at most so many bytes.
 fn shelf(alloc: Global, piece: u32) -> Result<MemShelf, AllocError> {
-    let mut files = Vec::new(alloc);
-    files.push(file(alloc, "spec", LINE.as_bytes(), false)?)?;
-    files.push(file(alloc, "view", b"{}", false)?)?;
-    files.push(file(alloc, "labels", WHOLE, false)?)?;
-    files.push(file(alloc, "events", EVENTS.as_bytes(), false)?)?;
-    files.push(file(alloc, "events-cut", EVENTS_CUT.as_bytes(), true)?)?;
-    files.push(file(alloc, "queries", QUERIES.as_bytes(), false)?)?;
-    files.push(file(alloc, "queries-cut", QUERIES_CUT.as_bytes(), true)?)?;
-    Ok(MemShelf::new(Seq::from_vec(files), piece.max(1)))
+    let files: [Filed; 7] = [
+        ("spec", LINE.as_bytes(), false),
+        ("view", b"{}", false),
+        ("labels", WHOLE, false),
+        ("events", EVENTS.as_bytes(), false),
+        ("events-cut", EVENTS_CUT.as_bytes(), true),
+        ("queries", QUERIES.as_bytes(), false),
+        ("queries-cut", QUERIES_CUT.as_bytes(), true),
+    ];
+    filed(alloc, &files, piece.max(1))
 }
 
 /// Whether a call into a sink of so many bytes ends with the first ones of its text, before any fault of reading.
