@@ -1,8 +1,9 @@
 #!/usr/bin/env python3
 """Sets the built program beside a plain program with the same command line, on the same files in one run.
 
-The plain program is any that takes `ingest SPEC EVENTS`, `ask SPEC VIEW LABELS QUERIES` and
-`trace SPEC VIEW EVENTS QUERIES` and writes the same bytes. It is no part of this repository, and is given by its path.
+The plain program is any that takes `ingest SPEC EVENTS`, `ask SPEC VIEW LABELS QUERIES`, `trace SPEC VIEW EVENTS QUERIES`,
+`export SPEC VIEW EVENTS`, `gen SPEC N SEED` and `drill SPEC VIEW N SEED` and writes the same bytes. It is no part of this
+repository, and is given by its path.
 
 Each workload is a folder with the files `spec` and `events`. It may hold `view` and `queries`, too: without `view` the
 default view `{}` is taken, and without `queries` 100,000 pairs of items are drawn from the label file with a fixed seed.
@@ -13,7 +14,9 @@ It measures, in seconds of the processor, each the least of five, for which the 
 
 - `ingest`,
 - `ask` without queries, which opens the label file, and what a query takes more,
-- `trace` without queries, which makes the graph, and what a query takes more, in the mean of the first 20.
+- `trace` without queries, which makes the graph, and what a query takes more, in the mean of the first 20,
+- `export`,
+- `gen` and `drill` with as many expansions as EVENTS has.
 
 It prints a Markdown table with the ratios and the peaks of memory, which are the greatest of the five; a peak below that
 of the small process that starts a command, some 15 MB, is not seen. It ends with 1
@@ -21,7 +24,7 @@ where the label files, the answers of both programs, or those of `ask` and of `t
 judges nothing else.
 
 Call it from anywhere, after the program was built:
-bench/beside.py --plain PATH [--program PATH] [--turns N] [--without-trace] [--small] [FOLDER..]
+bench/beside.py --plain PATH [--program PATH] [--turns N] [--only COMMAND,..] [--small] [FOLDER..]
 """
 
 import argparse
@@ -38,6 +41,8 @@ from measure import PROGRAM, built, run_for_use
 
 QUERIES = 100000
 TRACED = 20
+COMMANDS = ["ingest", "ask", "trace", "export", "gen", "drill"]
+SEED = "1"
 HEAD = 36
 
 
@@ -108,21 +113,34 @@ class Both:
         self.tell(f"`{words[0]}`, a query in the mean of {count:,}", each, peaks)
         return answers
 
-    def measure(self, given, with_trace):
+    def measure(self, given, commands):
+        """The lines of these commands. `ingest` comes first: the others want its label file."""
         times, peaks, labels = self.taken("ingest", "spec", "events")
         self.tell("`ingest`", times, peaks)
         (self.folder / "labels").write_bytes(labels)
+        answers = self.measure_ask(given, labels) if {"ask", "trace"} & set(commands) else b""
+        if "trace" in commands:
+            self.measure_trace(answers)
+        if "export" in commands:
+            times, peaks, _ = self.taken("export", "spec", "view", "events")
+            self.tell("`export`", times, peaks)
+        count = str((self.folder / "events").read_bytes().count(b'"expand"'))
+        for command, words in [("gen", ["spec"]), ("drill", ["spec", "view"])]:
+            if command in commands:
+                times, peaks, _ = self.taken(command, *words, count, SEED)
+                self.tell(f"`{command}`", times, peaks)
+
+    def measure_ask(self, given, labels):
         self.put("queries", given, lambda: drawn(labels, QUERIES))
         lines = (self.folder / "queries").read_text().splitlines(keepends=True)
-        few = lines[:TRACED]
-        (self.folder / "few").write_text("".join(few))
+        (self.folder / "few").write_text("".join(lines[:TRACED]))
         words = ["ask", "spec", "view", "labels"]
-        answers = self.tell_with_queries("the label file is opened", words, "queries", len(lines))
-        if with_trace:
-            words = ["trace", "spec", "view", "events"]
-            traced = self.tell_with_queries("the graph is made", words, "few", len(few))
-            if traced != b"".join(answers.splitlines(keepends=True)[: len(few)]):
-                sys.exit(f"{self.title}: `trace` and `ask` answer differently")
+        return self.tell_with_queries("the label file is opened", words, "queries", len(lines))
+
+    def measure_trace(self, answers):
+        words, few = ["trace", "spec", "view", "events"], answers.splitlines(keepends=True)[:TRACED]
+        if self.tell_with_queries("the graph is made", words, "few", len(few)) != b"".join(few):
+            sys.exit(f"{self.title}: `trace` and `ask` answer differently")
 
 
 def in_words(seconds):
@@ -156,7 +174,7 @@ def main():
     words.add_argument("--plain", required=True, help="the plain program")
     words.add_argument("--program", default=str(PROGRAM))
     words.add_argument("--turns", type=int, default=5, help="how often each command is run by each program")
-    words.add_argument("--without-trace", action="store_true", help="do not measure `trace`")
+    words.add_argument("--only", default=",".join(COMMANDS), help="the commands that are measured, `ingest` always")
     words.add_argument("--small", action="store_true", help="small runs where no folder is given, to try the script")
     words.add_argument("folders", nargs="*", metavar="FOLDER", type=Path, help="a workload")
     args = words.parse_args()
@@ -172,7 +190,7 @@ def main():
         for k, given in enumerate(args.folders or make_workloads(folder / "made", args.small)):
             own = folder / str(k)
             own.mkdir()
-            Both(programs, given.name, given, own, args.turns).measure(given, not args.without_trace)
+            Both(programs, given.name, given, own, args.turns).measure(given, args.only.split(","))
 
 
 if __name__ == "__main__":
