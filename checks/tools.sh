@@ -23,7 +23,7 @@ is_drawn() {
     fi
 }
 
-for picture in line phylogeny; do
+for picture in line phylogeny phylogeny-spec twisting-skewed crates; do
     check "the picture of $picture is the one that is kept" is_kept "$picture"
     check "the picture of $picture is drawn as it is kept" is_drawn "$picture"
 done
@@ -40,7 +40,8 @@ check "a port without a dot is told by its line" \
     says 2 'dot.py: line 1: `ra` is no instance and port with a dot between' 'link ra i1.x\n'
 check "bytes that are no text are told" says 2 'dot.py: the text is not UTF-8, and so not what `export` writes' '\xff\n'
 check "a file that is not there is told" test "$(python3 tools/dot.py "$work/absent" 2>&1)" = "dot.py: $work/absent: No such file or directory"
-check "the tool tells how it is called" grep -q 'export SPEC VIEW EVENTS' <(python3 tools/dot.py --help)
+check "the tool tells how it is called" test "$(python3 tools/dot.py --help | grep -c 'export SPEC VIEW EVENTS')" = 1
+check "a picture that cannot be written is told" test "$(python3 tools/dot.py --spec examples/line/spec 2>&1 >/dev/full)" = "dot.py: writing: No space left on device"
 
 # A pending instance is drawn with a broken line, and pairs are listed where some are missing.
 draws_pending() {
@@ -48,5 +49,145 @@ draws_pending() {
     grep -q '^  "m1" .*style="dashed"' "$work/out" && grep -qF 'y1: Q\nx to y\nw to z' "$work/out" && grep -qF '"y1":"out_y" -> "m1":"in_a" [label="y1.y"];' "$work/out"
 }
 check "a pending instance and missing pairs are drawn" draws_pending
+check "a name with a sign of the picture's language is refused" says 2 'dot.py: line 1: `a"` is no name' 'leaf a" P\n'
+
+# Specifications.
+check "a worked specification is drawn as worked" cmp -s tools/golden/dot/small.dot <(python3 tools/dot.py --spec tools/golden/dot/small.spec)
+
+# Whether a picture has a frame, its boxes and its arrows for each production of an example, as counted here.
+has_all() {
+    python3 tools/dot.py --spec "examples/$1/spec" >"$work/out" && python3 - "examples/$1/spec" "$work/out" <<'COUNTS'
+import json, re, sys
+spec, text = json.load(open(sys.argv[1])), open(sys.argv[2]).read()
+parts = spec["productions"]
+frames = len(re.findall(r'label="production \d+: ', text))
+boxes = len(re.findall(r'^ *"\d+\.\S+" \[', text, re.M))
+arrows = len(re.findall(r'":s -> "', text))
+wanted = len(parts), sum(len(p["body"]) for p in parts), sum(len(p.get(side, [])) for p in parts for side in ("edges", "in", "out"))
+sys.exit((frames, boxes, arrows) != wanted)
+COUNTS
+}
+
+# Whether the positions with thick frames are those that `check` tells as the steps of cycles.
+has_cycles() {
+    "$program" check "examples/$1/spec" 2>/dev/null | sed -n 's/.* next \([0-9]*\) \([^ ]*\)$/\1.\2/p' | sort >"$work/steps"
+    python3 tools/dot.py --spec "examples/$1/spec" | sed -n 's/^ *"\([0-9]*\.[^"]*\)" \[.* penwidth=2.5\];$/\1/p' | sort | cmp -s - "$work/steps"
+}
+for example in line phylogeny phylogeny-once twisting pair skewed; do
+    check "the specification of $example is drawn whole" has_all "$example"
+    check "the steps on the cycles of $example are marked" has_cycles "$example"
+done
+
+# Whether dot.py refuses a specification, with this message behind its path.
+refuses_spec() {
+    local ended=0
+    printf '%b' "$2" >"$work/spec"
+    python3 tools/dot.py --spec "$work/spec" >"$work/out" 2>"$work/err" || ended=$?
+    [ "$ended" = 2 ] && [ ! -s "$work/out" ] && [ "$(cat "$work/err")" = "dot.py: $work/spec: $1" ]
+}
+
+# The modules P and S of the specifications that follow, and a production of S with these members.
+production() {
+    echo '{"start":"S","modules":[{"name":"S","in":["a"],"out":["b"]},{"name":"P","in":["x"],"out":["y"]}],"productions":[{"head":"S",'"$1"'}]}'
+}
+check "what is no JSON is told by line and column" refuses_spec 'line 2 column 1: not JSON' '{"start":\n}'
+check "bytes that are no text are told of a specification" refuses_spec 'not JSON in UTF-8, or nested too deeply' '\xff'
+check "a word that JSON has not is told" refuses_spec 'not JSON in UTF-8, or nested too deeply' '{"start":NaN}'
+check "a list is no specification" refuses_spec 'the file: not an object' '[]'
+check "a member that is not there is told" refuses_spec 'start: not there' '{"modules":[]}'
+check "a member of another form is told" refuses_spec 'modules[0].in[1]: not a text' '{"start":"S","modules":[{"name":"S","in":["a",1]}]}'
+check "a text that is no name is told" refuses_spec 'modules[0].name: `S|` is no name' '{"start":"S","modules":[{"name":"S|"}]}'
+check "a module that stands twice is told" refuses_spec 'modules[1].name: `S` stands twice' '{"start":"S","modules":[{"name":"S"},{"name":"S"}]}'
+check "a port that stands twice is told" refuses_spec 'modules[0].out[0]: `a` stands twice' '{"start":"S","modules":[{"name":"S","in":["a"],"out":["a"]}]}'
+check "an unknown start is told" refuses_spec 'start: `T` is no module' '{"start":"T","modules":[{"name":"S"}]}'
+check "an unknown module of a position is told" refuses_spec 'productions[0].body[0][1]: `T` is no module' "$(production '"body":[["u","T"]]')"
+check "a position that stands twice is told" refuses_spec 'productions[0].body[1][0]: `u` stands twice' "$(production '"body":[["u","P"],["u","P"]]')"
+check "an empty body is told" refuses_spec 'productions[0].body: without a position' "$(production '"body":[]')"
+check "a pair of three is told" refuses_spec 'productions[0].edges[0]: not a list of two texts' "$(production '"body":[["u","P"]],"edges":[["u.y","u.x","u"]]')"
+check "an end without a dot is told" refuses_spec 'productions[0].edges[0][1]: `u` is no position and port with a dot between' "$(production '"body":[["u","P"]],"edges":[["u.y","u"]]')"
+check "an unknown position is told" refuses_spec 'productions[0].in[0][1]: `v` is no position of the body' "$(production '"body":[["u","P"]],"in":[["a","v.x"]]')"
+check "a port of the other side is told" refuses_spec 'productions[0].out[0][0]: `x` is no output of P' "$(production '"body":[["u","P"]],"out":[["u.x","b"]]')"
+check "an unknown port of the head is told" refuses_spec 'productions[0].in[0][0]: `b` is no input of S' "$(production '"body":[["u","P"]],"in":[["b","u.x"]]')"
+check "pairs of a module with productions are told" refuses_spec 'deps[0].module: `S` has productions, and pairs are given to modules that have none' \
+    "$(production '"body":[["u","P"]]}],"deps":[{"module":"S","pairs":[]')"
+check "an unknown port of a pair is told" refuses_spec 'deps[0].pairs[0][1]: `x` is no output of P' "$(production '"body":[["u","P"]]}],"deps":[{"module":"P","pairs":[["x","x"]]')"
+check "a specification that is not there is told" test "$(python3 tools/dot.py --spec "$work/absent" 2>&1)" = "dot.py: $work/absent: No such file or directory"
+check "missing words are told" test "$(python3 tools/dot.py --spec 2>&1)" = "dot.py: the words behind --spec are not SPEC [SPEC ..] or SPEC --view SHOWN; see --help"
+
+# A specification under a view: what the view leaves closed has no frame, and a box with the pairs of the view.
+under_view() {
+    printf '%b' "$2" >"$work/some_view"
+    "$program" view "$1" "$work/some_view" >"$work/lines" && python3 tools/dot.py --spec "$1" --view "$work/lines" >"$work/out"
+}
+closes() {
+    under_view tools/golden/dot/small.spec '{"expand":[],"deps":[{"module":"A","pairs":[]}]}' && [ "$(grep -c label= "$work/out")" = 1 ] &&
+        grep -qF '": A" [label="{{<in_a> a}|A\nno pairs|{<out_b> b}}"];' "$work/out"
+}
+check "a start module that is left closed is a box of its own" closes
+hides() {
+    under_view examples/phylogeny/spec "$(cat examples/phylogeny/view)" && ! grep -qE 'Split|Infer' "$work/out" && [ "$(grep -c 'label="production' "$work/out")" = 3 ] &&
+        grep -qF '"0.bu" [label="{{<in_m> m}|bu: Build|{<out_t> t|<out_n> n}}"];' "$work/out"
+}
+check "the inside of a closed module is not drawn" hides
+keeps_cycle() {
+    under_view examples/pair/spec "$(cat examples/pair/first)" && ! grep -q penwidth "$work/out" && ! grep -q ': Q' "$work/out" && [ "$(grep -c 'label="production' "$work/out")" = 2 ]
+}
+check "a cycle through a closed module is not marked" keeps_cycle
+refuses_shown() {
+    printf '%b' "$2" >"$work/lines"
+    [ "$(python3 tools/dot.py --spec examples/line/spec --view "$work/lines" 2>&1)" = "dot.py: $work/lines: $1" ]
+}
+check "a line of another form is told of what a view shows" refuses_shown 'line 2: not a module, and `expanded` or `shown`' 'S expanded a>b\nP\n'
+check "an unknown module of a view is told" refuses_shown 'line 1: `T` is no module' 'T shown\n'
+check "an expanded module without productions is told" refuses_shown 'line 1: `P` has no productions' 'P expanded\n'
+check "an unknown port of a view is told" refuses_shown 'line 1: `z` is no output of S' 'S shown a>z\n'
+
+# Label files become lines and label files again, byte for byte.
+keeps_labels() {
+    python3 tools/labels.py lines "examples/$1/labels" >"$work/lines" && python3 tools/labels.py file "$work/lines" | cmp -s - "examples/$1/labels"
+}
+for example in line phylogeny-once phylogeny twisting pair; do
+    check "the label file of $example is turned into lines and back" keeps_labels "$example"
+done
+
+tells_labels() {
+    python3 tools/labels.py lines examples/line/labels | tail -n +2 | cmp -s - <(printf 'r.a 20\nr.b 60\ni1.y b0\n')
+}
+check "the lines of a label file are names and digits" tells_labels
+
+# Whether labels.py ends with this message on such words.
+complains() {
+    local message=$1 ended=0
+    shift
+    "$@" >"$work/out" 2>"$work/err" </dev/null || ended=$?
+    [ "$ended" = 2 ] && [ ! -s "$work/out" ] && [ "$(cat "$work/err")" = "$message" ]
+}
+head -c 55 examples/line/labels >"$work/cut_labels"
+check "an entry that is not whole is told by its byte" \
+    complains 'labels.py: the entry at byte 50 is not whole' python3 tools/labels.py lines "$work/cut_labels"
+check "a file that is none is told" \
+    complains 'labels.py: the file does not begin with the head of a label file' python3 tools/labels.py lines examples/line/spec
+sed 's/b0/b/' "$work/lines" >"$work/odd"
+check "digits that are odd are told by their line" \
+    complains 'labels.py: line 2: `2` is not hexadecimal digits, two for each byte' python3 tools/labels.py file <(
+    head -n 1 "$work/lines"
+    echo 'r.a 2'
+)
+check "lines without a head are told" \
+    complains 'labels.py: line 1: not `head` and hexadecimal digits with one space between' python3 tools/labels.py file <(echo 'r.a 20')
+
+# The items that rest on an item, and those on which it rests.
+rests() {
+    WFPROV=$program python3 tools/impact.py "${@:2}" | cmp -s - <(printf '%b' "$1")
+}
+check "the items that rest on an input are listed" rests 'r.b\ni1.y\n' examples/line/spec examples/line/view examples/line/labels r.a
+check "the items on which an output rests are listed" rests 'r.a\ni1.y\n' --of examples/line/spec examples/line/view examples/line/labels r.b
+check "nothing rests on an output" rests '' examples/line/spec examples/line/view examples/line/labels r.b
+check "an item that is not there is told" \
+    complains 'impact.py: `r.q` is no item of examples/line/labels' env WFPROV="$program" python3 tools/impact.py examples/line/spec examples/line/view examples/line/labels r.q
+check "an item that the view hides is told" \
+    complains 'impact.py: `sp.a` is hidden by the view' env WFPROV="$program" python3 tools/impact.py examples/phylogeny/spec examples/phylogeny/view examples/phylogeny/labels sp.a
+check "labels of another workflow are told by the program" \
+    complains 'impact.py: refused: labels: OtherSpec' env WFPROV="$program" python3 tools/impact.py examples/pair/spec examples/pair/view examples/line/labels r.a
 
 finish

@@ -1,30 +1,58 @@
 #!/usr/bin/env python3
-"""Turns what `wfprov export` writes into a picture for Graphviz.
+"""Turns what `wfprov export` writes, or a specification, into a picture for Graphviz.
 
   ./wfprov export SPEC VIEW EVENTS | python3 tools/dot.py | dot -Tsvg > picture.svg
-  python3 tools/dot.py [FILE]       reads FILE, and standard input where none is given
+  python3 tools/dot.py [FILE]                   reads FILE, and standard input where none is given
+  python3 tools/dot.py --spec SPEC [SPEC ..]    draws specifications, one beside the other
+  python3 tools/dot.py --spec SPEC --view SHOWN draws what a view shows of one; SHOWN has the lines that `wfprov view` writes
 
-An instance that the view leaves closed, or whose module has no steps, is a box with its inputs above and its outputs below; where
-some of its outputs do not rest on each of its inputs, the box lists the pairs that do. A pending instance is a dashed box. The ports
-of an instance that is open are ovals. Arrows are links, and an arrow that carries an item has the item's name.
+A run: an instance that the view leaves closed, or whose module has no steps, is a box with its inputs above and its outputs below;
+where some of its outputs do not rest on each of its inputs, the box lists the pairs that do. A pending instance is a dashed box. The
+ports of an instance that is open are ovals. Arrows are links, and an arrow that carries an item has the item's name.
+
+A specification: a production is a frame with its number and its head. The grey bar at its top has the inputs of the head, and the one
+at its bottom the outputs. A box is a position with its module. It has the numbers of the productions by which the module is done, if
+there are any, as `by 1, 2`; otherwise it lists the pairs that `deps` gives the module, where these are not all. Arrows are edges,
+entries and exits. A position from which a way leads back to the head, and its production, have thick frames: this is the step of a
+cycle. An atomic module that stands in no body is a box of its own. Several specifications have frames with their paths. Under a view
+only the productions of expanded modules are drawn, and the box of each other module lists the pairs that the view shows.
+
+A specification is refused, with the place in the file, where it has not the form of docs/FORMATS.md, where a name is none or stands
+twice, where a module, a position or a port is named that is not there, where a body is empty, and where `deps` names a module with
+productions. The further rules are those of `wfprov check`; this tool does not try them.
 
 This tool is no part of what is proved. It needs Python's standard library alone.
 """
+import json
+import re
 import sys
 
 KINDS = ("leaf", "pending")
+NAME = re.compile(r"[A-Za-z0-9_-]{1,64}")
+FORMS = {dict: "an object", list: "a list", str: "a text"}
+# How many productions stand side by side, in a picture of one specification and of several.
+COLUMNS_OF_ONE, COLUMNS_OF_SEVERAL = 5, 3
+# How many productions the box of a composite module names.
+NAMED_PRODUCTIONS = 4
 
 
 class Wrong(Exception):
-    """A line that is none of `export`: its number and what is wrong with it."""
+    """What is wrong with a line or a specification, with its place."""
 
 
-def split_port(text, number):
-    """Returns the instance and the port of a name with a dot."""
-    instance, dot, port = text.partition(".")
-    if not instance or not dot or not port:
-        raise Wrong(f"line {number}: `{text}` is no instance and port with a dot between")
-    return instance, port
+def name_at(text, place):
+    """Returns a text that is a name."""
+    if not NAME.fullmatch(text):
+        raise Wrong(f"{place}: `{text}` is no name")
+    return text
+
+
+def split_port(text, place):
+    """Returns the two names of a text with a dot between them."""
+    first, dot, port = text.partition(".")
+    if not first or not dot or not port:
+        raise Wrong(f"{place}: `{text}` is no instance and port with a dot between")
+    return name_at(first, place), name_at(port, place)
 
 
 class Export:
@@ -33,18 +61,18 @@ class Export:
     def __init__(self, lines):
         self.closed, self.items, self.links = {}, set(), []
         for number, line in enumerate(lines, 1):
-            self.take(line.rstrip("\n").split(" "), number)
+            self.take(line.rstrip("\n").split(" "), f"line {number}")
 
-    def take(self, words, number):
+    def take(self, words, place):
         if words[0] in KINDS and len(words) == 3:
-            self.closed[words[1]] = words[0], words[2]
+            self.closed[name_at(words[1], place)] = words[0], name_at(words[2], place)
         elif words[0] == "item" and len(words) == 2:
-            split_port(words[1], number)
+            split_port(words[1], place)
             self.items.add(words[1])
         elif words[0] == "link" and len(words) == 3:
-            self.links.append((split_port(words[1], number), split_port(words[2], number)))
+            self.links.append((split_port(words[1], place), split_port(words[2], place)))
         else:
-            raise Wrong(f"line {number}: neither `leaf`, `pending`, `item` nor `link` with its names")
+            raise Wrong(f"{place}: neither `leaf`, `pending`, `item` nor `link` with its names")
 
     def is_pair(self, link):
         """Whether a link is a pair of a closed instance, from an input to an output of it."""
@@ -66,8 +94,216 @@ class Export:
         return found
 
 
+def of_form(value, form, place):
+    """Returns a value of JSON that has this form."""
+    if not isinstance(value, form):
+        raise Wrong(f"{place}: not {FORMS[form]}")
+    return value
+
+
+def member(value, name, form, place, absent=None):
+    """Returns a member of an object, or what stands for it where it is absent, with its place."""
+    place = f"{place}.{name}" if place else name
+    if name not in value and absent is None:
+        raise Wrong(f"{place}: not there")
+    return of_form(value.get(name, absent), form, place), place
+
+
+def parts(value, name, form, place, absent=None):
+    """Yields the parts of a list that is a member of an object, with their places."""
+    held, place = member(value, name, list, place, absent)
+    for number, part in enumerate(held):
+        yield of_form(part, form, f"{place}[{number}]"), f"{place}[{number}]"
+
+
+def two_texts(value, name, place, absent=None):
+    """Yields the two texts of each part of such a list, with the place of the part."""
+    for part, at in parts(value, name, list, place, absent):
+        if len(part) != 2:
+            raise Wrong(f"{at}: not a list of two texts")
+        yield of_form(part[0], str, f"{at}[0]"), of_form(part[1], str, f"{at}[1]"), at
+
+
+def found_in(name, known, place, what):
+    """Returns a name that is among those that are known."""
+    if name not in known:
+        raise Wrong(f"{place}: `{name}` is no {what}")
+    return name
+
+
+def new_in(name, known, place):
+    """Returns a name that is not among those that are known."""
+    if name_at(name, place) in known:
+        raise Wrong(f"{place}: `{name}` stands twice")
+    return name
+
+
+class Module:
+    """A module: its inputs, its outputs, the numbers of its productions, the pairs that `deps` or a view gives, or None, and whether it
+    is seen, and its inside shown."""
+
+    def __init__(self, value, place):
+        self.inputs, self.outputs, self.productions, self.pairs = [], [], [], None
+        self.seen, self.open = True, True
+        known = set()
+        for side, ports in (("in", self.inputs), ("out", self.outputs)):
+            for port, at in parts(value, side, str, place, []):
+                ports.append(new_in(port, known, at))
+                known.add(port)
+
+    def is_expanded(self):
+        """Whether the productions of the module are drawn, of which there are any."""
+        return self.open and bool(self.productions)
+
+    def lines(self):
+        """Returns what a box of the module lists: its productions, or its pairs where these are not all."""
+        if self.is_expanded():
+            named = ", ".join(str(number) for number in self.productions[:NAMED_PRODUCTIONS])
+            more = len(self.productions) - NAMED_PRODUCTIONS
+            return [f"by {named}" + f" and {more} more" * (more > 0)]
+        if self.pairs is None:
+            return []
+        return listed([(a, b) for a in self.inputs for b in self.outputs if (a, b) in self.pairs], self.inputs, self.outputs)
+
+
+class Production:
+    """A production: its head, its body, which has for each position its module, and its links. A link leads from one end to the
+    other, and an end is a position and a port, or None and a port of the head."""
+
+    def __init__(self, value, place, modules):
+        head, at = member(value, "head", str, place)
+        self.head = found_in(head, modules, at, "module")
+        self.body = {}
+        for position, module, at in two_texts(value, "body", place):
+            self.body[new_in(position, self.body, f"{at}[0]")] = found_in(module, modules, f"{at}[1]", "module")
+        if not self.body:
+            raise Wrong(f"{place}.body: without a position")
+        self.links = []
+        for first, second, at in two_texts(value, "edges", place, []):
+            self.links.append((self.output(first, f"{at}[0]", modules), self.input(second, f"{at}[1]", modules)))
+        for first, second, at in two_texts(value, "in", place, []):
+            port = found_in(first, modules[self.head].inputs, f"{at}[0]", f"input of {self.head}")
+            self.links.append(((None, port), self.input(second, f"{at}[1]", modules)))
+        for first, second, at in two_texts(value, "out", place, []):
+            port = found_in(second, modules[self.head].outputs, f"{at}[1]", f"output of {self.head}")
+            self.links.append((self.output(first, f"{at}[0]", modules), (None, port)))
+
+    def input(self, text, place, modules):
+        """Returns the end of a link that is an input of a position."""
+        position, port = self.split(text, place)
+        module = self.body[position]
+        return position, found_in(port, modules[module].inputs, place, f"input of {module}")
+
+    def output(self, text, place, modules):
+        """Returns the end of a link that is an output of a position."""
+        position, port = self.split(text, place)
+        module = self.body[position]
+        return position, found_in(port, modules[module].outputs, place, f"output of {module}")
+
+    def split(self, text, place):
+        position, dot, port = text.partition(".")
+        if not dot:
+            raise Wrong(f"{place}: `{text}` is no position and port with a dot between")
+        return found_in(position, self.body, place, "position of the body"), port
+
+
+class Spec:
+    """What a specification describes: its start, its modules and its productions, in order, and for each composite module one that
+    stands for all that lie on one cycle with it."""
+
+    def __init__(self, value):
+        value = of_form(value, dict, "the file")
+        self.modules, self.productions = {}, []
+        start, start_at = member(value, "start", str, "")
+        for part, at in parts(value, "modules", dict, ""):
+            name, name_place = member(part, "name", str, at)
+            self.modules[new_in(name, self.modules, name_place)] = Module(part, at)
+        self.start = found_in(start, self.modules, start_at, "module")
+        for number, (part, at) in enumerate(parts(value, "productions", dict, "", [])):
+            self.productions.append(Production(part, at, self.modules))
+            self.modules[self.productions[-1].head].productions.append(number)
+        for part, at in parts(value, "deps", dict, "", []):
+            self.take_pairs(part, at)
+        self.find_cycles()
+
+    def find_cycles(self):
+        self.cycle = cycles({name: self.steps(module) for name, module in self.modules.items()})
+
+    def take_view(self, lines):
+        """Leaves what a view shows, from the lines that `view` writes."""
+        for module in self.modules.values():
+            module.seen = module.open = False
+        for number, line in enumerate(lines, 1):
+            self.take_shown(line.rstrip("\n").split(" "), f"line {number}")
+        self.find_cycles()
+
+    def take_shown(self, words, place):
+        if len(words) < 2 or words[1] not in ("expanded", "shown"):
+            raise Wrong(f"{place}: not a module, and `expanded` or `shown`")
+        module = self.modules[found_in(words[0], self.modules, place, "module")]
+        module.seen, module.open = True, words[1] == "expanded"
+        if module.open and not module.productions:
+            raise Wrong(f"{place}: `{words[0]}` has no productions")
+        module.pairs = set()
+        for pair in words[2:]:
+            first, _, second = pair.partition(">")
+            found_in(first, module.inputs, place, f"input of {words[0]}")
+            module.pairs.add((first, found_in(second, module.outputs, place, f"output of {words[0]}")))
+
+    def take_pairs(self, part, place):
+        name, at = member(part, "module", str, place)
+        module = self.modules[found_in(name, self.modules, at, "module")]
+        if module.productions:
+            raise Wrong(f"{at}: `{name}` has productions, and pairs are given to modules that have none")
+        module.pairs = set() if module.pairs is None else module.pairs
+        for first, second, at in two_texts(part, "pairs", place):
+            found_in(first, module.inputs, f"{at}[0]", f"input of {name}")
+            module.pairs.add((first, found_in(second, module.outputs, f"{at}[1]", f"output of {name}")))
+
+    def steps(self, module):
+        """Returns the modules of the bodies that are drawn of a module."""
+        return [step for number in module.productions for step in self.productions[number].body.values()] if module.open else []
+
+    def ways_back(self, production):
+        """Returns the positions of a production from which a way leads back to its head."""
+        return [position for position, module in production.body.items() if self.cycle[module] == self.cycle[production.head]]
+
+
+def reached(start, steps, seen):
+    """Yields what is reached from a module and was not seen, each behind what is reached from it first."""
+    seen.add(start)
+    path = [(start, iter(steps[start]))]
+    while path:
+        module, rest = path[-1]
+        for step in rest:
+            if step not in seen:
+                seen.add(step)
+                path.append((step, iter(steps[step])))
+                break
+        else:
+            path.pop()
+            yield module
+
+
+def cycles(steps):
+    """Returns for each module one that stands for all to which it leads and which lead back to it."""
+    back = {module: [] for module in steps}
+    for module, others in steps.items():
+        for other in others:
+            back[other].append(module)
+    seen, order = set(), []
+    for module in steps:
+        if module not in seen:
+            order.extend(reached(module, steps, seen))
+    seen, found = set(), {}
+    for start in reversed(order):
+        if start not in seen:
+            found.update((module, start) for module in reached(start, back, seen))
+    return found
+
+
 def quoted(text):
-    """Returns a text as a string of the picture's language. Names hold nothing that has a meaning there."""
+    """Returns a text as a string of the picture's language. Names hold nothing that has a meaning there, but for dots and spaces."""
     return f'"{text}"'
 
 
@@ -76,16 +312,26 @@ def row(side, ports):
     return "{" + "|".join(f"<{side}_{port}> {port}" for port in ports) + "}"
 
 
+def listed(pairs, inputs, outputs):
+    """Returns the lines that tell the pairs of a box where these are not all."""
+    if len(pairs) == len(inputs) * len(outputs):
+        return []
+    return [f"{a} to {b}" for a, b in pairs] or ["no pairs"]
+
+
+def record(inputs, lines, outputs):
+    """Returns the label of a box: its inputs above, lines of text, and its outputs below."""
+    cells = [row("in", inputs)] * bool(inputs) + ["\\n".join(lines)] + [row("out", outputs)] * bool(outputs)
+    return quoted("{" + "|".join(cells) + "}")
+
+
 def box(export, instance, ports):
     """Returns the line of a closed instance."""
     kind, module = export.closed[instance]
     inputs, outputs, pairs = ports
-    middle = f"{instance}: {module}"
-    if len(pairs) < len(inputs) * len(outputs):
-        middle += "".join(f"\\n{a} to {b}" for a, b in pairs)
-    cells = [row("in", inputs)] * bool(inputs) + [middle] + [row("out", outputs)] * bool(outputs)
-    style = ' style="dashed"' if kind == "pending" else ""
-    return f"  {quoted(instance)} [shape=record label={quoted('{' + '|'.join(cells) + '}')}{style}];"
+    pending = kind == "pending"
+    lines = [f"{instance}: {module}"] + ([] if pending else listed(pairs, inputs, outputs))
+    return f"  {quoted(instance)} [shape=record label={record(inputs, lines, outputs)}{' style=' + quoted('dashed') if pending else ''}];"
 
 
 def end(export, port, side):
@@ -96,8 +342,8 @@ def end(export, port, side):
     return quoted(f"{instance}.{name}")
 
 
-def picture(export):
-    """Yields the lines of the picture."""
+def run_picture(export):
+    """Yields the lines of the picture of a run."""
     yield "digraph provenance {"
     yield "  node [fontname=Helvetica fontsize=11];"
     yield "  edge [fontname=Helvetica fontsize=9];"
@@ -116,26 +362,165 @@ def picture(export):
     yield "}"
 
 
+class Frame:
+    """A production as it is drawn: what the names of its nodes begin with, and the nodes at its top and its bottom."""
+
+    def __init__(self, spec, number, prefix):
+        self.spec, self.number, self.prefix = spec, number, f"{prefix}{number}"
+        self.production = spec.productions[number]
+        self.head = spec.modules[self.production.head]
+        places = list(self.production.body)
+        self.top = self.node(None, "in") if self.head.inputs else self.node(places[0], "in")
+        self.bottom = self.node(None, "out") if self.head.outputs else self.node(places[-1], "out")
+
+    def node(self, position, side):
+        """Returns the node of a position, or of the bar of the head's ports of one side."""
+        return quoted(f"{self.prefix} {side}" if position is None else f"{self.prefix}.{position}")
+
+    def title(self):
+        name = self.production.head
+        return f"production {self.number}: {name}" + "\\n(start)" * (name == self.spec.start)
+
+    def bars(self):
+        """Yields the lines of the head's ports."""
+        for side, ports in (("in", self.head.inputs), ("out", self.head.outputs)):
+            if ports:
+                cells = "|".join(f"<{side}_{port}> {port}" for port in ports)
+                yield f"{self.node(None, side)} [height=0.3 style=filled fillcolor=gray90 label={quoted(cells)}];"
+
+    def arrow(self, link):
+        """Returns the line of a link. At a position it leaves below an output; at the head it leaves below an input."""
+        (first, from_port), (second, to_port) = link
+        from_side, to_side = "out" if first else "in", "in" if second else "out"
+        return (
+            f"{self.node(first, from_side)}:{quoted(f'{from_side}_{from_port}')}:s"
+            f" -> {self.node(second, to_side)}:{quoted(f'{to_side}_{to_port}')}:n;"
+        )
+
+    def lines(self):
+        """Yields the lines of the frame."""
+        back = self.spec.ways_back(self.production)
+        thick = " penwidth=2.5"
+        yield f"subgraph {quoted(f'cluster_{self.prefix}')} {{"
+        yield f"  graph [label={quoted(self.title())} style=rounded{thick * bool(back)}];"
+        yield from (f"  {line}" for line in self.bars())
+        for position, name in self.production.body.items():
+            module = self.spec.modules[name]
+            label = record(module.inputs, [f"{position}: {name}", *module.lines()], module.outputs)
+            yield f"  {self.node(position, 'in')} [label={label}{thick * (position in back)}];"
+        yield from (f"  {self.arrow(link)}" for link in self.production.links)
+        yield "}"
+
+
+def spec_lines(spec, prefix, columns):
+    """Yields the lines of a specification. Arrows that are not seen keep the productions in rows, in their order."""
+    frames = [Frame(spec, number, prefix) for number, production in enumerate(spec.productions) if spec.modules[production.head].open]
+    for frame in frames:
+        yield from frame.lines()
+    placed = {module for frame in frames for module in frame.production.body.values()}
+    for name, module in spec.modules.items():
+        if module.seen and not module.is_expanded() and name not in placed:
+            yield f"{quoted(f'{prefix}: {name}')} [label={record(module.inputs, [name, *module.lines()], module.outputs)}];"
+    first = quoted(f"{prefix} first")
+    yield f"{first} [shape=point style=invis width=0 height=0 ordering=out];"
+    for number, frame in enumerate(frames):
+        above = frames[number - columns].bottom if number >= columns else first
+        yield f"{above} -> {frame.top} [style=invis weight=0];"
+
+
+def title_of(path):
+    """Returns a path as a string of the picture's language, in which any byte may stand."""
+    text = path.encode("utf-8", "backslashreplace").decode()
+    return quoted(text.replace("\\", "\\\\").replace('"', '\\"').replace("&", "&amp;"))
+
+
+def spec_picture(specs):
+    """Yields the lines of the picture of specifications, which are given with their paths."""
+    yield "digraph specification {"
+    yield "  graph [fontname=Helvetica fontsize=11 nodesep=0.15 ranksep=0.4];"
+    yield "  node [fontname=Helvetica fontsize=11 shape=record];"
+    if len(specs) == 1:
+        yield from (f"  {line}" for line in spec_lines(specs[0][1], "", COLUMNS_OF_ONE))
+    else:
+        for number, (path, spec) in enumerate(specs):
+            yield f"  subgraph {quoted(f'cluster_{number}')} {{"
+            yield f"    graph [label={title_of(path)}];"
+            yield from (f"    {line}" for line in spec_lines(spec, f"{number}/", COLUMNS_OF_SEVERAL))
+            yield "  }"
+    yield "}"
+
+
+def not_json(word):
+    raise ValueError(word)
+
+
+def read_spec(path):
+    """Returns the specification of a file."""
+    try:
+        with open(path, "rb") as file:
+            return Spec(json.loads(file.read().decode("utf-8"), parse_constant=not_json))
+    except OSError as error:
+        raise Wrong(f"{path}: {error.strerror}") from None
+    except json.JSONDecodeError as error:
+        raise Wrong(f"{path}: line {error.lineno} column {error.colno}: not JSON") from None
+    except (ValueError, RecursionError):
+        raise Wrong(f"{path}: not JSON in UTF-8, or nested too deeply") from None
+    except Wrong as wrong:
+        raise Wrong(f"{path}: {wrong}") from None
+
+
+def read_shown(path, spec):
+    """Leaves of a specification what a view shows, as a file tells it."""
+    try:
+        with open(path, encoding="utf-8") as lines:
+            spec.take_view(lines)
+    except OSError as error:
+        raise Wrong(f"{path}: {error.strerror}") from None
+    except UnicodeDecodeError:
+        raise Wrong(f"{path}: not UTF-8, and so not what `view` writes") from None
+    except Wrong as wrong:
+        raise Wrong(f"{path}: {wrong}") from None
+
+
+def picture_of_specs(words):
+    """Returns the lines of the picture of the specifications that the words behind `--spec` name."""
+    view = words[2:] if words[1:2] == ["--view"] else []
+    paths = words[:1] if view else words
+    if not paths or len(view) > 1 or "--view" in paths:
+        raise Wrong("the words behind --spec are not SPEC [SPEC ..] or SPEC --view SHOWN; see --help")
+    specs = [(path, read_spec(path)) for path in paths]
+    for shown in view:
+        read_shown(shown, specs[0][1])
+    return spec_picture(specs)
+
+
+def read_export(words):
+    """Returns what the lines of a file tell, or those of standard input where no file is given."""
+    if len(words) > 1:
+        raise Wrong("at most one FILE; see --help")
+    try:
+        with open(words[0] if words else sys.stdin.fileno(), encoding="utf-8") as lines:
+            return Export(lines)
+    except OSError as error:
+        raise Wrong(f"{words[0] if words else 'standard input'}: {error.strerror}") from None
+    except UnicodeDecodeError:
+        raise Wrong("the text is not UTF-8, and so not what `export` writes") from None
+
+
 def main(words):
     if "--help" in words or "-h" in words:
         print(__doc__.strip())
         return 0
-    if len(words) > 1:
-        print("dot.py: at most one FILE; see --help", file=sys.stderr)
-        return 2
     try:
-        with open(words[0] if words else sys.stdin.fileno(), encoding="utf-8") as lines:
-            export = Export(lines)
+        lines = picture_of_specs(words[1:]) if words[:1] == ["--spec"] else run_picture(read_export(words))
+        sys.stdout.write("\n".join(lines) + "\n")
+        sys.stdout.flush()
     except OSError as error:
-        print(f"dot.py: {words[0]}: {error.strerror}", file=sys.stderr)
-        return 2
-    except UnicodeDecodeError:
-        print("dot.py: the text is not UTF-8, and so not what `export` writes", file=sys.stderr)
+        print(f"dot.py: writing: {error.strerror}", file=sys.stderr)
         return 2
     except Wrong as wrong:
         print(f"dot.py: {wrong}", file=sys.stderr)
         return 2
-    print("\n".join(picture(export)))
     return 0
 
 

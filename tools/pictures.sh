@@ -1,5 +1,5 @@
 #!/usr/bin/env bash
-# Makes the pictures of docs/pictures: what `export` writes of examples, drawn by Graphviz.
+# Makes the pictures of docs/pictures: what `export` writes of examples, and specifications, drawn by Graphviz.
 #   bash tools/pictures.sh [FOLDER]    writes them to FOLDER, and to docs/pictures where none is given
 set -euo pipefail
 
@@ -9,16 +9,33 @@ program=crates/wfprov/out/wfprov
 [ -x "$program" ] || program=./wfprov
 mkdir -p "$folder"
 
-# The picture of a run of an example under a view, both as text for Graphviz and drawn.
+# Draws a picture whose text for Graphviz has been written.
 draw() {
-    local name=$1 spec=$2 view=$3 events=$4
-    "$program" export "$spec" "$view" "$events" | python3 tools/dot.py >"$folder/$name.dot"
     if command -v dot >/dev/null; then
-        dot -Tsvg "$folder/$name.dot" >"$folder/$name.svg"
+        dot -Tsvg "$folder/$1.dot" >"$folder/$1.svg"
     else
-        echo "pictures.sh: Graphviz is not installed; $folder/$name.svg is left as it is" >&2
+        echo "pictures.sh: Graphviz is not installed; $folder/$1.svg is left as it is" >&2
     fi
 }
 
-draw line examples/line/spec examples/line/view examples/line/events
-draw phylogeny examples/phylogeny-once/spec examples/phylogeny-once/view examples/phylogeny-once/events
+# The picture of a run of an example under a view.
+draw_run() {
+    local name=$1 spec=$2 view=$3 events=$4
+    "$program" export "$spec" "$view" "$events" | python3 tools/dot.py >"$folder/$name.dot"
+    draw "$name"
+}
+
+# The picture of specifications, one beside the other.
+draw_specs() {
+    local name=$1
+    shift
+    python3 tools/dot.py --spec "$@" >"$folder/$name.dot"
+    draw "$name"
+}
+
+draw_run line examples/line/spec examples/line/view examples/line/events
+draw_run phylogeny examples/phylogeny-once/spec examples/phylogeny-once/view examples/phylogeny-once/events
+draw_specs phylogeny-spec examples/phylogeny/spec
+draw_specs twisting-skewed examples/twisting/spec examples/skewed/spec
+python3 tools/crates.py >"$folder/crates.dot"
+draw crates

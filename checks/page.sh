@@ -1,0 +1,228 @@
+#!/usr/bin/env bash
+# Checks of tools/page.py: the page of an example, what is on a page and what is not, and what it refuses.
+set -euo pipefail
+
+cd "$(dirname "${BASH_SOURCE[0]}")/.."
+. checks/count.sh
+. checks/built.sh
+export WFPROV=$program
+
+once=examples/phylogeny-once
+long=examples/phylogeny
+kept=tools/golden/page/phylogeny-once.html
+line=examples/line
+text() {
+    printf '%b' "$2" >"$work/$1"
+    echo "$work/$1"
+}
+
+# Writes the page of these words.
+page() {
+    python3 tools/page.py "$@" >"$work/page" 2>"$work/err"
+}
+
+# Whether the last page has each of these texts.
+has() {
+    local text
+    for text in "$@"; do
+        grep -qF -- "$text" "$work/page" || return 1
+    done
+}
+
+# A page without what differs from one build of the program to another, and without picture and links where Graphviz is another one.
+plain() {
+    local drawn
+    drawn=$(dot -V 2>&1 | grep -o 'graphviz version [0-9.]*' || true)
+    sed -e '/<td>wfprov<\/td>/d' "$1" | if grep -qF "${drawn:-no Graphviz}" "$kept"; then cat; else sed -E '/<section id="(picture|links)">/,/<\/section>/d'; fi
+}
+
+is_kept() {
+    page $once/spec $once/view $once/events $once/queries && cmp -s <(plain "$work/page") <(plain $kept)
+}
+check "the page of the phylogeny of one step is the one that is kept" is_kept
+
+# Whether the last page is well-formed, has no script and fetches nothing, and has these questions, answers and files.
+is_whole() {
+    python3 - "$work/page" "$@" <<'READS'
+import hashlib, re, sys
+import xml.etree.ElementTree as tree
+path, queries, answers, *files = sys.argv[1:]
+text = open(path).read()
+top = tree.fromstring(text.split("\n", 1)[1])
+tags = {element.tag.split("}")[-1] for element in top.iter()}
+assert not tags & {"script", "link", "img", "iframe", "image", "object", "a", "use", "base", "form", "animate", "foreignObject"}, tags
+for element in top.iter():
+    assert not [name for name in element.attrib if re.search(r"^on|href|src|style$", name)], element.attrib
+assert not re.search(r"url\(|@import|javascript:|data:", text)
+assert set(re.findall(r'https?://[^"\s]*', text)) <= {"http://www.w3.org/2000/svg"}
+words = lambda element: "".join(element.itertext())
+rows = {part.get("id"): part.findall(".//tbody/tr") for part in top.iter("section")}
+asked = [[code.text for code in row.findall("td")[1].findall("code")][::-1] + [words(row.findall("td")[2])] for row in rows["questions"]]
+wanted = [line.split() + [answer] for line, answer in zip(open(queries).read().split("\n"), open(answers).read().split())]
+assert asked == wanted, asked
+told = [[code.text for code in row.findall("td")[1].findall("code")] for row in rows["how"]]
+assert told == [[file, hashlib.sha256(open(file, "rb").read()).hexdigest()] for file in files], told
+READS
+}
+check "it is well-formed, fetches nothing, and has each question, answer and digest" is_whole $once/queries $once/answers $once/{spec,view,events,queries} "$program"
+check "it says what each answer means" has 'run.tree</code> rests on <code>run.seqs</code>' 'al.m</code> does not rest on <code>run.cfg' 'an item is not there'
+check "it has the commands" has "<code>wfprov view $once/spec $once/view</code>" "<code>wfprov trace $once/spec $once/view $once/events $once/queries</code>"
+
+# Whether the view of the last page is that which stands beside an example.
+tells_view() {
+    python3 - "$work/page" "$1" <<'READS'
+import re, sys
+part = open(sys.argv[1]).read().split('<section id="view">')[1].split("</section>")[0]
+told = []
+for row in re.findall(r"<tr><td><code>(.*?)</code></td><td>(\w+)</td><td>(.*?)</td>", part):
+    pairs = [(a, b) for rests in row[2].split("; ") for b, *inputs in [re.findall(r"<code>(.*?)</code>", rests)] for a in inputs]
+    told.append((row[0], row[1] == "shown", sorted(pairs)))
+lines = [line.split() for line in open(sys.argv[2])]
+wanted = [(name, state == "expanded", sorted(tuple(pair.split(">")) for pair in pairs)) for name, state, *pairs in lines]
+sys.exit(told != wanted)
+READS
+}
+check "it tells the view as it is shown" tells_view $once/shown
+
+check "a page is made from labels" page --labels $long/labels $long/spec $long/view $long/events $long/queries
+check "it has the questions, answers and digests" is_whole $long/queries $long/answers $long/{spec,view,events,queries,labels} "$program"
+check "it says that the label file is that of the run" has 'byte for byte' "<code>wfprov ask $long/spec $long/view $long/labels $long/queries</code>"
+check "it tells its view as it is shown" tells_view $long/shown
+check "it says where pairs come from" has 'said by the view' 'said by the specification' 'worked out from the steps inside' 'nothing is said of it'
+
+# Whether the links on the last page are those that `export` writes.
+lists_links() {
+    cmp -s <(sed -n 's/^<li><code>\(.*\)<\/code> to <code>\(.*\)<\/code><\/li>$/link \1 \2/p' "$work/page") <("$program" export "$1/spec" "$1/view" "$1/events" | grep '^link')
+}
+check "a run with many links has them listed" lists_links $long
+hides() {
+    ! grep -qE 'Split|Infer' "$work/page" && has 'has 2 modules more, which the view does not show'
+}
+check "what the view leaves closed is not on the page" hides
+check "a page is made from labels without the run" page --labels $long/labels $long/spec $long/view - $long/queries
+check "it has its questions, answers and digests" is_whole $long/queries $long/answers $long/{spec,view,queries,labels} "$program"
+check "it says so" has 'without the run'
+
+# Whether a page can be made where no Graphviz is found.
+without_graphviz() {
+    env PATH="$work/nothing" "$(python3 -c 'import sys; print(sys.executable)')" tools/page.py $once/spec $once/view $once/events $once/queries >"$work/page" && ! grep -q '<svg' "$work/page"
+}
+check "a page is made without Graphviz" without_graphviz
+check "the links are listed on it" lists_links $once
+
+"$program" gen examples/twisting/spec 400 1 >"$work/many"
+check "a page of a run of thousands of links is made" page examples/twisting/spec examples/twisting/view "$work/many" examples/twisting/queries
+only_tells() {
+    local links
+    links=$("$program" export examples/twisting/spec examples/twisting/view "$work/many" | grep -c '^link')
+    has "The run has $(python3 -c 'import sys; print(f"{int(sys.argv[1]):,}")' "$links") links" && ! has 'id="links"'
+}
+check "it only tells how many there are" only_tells
+
+head -n 20 $long/events >"$work/early"
+"$program" ingest $long/spec "$work/early" >"$work/early_labels"
+begins() {
+    page --labels "$work/early_labels" $long/spec $long/view $long/events $long/queries && has 'The label file begins'
+}
+check "a label file of an earlier state of the run is told" begins
+goes_on() {
+    page --labels $long/labels $long/spec $long/view "$work/early" $long/queries && has 'The label file goes on'
+}
+check "a label file of a later state of the run is told" goes_on
+
+# Of a step that is done in one of two ways, labels of both: no run has them.
+echo '{"start":"S","modules":[{"name":"S","in":["a"],"out":["b"]},{"name":"P","in":["x"],"out":["y"]}],"productions":[{"head":"S","body":[["u","P"],["v","P"]],"edges":[["u.y","v.x"]],"in":[["a","u.x"]],"out":[["v.y","b"]]},{"head":"S","body":[["u","P"],["v","P"]],"edges":[["u.y","v.x"]],"in":[["a","u.x"]],"out":[["v.y","b"]]}]}' >"$work/fork"
+{ "$program" ingest "$work/fork" /dev/null; printf '\x03i.y\x00\x01\xb0\x03j.y\x00\x01\x94'; } >"$work/both"
+echo 'i.y j.y' >"$work/clashing"
+clashes() {
+    page --labels "$work/both" "$work/fork" examples/line/view - "$work/clashing" && has 'class="answer">clash</td><td>no run has both items' 'the label file is not that of a run'
+}
+check "labels that no run has together are told" clashes
+
+: >"$work/empty"
+empty() {
+    page $once/spec $once/view "$work/empty" "$work/empty" && has 'The run has no links yet' 'the answers to 0 questions'
+}
+check "an empty run and no question make a page" empty
+
+# A workflow of 64 modules in a line, eight times: its links are too many for a picture.
+python3 - >"$work/large" <<'WRITES'
+import json
+modules = [{"name": name, "in": ["x"], "out": ["y"]} for name in ["S", "P", *(f"M{k}" for k in range(8))]]
+def chain(head, module, count):
+    steps = [f"p{k}" for k in range(count)]
+    edges = [[f"{a}.y", f"{b}.x"] for a, b in zip(steps, steps[1:])]
+    return {"head": head, "body": [[step, module(k)] for k, step in enumerate(steps)], "edges": edges, "in": [["x", "p0.x"]], "out": [[f"{steps[-1]}.y", "y"]]}
+inner = [chain(f"M{k}", lambda _: "P", 64) for k in range(8)]
+print(json.dumps({"start": "S", "modules": modules, "productions": [chain("S", lambda k: f"M{k}", 8), *inner]}))
+WRITES
+echo '{"start":"r"}' | "$program" ingest "$work/large" /dev/stdin >"$work/large_labels"
+large() {
+    page --labels "$work/large_labels" "$work/large" $line/view - "$work/empty" && ! grep -q '<svg' "$work/page" &&
+        page --labels "$work/large_labels" "$work/large" "$(text closed '{"expand":["S"]}')" - "$work/empty" && { grep -q '<svg' "$work/page" || ! command -v dot >/dev/null; }
+}
+check "a large workflow has a picture only where the view shows less of it" large
+
+# Questions whose lines end as other systems end them, with empty lines between.
+other_lines() {
+    page $once/spec $once/view $once/events "$(text lines '\nrun.seqs run.tree\r\n\r\n\nrun.cfg al.m')" && text said 'yes\nno\n' >/dev/null &&
+        text asked 'run.seqs run.tree\nrun.cfg al.m\n' >/dev/null && is_whole "$work/asked" "$work/said" $once/{spec,view,events} "$work/lines" "$program"
+}
+check "empty lines and carriage returns are passed over" other_lines
+
+# A path is shown as text, whatever stands in it.
+odd=$work/'<b>&"'$'\n'
+escapes() {
+    cp $once/queries "$odd" && page $once/spec $once/view $once/events "$odd" && ! grep -q '<b>' "$work/page" && has '&lt;b&gt;&amp;&quot;\n' &&
+        python3 -c 'import sys, xml.etree.ElementTree as tree; tree.fromstring(open(sys.argv[1]).read().split("\n", 1)[1])' "$work/page"
+}
+check "a path is shown as text" escapes
+
+same_again() {
+    page $once/spec $once/view $once/events $once/queries && cp "$work/page" "$work/first" && page $once/spec $once/view $once/events $once/queries && cmp -s "$work/page" "$work/first"
+}
+check "the same files make the same page" same_again
+
+# Whether page.py refuses these words with this message, and writes nothing.
+refuses() {
+    local message=$1 ended=0
+    shift
+    page "$@" || ended=$?
+    [ "$ended" = 2 ] && [ ! -s "$work/page" ] && [ "$(cat "$work/err")" = "page.py: $message" ]
+}
+check "too few words are told" refuses 'the words are not [--labels LABELS] SPEC VIEW EVENTS QUERIES; see --help' $line/spec $line/view $line/events
+check "a missing LABELS is told" refuses 'the words are not [--labels LABELS] SPEC VIEW EVENTS QUERIES; see --help' --labels
+check "a page without the run and without labels is refused" refuses 'EVENTS can be `-` only with --labels; see --help' $line/spec $line/view - $line/queries
+check "a file that is not there is told" refuses "$work/absent: No such file or directory" $line/spec "$work/absent" $line/events $line/queries
+check "a folder is told" refuses "$line: not a regular file" $line $line/view $line/events $line/queries
+check "a device is told" refuses '/dev/null: not a regular file' $line/spec $line/view $line/events /dev/null
+check "a specification that is refused is told" refuses "wfprov check $work/bad: refused: spec: NotJson" "$(text bad '{')" $line/view $line/events $line/queries
+check "a view that is refused is told" refuses "wfprov view $line/spec $work/bad: refused: view: UnknownModule expand 0" $line/spec "$(text bad '{"expand":["T"]}')" $line/events $line/queries
+check "a view that is not safe is told" refuses "wfprov view examples/skewed/spec examples/skewed/view: refused: view: Unsafe module L one 2 other 1 input x1 output y1 joined one choice S=0 L=2" \
+    examples/skewed/spec examples/skewed/view $line/events $line/queries
+check "an event that is refused is told" refuses "wfprov export $line/spec $line/view $work/bad: refused: events line 1: NotStarted" $line/spec $line/view "$(text bad '{"expand":"r","production":0,"names":[]}\n')" $line/queries
+check "a query that is refused is told" refuses "wfprov trace $line/spec $line/view $line/events $work/bad: refused: queries line 2: LineWrong" $line/spec $line/view $line/events "$(text bad 'r.a r.b\nr.a\n')"
+check "a label file of another workflow is told" refuses "wfprov ask $line/spec $line/view $once/labels $line/queries: refused: labels: OtherSpec" --labels $once/labels $line/spec $line/view - $line/queries
+check "a label file of another run is told" refuses "$work/bad: byte 37: not the label file of $line/events, nor one that begins it or goes on from it" \
+    --labels "$(sed 's/"r"/"q"/' $line/events >"$work/other" && "$program" ingest $line/spec "$work/other" >"$work/bad" && echo "$work/bad")" $line/spec $line/view $line/events $line/queries
+
+no_program() {
+    WFPROV=$work/absent refuses "$work/absent: no program; \`./wfprov\` builds it, and the variable WFPROV may name another" $line/spec $line/view $line/events $line/queries
+}
+check "a missing program is told" no_program
+
+# A program that changes a file before it does its work.
+cp $line/queries "$work/changing"
+printf '#!/bin/sh\necho >>"%s"\nexec "%s" "$@"\n' "$work/changing" "$program" >"$work/changes"
+chmod +x "$work/changes"
+changing() {
+    WFPROV=$work/changes refuses "$work/changing: changed while the page was made" $line/spec $line/view $line/events "$work/changing"
+}
+check "a file that changes meanwhile is told" changing
+full() {
+    [ "$(python3 tools/page.py $once/spec $once/view $once/events $once/queries 2>&1 >/dev/full)" = "page.py: writing: No space left on device" ]
+}
+check "a page that cannot be written is told" full
+check "the tool tells how it is called" test "$(python3 tools/page.py --help | grep -c 'SPEC VIEW EVENTS QUERIES > page.html')" = 2
+
+finish
