@@ -1,5 +1,5 @@
 #!/usr/bin/env bash
-# Prints, for each crate, its lines of code, tests, definitions and proofs, and the number of edits that must be refused, as rows of the table in README.md. All of a crate of tests is counted as tests.
+# Prints, for each crate, its lines of code, tests, definitions and proofs, and the number of edits that must be refused, as rows of the table in docs/PROOFS.md. All of a crate of tests is counted as tests.
 set -euo pipefail
 
 cd "$(dirname "${BASH_SOURCE[0]}")/.."

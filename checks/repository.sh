@@ -46,11 +46,12 @@ stands_once() {
 
 check "HANDLES allows none" has_no_handles
 check "each statement stands once" stands_once
+check "the tables of definitions in docs/PROOFS.md are up to date" python3 checks/reading.py --check
 check "nothing that rt makes is committed" has_no_output
 for crate in $(crates); do
     check "$crate is there" is_a_folder "$crate"
     check "$crate has edits that must be refused" has_edits_or_no_code "$crate"
-    check "$crate is named in README.md" is_named_in "$crate" README.md
+    check "$crate is named in docs/PROOFS.md" is_named_in "$crate" docs/PROOFS.md
     check "$crate is named in docs/ARCHITECTURE.md" is_named_in "$crate" docs/ARCHITECTURE.md
 done
 

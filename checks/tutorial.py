@@ -1,0 +1,62 @@
+#!/usr/bin/env python3
+"""Runs the blocks of docs/TUTORIAL.md, one after the other in one folder, and compares what they print.
+
+  python3 checks/tutorial.py PROGRAM [--write]
+
+A block of the kind `console` has commands behind `$ `, each followed by what it prints. With --write the page is given what the
+commands printed. The last line is `N passed, M failed`, where a command is one case, and the status is 1 where one failed.
+"""
+import os
+import re
+import subprocess
+import sys
+import tempfile
+
+TOP = os.path.dirname(os.path.dirname(os.path.abspath(__file__)))
+PAGE = os.path.join(TOP, "docs/TUTORIAL.md")
+BLOCK = re.compile(r"(?<=^```console\n).*?(?=^```$)", re.M | re.S)
+MARK = "-- end of a command --"
+
+
+def commands_of(block):
+    """Yields the commands of a block, each with what it is to print."""
+    for part in re.split(r"^\$ ", block, flags=re.M)[1:]:
+        command, _, printed = part.partition("\n")
+        yield command, printed
+
+
+def run_all(commands, program):
+    """Returns what each command prints, all of them in one shell and one folder."""
+    with tempfile.TemporaryDirectory() as folder:
+        os.symlink(os.path.abspath(program), os.path.join(folder, "wfprov"))
+        for name in ("examples", "tools"):
+            os.symlink(os.path.join(TOP, name), os.path.join(folder, name))
+        script = "".join(f"{command}\necho '{MARK}'\n" for command in commands)
+        settings = dict(os.environ, WFPROV=os.path.abspath(program), LC_ALL="C.UTF-8")
+        ran = subprocess.run(["bash"], input=script, cwd=folder, env=settings, stdout=subprocess.PIPE, stderr=subprocess.STDOUT, text=True, check=False)
+    return ran.stdout.split(MARK + "\n")[: len(commands)]
+
+
+def main(words):
+    with open(PAGE, encoding="utf-8") as file:
+        page = file.read()
+    cases = [case for block in BLOCK.findall(page) for case in commands_of(block)]
+    printed = run_all([command for command, _ in cases], words[0])
+    failed = 0
+    for (command, wanted), got in zip(cases, printed + [""] * (len(cases) - len(printed))):
+        if wanted == got:
+            print(f"ok: {command}")
+        else:
+            failed += 1
+            print(f"FAILED: {command}\n--- the page has\n{wanted}--- it printed\n{got}")
+    if words[1:] == ["--write"]:
+        told = iter(printed)
+        page = BLOCK.sub(lambda m: "".join(f"$ {command}\n{next(told)}" for command, _ in commands_of(m[0])), page)
+        with open(PAGE, "w", encoding="utf-8") as file:
+            file.write(page)
+    print(f"{len(cases) - failed} passed, {failed} failed")
+    return 1 if failed or not cases else 0
+
+
+if __name__ == "__main__":
+    sys.exit(main(sys.argv[1:]))
