@@ -300,7 +300,7 @@ decides_alike() {
     done <"examples/$1/queries" >"$work/told"
     cmp -s "$work/told" "examples/$1/answers"
 }
-for example in line phylogeny-once phylogeny twisting pair; do
+for example in line phylogeny-once phylogeny twisting pair mapping-cwl mapping-nextflow; do
     check "two labels of $example tell what its run tells" decides_alike "$example"
 done
 check "bytes that are no label are refused" says 2 'refused: label 1: Malformed\n' decide $line/spec $line/view b1 20
@@ -313,7 +313,7 @@ asks_alike() {
     run ask "examples/$1/spec" "examples/$1/view" "examples/$1/labels" "examples/$1/queries" &&
         ended 0 "examples/$1/answers" "$nothing"
 }
-for example in line phylogeny-once phylogeny twisting pair; do
+for example in line phylogeny-once phylogeny twisting pair mapping-cwl mapping-nextflow; do
     check "the label file of $example answers as its run does" asks_alike "$example"
 done
 
@@ -521,6 +521,14 @@ ingests_half_a_line() {
     [ "$(cat "$work/status")" = 2 ] && head -c 36 $line/labels | cmp -s - <(head -c 36 "$work/out") && grep -q '^refused: events line [0-9]*: NotJson$' "$work/err"
 }
 check "half a line at the end of a whole file is a line" ingests_half_a_line
+
+# The runs that were imported, with all that the program writes of them.
+for example in mapping-cwl mapping-nextflow; do
+    check "the run $example is answered" answers "$example"
+    check "its specification is accepted" checks "$example"
+    check "its view is shown" shows "$example"
+    check "it is labelled" labels "$example"
+done
 
 # What a run of the line shows, and its run from two numbers.
 exports() {

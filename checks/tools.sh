@@ -146,7 +146,7 @@ check "an unknown port of a view is told" refuses_shown 'line 1: `z` is no outpu
 keeps_labels() {
     python3 tools/labels.py lines "examples/$1/labels" >"$work/lines" && python3 tools/labels.py file "$work/lines" | cmp -s - "examples/$1/labels"
 }
-for example in line phylogeny-once phylogeny twisting pair; do
+for example in line phylogeny-once phylogeny twisting pair mapping-cwl mapping-nextflow; do
     check "the label file of $example is turned into lines and back" keeps_labels "$example"
 done
 
