@@ -27,8 +27,8 @@ labelled_as r u grammar most before text e told run old new none is = record {
 }
 
 -- so a line of events is taken, and leaves the run of one event more
-pub line_taken : (r u : RunSeen) (text made : List ℕ) → u.grammar ≡ r.grammar → u.most ≡ r.most → ((before : List Event) → IsRunOf r before → IsLabelledAs r.grammar.core r.most before text u made) → (s : RunSoFar) → IsRunHeld r s → (q : RunSoFar) × TakesEvent bytes_by s text q made × IsRunHeld u q
-line_taken r u text made grammar most labelled s at =
+pub line_taken : (r u : RunSeen) (number : ℕ) (text made : List ℕ) → u.grammar ≡ r.grammar → u.most ≡ r.most → ((before : List Event) → IsRunOf r before → IsLabelledAs r.grammar.core r.most before text u made) → (s : RunSoFar) → IsRunHeld r s → (q : RunSoFar) × TakesEvent bytes_by s number text q made × IsRunHeld u q
+line_taken r u number text made grammar most labelled s at =
     let l = labelled s.events at.run in (
       with_event s l.event,
       (

@@ -43,12 +43,12 @@ refused_at s number text made WriteFault e h told none = absurd h
 refused_at s number text made NoMemory e h told none = absurd (cc)
 
 -- the text of a line tells an event that the run takes
-pub event_taken : (g : Grammar) (t : Table) (run : IsTableOf g t) → t.most ≡ instance_most → (text : List ℕ) (e : Event) → IsEventText text e → fault_of g instance_most (events_of t) e ≡ None → (es : List Event) → es ≡ events_of t ++ e ∷ [] → (s : RunSoFar) → IsRunSoFar g (events_of t) s → (q : RunSoFar) × TakesEvent no_piece s text q [] × IsRunSoFar g es q
-event_taken g t run most text e told none es is s at =
+pub event_taken : (g : Grammar) (t : Table) (run : IsTableOf g t) → t.most ≡ instance_most → (number : ℕ) (text : List ℕ) (e : Event) → IsEventText text e → fault_of g instance_most (events_of t) e ≡ None → (es : List Event) → es ≡ events_of t ++ e ∷ [] → (s : RunSoFar) → IsRunSoFar g (events_of t) s → (q : RunSoFar) × TakesEvent no_piece s number text q [] × IsRunSoFar g es q
+event_taken g t run most number text e told none es is s at =
     let before : IsAccepted g instance_most (events_of t) = subst (λ m. IsAccepted g m (events_of t)) most run.accepted in
     let acc = (taking_law g instance_most (events_of t) e before).0 none in (
       with_event s e,
-      subst (λ z. TakesEvent no_piece z text (with_event z e) []) (sym at) (e, told, acc, refl, refl),
+      subst (λ z. TakesEvent no_piece z number text (with_event z e) []) (sym at) (e, told, acc, refl, refl),
       ap (λ z. with_event z e) at ∙ ap (λ z. record { grammar = g; limit = instance_most; events = z }) (sym is),
     )
 

@@ -19,8 +19,8 @@ use Rattle.wf_inputs.proofs.OneRunFault.{takes, one_text_fault, text_not_taken}
 -- a line of events is taken or refused in one way
 pub events_one_way : (piece : Grammar → List Event → Event → List ℕ) → IsOneWay IsAnyRun (TakesEvent piece) RefusesAt
 events_one_way piece = record {
-  sound = λ s x q p ok h. tt;
-  taken = λ s x q r p t ok h k.
+  sound = λ s n x q p ok h. tt;
+  taken = λ s n x q r p t ok h k.
       let same = one_event x h.0 k.0 h.1 k.1 in
       (h.3 ∙ (ap (with_event s) same ∙ sym k.3), h.4 ∙ (ap (piece s.grammar s.events) same ∙ sym k.4));
   apart = λ s n x q p e t ok h k. text_not_taken s.grammar s.limit s.events x k.0 h.0 k.1 h.1 (takes s.grammar s.limit s.events h.0 [] h.2);

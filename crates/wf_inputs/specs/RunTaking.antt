@@ -18,8 +18,8 @@ abbrev pub with_event : RunSoFar → Event → RunSoFar
 with_event s e = record { grammar = s.grammar; limit = s.limit; events = s.events ++ e ∷ [] }
 
 -- the text of a line tells an event that the run takes; what is made of it is the piece of this event
-abbrev pub TakesEvent : (Grammar → List Event → Event → List ℕ) → RunSoFar → List ℕ → RunSoFar → List ℕ → Type 0
-TakesEvent piece s text q made = (e : Event) × IsEventText text e × IsAccepted s.grammar s.limit (s.events ++ e ∷ []) × (q ≡ with_event s e) × (made ≡ piece s.grammar s.events e)
+abbrev pub TakesEvent : (Grammar → List Event → Event → List ℕ) → RunSoFar → ℕ → List ℕ → RunSoFar → List ℕ → Type 0
+TakesEvent piece s number text q made = (e : Event) × IsEventText text e × IsAccepted s.grammar s.limit (s.events ++ e ∷ []) × (q ≡ with_event s e) × (made ≡ piece s.grammar s.events e)
 
 -- the text of the line of a number is refused, and nothing is made
 abbrev pub RefusesAt : RunSoFar → ℕ → List ℕ → End → List ℕ → Type 0

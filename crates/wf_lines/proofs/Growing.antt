@@ -10,7 +10,7 @@ GoOnFrom [] ms = Unit {0}
 GoOnFrom (l ∷ ls) [] = ⊥
 GoOnFrom (l ∷ ls) (m ∷ ms) = ((l ≡ m) × GoOnFrom ls ms) ⊎ ((is_too_long l.raw ≡ true) × (is_too_long m.raw ≡ true) × (l.number ≡ m.number))
 
-module _ {S E : Type 0} (ends : LineEnds E) (Takes : S → List ℕ → S → List ℕ → Type 0) (Stops : S → ℕ → List ℕ → E → List ℕ → Type 0) (IsSound : S → Type 0) (one : IsOneWay IsSound Takes Stops) (Closes Other : S → E → List ℕ → Type 0) (longer : Tail) where
+module _ {S E : Type 0} (ends : LineEnds E) (Takes : S → ℕ → List ℕ → S → List ℕ → Type 0) (Stops : S → ℕ → List ℕ → E → List ℕ → Type 0) (IsSound : S → Type 0) (one : IsOneWay IsSound Takes Stops) (Closes Other : S → E → List ℕ → Type 0) (longer : Tail) where
   -- a text begins with no text, and with itself
   begins_none : (t u : List ℕ) → t ≡ [] → (rest : List ℕ) × (u ≡ t ++ rest)
   begins_none t u none = (u, sym (ap (λ x. x ++ u) none))
@@ -40,6 +40,6 @@ module _ {S E : Type 0} (ends : LineEnds E) (Takes : S → List ℕ → S → Li
         absurd (taken_not_stopped ends Takes Stops IsSound one s l p.0 p.1 e u ok p.3 (subst (λ z. StopsLine ends Takes Stops s z e u) (sym on.0) q))
     lines_grow tail (l ∷ ls) (m ∷ ms) s d e t u ok (inl on) (inr p) (inr q) =
         let taken = subst (λ z. TakesLine ends Takes Stops s z q.0 q.1) (sym on.0) q.3 in
-        let same = one.taken s _ p.0 q.0 p.1 q.1 ok p.3.1 taken.1 in
-        let r = lines_grow tail ls ms p.0 d e p.2 q.2 (one.sound s _ p.0 p.1 ok p.3.1) on.1 p.4 (subst (λ z. OfLines ends Takes Stops Other z ms longer e q.2) (sym same.0) q.4) in
+        let same = one.taken s _ _ p.0 q.0 p.1 q.1 ok p.3.1 taken.1 in
+        let r = lines_grow tail ls ms p.0 d e p.2 q.2 (one.sound s _ _ p.0 p.1 ok p.3.1) on.1 p.4 (subst (λ z. OfLines ends Takes Stops Other z ms longer e q.2) (sym same.0) q.4) in
         (r.0, q.5 ∙ (ap (λ x. x ++ q.2) (sym same.1) ∙ (ap (λ x. p.1 ++ x) r.1 ∙ (sym (append_assoc p.1 p.2 r.0) ∙ ap (λ x. x ++ r.0) (sym p.5)))))

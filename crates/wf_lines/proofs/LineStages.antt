@@ -3,7 +3,7 @@ use Rattle.std.proofs.Common.{◌≡◌, ◌⊎◌, ℕ, List, [], ◌∷◌, �
 use Rattle.wf_io.specs.Lines.{Line, Tail, AtEnd, Broken, LongFile}
 use Rattle.wf_lines.specs.LineStages.{LineEnds, TakesLine, StopsLine, AllTaken, OfTail, OfLines, IsOneWay, IsClosedOneWay, ClosesOrGoesOn}
 
-module _ {S E : Type 0} (ends : LineEnds E) (Takes : S → List ℕ → S → List ℕ → Type 0) (Stops : S → ℕ → List ℕ → E → List ℕ → Type 0) where
+module _ {S E : Type 0} (ends : LineEnds E) (Takes : S → ℕ → List ℕ → S → List ℕ → Type 0) (Stops : S → ℕ → List ℕ → E → List ℕ → Type 0) where
   -- where the first lines are taken, those behind them go on from there
   pub lines_on : (Closes : S → E → List ℕ → Type 0) (tail : Tail) (ls more : List Line) (s q : S) (text : List ℕ) → AllTaken ends Takes Stops s ls q text → (e : E) (rest : List ℕ) → OfLines ends Takes Stops Closes q more tail e rest → OfLines ends Takes Stops Closes s (ls ++ more) tail e (text ++ rest)
   lines_on Closes tail [] more s q text h e rest o = subst (λ x. OfLines ends Takes Stops Closes s more tail e (x ++ rest)) (sym h.1) (subst (λ z. OfLines ends Takes Stops Closes z more tail e rest) h.0 o)
@@ -30,15 +30,15 @@ module _ {S E : Type 0} (ends : LineEnds E) (Takes : S → List ℕ → S → Li
     -- lines that are taken leave a sound state
     pub sound_on : (ls : List Line) (s q : S) (text : List ℕ) → IsSound s → AllTaken ends Takes Stops s ls q text → IsSound q
     sound_on [] s q text ok h = subst IsSound (sym h.0) ok
-    sound_on (l ∷ ls) s q text ok h = sound_on ls h.0 q h.2 (one.sound s _ h.0 h.1 ok h.3.1) h.4
+    sound_on (l ∷ ls) s q text ok h = sound_on ls h.0 q h.2 (one.sound s _ _ h.0 h.1 ok h.3.1) h.4
 
     -- where the first lines are taken, what all make begins with their text, and those behind them go on from there
     pub lines_begin : (Closes : S → E → List ℕ → Type 0) (tail : Tail) (ls more : List Line) (s q : S) (text : List ℕ) → IsSound s → AllTaken ends Takes Stops s ls q text → (e : E) (t : List ℕ) → OfLines ends Takes Stops Closes s (ls ++ more) tail e t → (rest : List ℕ) × (t ≡ text ++ rest) × OfLines ends Takes Stops Closes q more tail e rest
     lines_begin Closes tail [] more s q text ok h e t o = (t, sym (ap (λ x. x ++ t) h.1), subst (λ z. OfLines ends Takes Stops Closes z more tail e t) (sym h.0) o)
     lines_begin Closes tail (l ∷ ls) more s q text ok h e t (inl o) = absurd (taken_not_stopped s l h.0 h.1 e t ok h.3 o)
     lines_begin Closes tail (l ∷ ls) more s q text ok h e t (inr o) =
-        let same = one.taken s _ h.0 o.0 h.1 o.1 ok h.3.1 o.3.1 in
-        let r = lines_begin Closes tail ls more h.0 q h.2 (one.sound s _ h.0 h.1 ok h.3.1) h.4 e o.2 (subst (λ z. OfLines ends Takes Stops Closes z (ls ++ more) tail e o.2) (sym same.0) o.4) in
+        let same = one.taken s _ _ h.0 o.0 h.1 o.1 ok h.3.1 o.3.1 in
+        let r = lines_begin Closes tail ls more h.0 q h.2 (one.sound s _ _ h.0 h.1 ok h.3.1) h.4 e o.2 (subst (λ z. OfLines ends Takes Stops Closes z (ls ++ more) tail e o.2) (sym same.0) o.4) in
         (r.0, o.5 ∙ (ap (λ x. x ++ o.2) (sym same.1) ∙ (ap (λ x. h.1 ++ x) r.1 ∙ (sym (append_assoc h.1 h.2 r.0) ∙ ap (λ x. x ++ r.0) (sym h.5)))), r.2)
 
     -- where the first line stops the stage, all make its text
@@ -49,7 +49,7 @@ module _ {S E : Type 0} (ends : LineEnds E) (Takes : S → List ℕ → S → Li
     -- where the first line is taken, all make its text first
     pub taken_here : (Closes : S → E → List ℕ → Type 0) (tail : Tail) (l : Line) (more : List Line) (s q : S) (piece : List ℕ) → IsSound s → TakesLine ends Takes Stops s l q piece → (e : E) (t : List ℕ) → OfLines ends Takes Stops Closes s (l ∷ more) tail e t → (rest : List ℕ) × (t ≡ piece ++ rest)
     taken_here Closes tail l more s q piece ok h e t (inl o) = absurd (taken_not_stopped s l q piece e t ok h o)
-    taken_here Closes tail l more s q piece ok h e t (inr o) = (o.2, o.5 ∙ ap (λ x. x ++ o.2) (sym (one.taken s _ q o.0 piece o.1 ok h.1 o.3.1).1))
+    taken_here Closes tail l more s q piece ok h e t (inr o) = (o.2, o.5 ∙ ap (λ x. x ++ o.2) (sym (one.taken s _ _ q o.0 piece o.1 ok h.1 o.3.1).1))
 
     -- lines end in one way and make one text, where the end of the file does
     pub one_ending : (Closes : S → E → List ℕ → Type 0) → ((s : S) (d e : E) (t u : List ℕ) → IsSound s → Closes s d t → Closes s e u → (d ≡ e) × (t ≡ u)) →
@@ -61,8 +61,8 @@ module _ {S E : Type 0} (ends : LineEnds E) (Takes : S → List ℕ → S → Li
     one_ending Closes closed tail (l ∷ ls) s d e t u ok (inl p) (inr q) = absurd (taken_not_stopped s l q.0 q.1 d t ok q.3 p)
     one_ending Closes closed tail (l ∷ ls) s d e t u ok (inr p) (inl q) = absurd (taken_not_stopped s l p.0 p.1 e u ok p.3 q)
     one_ending Closes closed tail (l ∷ ls) s d e t u ok (inr p) (inr q) =
-        let same = one.taken s _ p.0 q.0 p.1 q.1 ok p.3.1 q.3.1 in
-        let r = one_ending Closes closed tail ls p.0 d e p.2 q.2 (one.sound s _ p.0 p.1 ok p.3.1) p.4 (subst (λ z. OfLines ends Takes Stops Closes z ls tail e q.2) (sym same.0) q.4) in
+        let same = one.taken s _ _ p.0 q.0 p.1 q.1 ok p.3.1 q.3.1 in
+        let r = one_ending Closes closed tail ls p.0 d e p.2 q.2 (one.sound s _ _ p.0 p.1 ok p.3.1) p.4 (subst (λ z. OfLines ends Takes Stops Closes z ls tail e q.2) (sym same.0) q.4) in
         (r.0, p.5 ∙ (ap (λ x. p.1 ++ x) r.1 ∙ (ap (λ x. x ++ q.2) same.1 ∙ sym q.5)))
 
   -- what lines make is what they make where the end of the file is closed in another way that it allows

@@ -2,7 +2,7 @@
 use Rattle.std.proofs.Common.{◌≡◌, ℕ, List, [], ◌∷◌, ◌++◌, ◌+◌, length, take, Option, Some, None, refl, sym, ap, ◌∙◌, subst, inl, inr, ⊎_elim, arith, append_assoc, append-nil, length-append, true≢false}
 use Rattle.std.proofs.lemmas.List.{take_all}
 use Rattle.wf_io.specs.Told.{Appended}
-use Rattle.wf_io.specs.Lines.{Line, FileLines, Tail, AtEnd, Broken, LongFile}
+use Rattle.wf_io.specs.Lines.{Line, FileLines, Tail, AtEnd, Broken, LongFile, text_of}
 use Rattle.wf_io.specs.Readers.{Reader, Lends, Ends}
 use Rattle.wf_io.proofs.Appending.{begun_longer}
 use Rattle.wf_lines.specs.LineStages.{LineEnds, TakesLine, AllTaken, OfLines, IsOneWay, IsClosedOneWay, ClosesOrGoesOn}
@@ -23,7 +23,7 @@ pub all_begun : (text : List ℕ) (a b : Option (List ℕ)) → Appended text a 
 all_begun text a b put = (length text, subst (λ x. Appended x a b) (sym (take_all (length text) text (omega arith))) put)
 
 -- the first lines are taken, from one state to another; of their text a beginning was put, and the rest is due
-pub record IsTakenSoFar {S E : Type 0} (ends : LineEnds E) (Takes : S → List ℕ → S → List ℕ → Type 0) (Stops : S → ℕ → List ℕ → E → List ℕ → Type 0) (IsAt : S → Type 0) (s : S) (all left : FileLines) (rest : List ℕ) (old now : Option (List ℕ)) : Type 0 where
+pub record IsTakenSoFar {S E : Type 0} (ends : LineEnds E) (Takes : S → ℕ → List ℕ → S → List ℕ → Type 0) (Stops : S → ℕ → List ℕ → E → List ℕ → Type 0) (IsAt : S → Type 0) (s : S) (all left : FileLines) (rest : List ℕ) (old now : Option (List ℕ)) : Type 0 where
   pub state : S
   pub lines : List Line
   pub text : List ℕ
@@ -33,7 +33,7 @@ pub record IsTakenSoFar {S E : Type 0} (ends : LineEnds E) (Takes : S → List �
   pub at : IsAt state
   pub due : IsDue text rest old now
 
-module _ {S E : Type 0} (ends : LineEnds E) (Takes : S → List ℕ → S → List ℕ → Type 0) (Stops : S → ℕ → List ℕ → E → List ℕ → Type 0) where
+module _ {S E : Type 0} (ends : LineEnds E) (Takes : S → ℕ → List ℕ → S → List ℕ → Type 0) (Stops : S → ℕ → List ℕ → E → List ℕ → Type 0) where
   -- nothing is taken yet
   pub none_taken : (IsAt : S → Type 0) (s : S) (all : FileLines) (due : List ℕ) (old : Option (List ℕ)) → IsAt s → due ≡ [] → IsTakenSoFar ends Takes Stops IsAt s all all due old old
   none_taken IsAt s all due old at none = record {
@@ -57,9 +57,9 @@ module _ {S E : Type 0} (ends : LineEnds E) (Takes : S → List ℕ → S → Li
     later_due later new is = record { state = far.state; lines = far.lines; text = far.text; split = far.split; tail = far.tail; taken = far.taken; at = far.at; due = due_later far.text due later old now new far.due is }
 
     -- one line more is taken
-    pub one_more : {IsAtNew : S → Type 0} (r : Reader) (next : FileLines) → Lends left r next → (q : S) (piece later : List ℕ) (new : Option (List ℕ)) → Takes far.state r.held q piece → IsAtNew q → IsDue (due ++ piece) later now new → IsTakenSoFar ends Takes Stops IsAtNew s all next later old new
+    pub one_more : {IsAtNew : S → Type 0} (r : Reader) (next : FileLines) → Lends left r next → (q : S) (piece later : List ℕ) (new : Option (List ℕ)) → Takes far.state r.line r.held q piece → IsAtNew q → IsDue (due ++ piece) later now new → IsTakenSoFar ends Takes Stops IsAtNew s all next later old new
     one_more r next lends q piece later new takes at is =
-        let here : AllTaken ends Takes Stops far.state (lends.first ∷ []) q (piece ++ []) = (q, piece, [], (lends.short, subst (λ x. Takes far.state x q piece) lends.text takes), (refl, refl), refl) in
+        let here : AllTaken ends Takes Stops far.state (lends.first ∷ []) q (piece ++ []) = (q, piece, [], (lends.short, subst (λ n. Takes far.state n (text_of lends.first.raw) q piece) lends.number (subst (λ x. Takes far.state r.line x q piece) lends.text takes)), (refl, refl), refl) in
         let text : far.text ++ (piece ++ []) ≡ far.text ++ piece = ap (λ x. far.text ++ x) (append-nil piece) in
         record {
           state = q;

@@ -17,7 +17,7 @@ use Rattle.wf_lines.proofs.SoFar.{IsTakenSoFar, begun_of, all_begun}
 none_some : {A : Type 0} {x : A} → None ≡ Some x → ⊥
 none_some p = absurd (cc)
 
-module _ {S E : Type 0} (ends : LineEnds E) (Takes : S → List ℕ → S → List ℕ → Type 0) (Stops : S → ℕ → List ℕ → E → List ℕ → Type 0) (Finishes : S → List ℕ → Type 0) (StopsAtEnd : S → E → List ℕ → Type 0)
+module _ {S E : Type 0} (ends : LineEnds E) (Takes : S → ℕ → List ℕ → S → List ℕ → Type 0) (Stops : S → ℕ → List ℕ → E → List ℕ → Type 0) (Finishes : S → List ℕ → Type 0) (StopsAtEnd : S → E → List ℕ → Type 0)
     (IsSound : S → Type 0) (one : IsOneWay IsSound Takes Stops) (closed : IsClosedOneWay IsSound Finishes StopsAtEnd) {IsAt : S → Type 0} (s : S) (ok : IsSound s) (all left : FileLines) (due : List ℕ) (old now new : Option (List ℕ))
     (far : IsTakenSoFar ends Takes Stops IsAt s all left due old now) where
   -- what lines make, and stop in
@@ -98,7 +98,7 @@ module _ {S E : Type 0} (ends : LineEnds E) (Takes : S → List ℕ → S → Li
     -- what a line may have made begins what is left
     made_begins : (piece : List ℕ) → IsMade Takes Stops far.state r.line r.held piece → (e : E) (t : List ℕ) → Going far.state left.lines left.tail e t → (more : List ℕ) × (t ≡ piece ++ more)
     made_begins piece (inl taken) e t going =
-        taken_here ends Takes Stops IsSound one (ClosesOrGoesOn Finishes StopsAtEnd) left.tail lends.first next.lines far.state taken.0 piece sound (lends.short, subst (λ x. Takes far.state x taken.0 piece) lends.text taken.1) e t (subst (λ ls. Going far.state ls left.tail e t) lends.left going)
+        taken_here ends Takes Stops IsSound one (ClosesOrGoesOn Finishes StopsAtEnd) left.tail lends.first next.lines far.state taken.0 piece sound (lends.short, subst (λ n. Takes far.state n (text_of lends.first.raw) taken.0 piece) lends.number (subst (λ x. Takes far.state r.line x taken.0 piece) lends.text taken.1)) e t (subst (λ ls. Going far.state ls left.tail e t) lends.left going)
     made_begins piece (inr (inl stopped)) e t going = ([], made_here stopped.0 piece stopped.1 e t going ∙ sym (append-nil piece))
     made_begins piece (inr (inr none)) e t going = (t, sym (ap (λ x. x ++ t) none))
 
@@ -153,7 +153,7 @@ module _ {S E : Type 0} (ends : LineEnds E) (Takes : S → List ℕ → S → Li
         ends_begin (inr (inr none)) e t going = (t, sym (ap (λ x. x ++ t) none))
 
 -- no line is left of a whole file, and its end is taken
-pub end_taken : {S E : Type 0} (ends : LineEnds E) (Takes : S → List ℕ → S → List ℕ → Type 0) (Stops : S → ℕ → List ℕ → E → List ℕ → Type 0) (Finishes : S → List ℕ → Type 0) {IsAt IsAtEnd : S → Type 0} (s : S) (all left : FileLines) (due : List ℕ) (old now new : Option (List ℕ)) (far : IsTakenSoFar ends Takes Stops IsAt s all left due old now) →
+pub end_taken : {S E : Type 0} (ends : LineEnds E) (Takes : S → ℕ → List ℕ → S → List ℕ → Type 0) (Stops : S → ℕ → List ℕ → E → List ℕ → Type 0) (Finishes : S → List ℕ → Type 0) {IsAt IsAtEnd : S → Type 0} (s : S) (all left : FileLines) (due : List ℕ) (old now new : Option (List ℕ)) (far : IsTakenSoFar ends Takes Stops IsAt s all left due old now) →
     Ends left AtEnd → (last : List ℕ) → Finishes far.state last → IsAtEnd far.state → Appended (due ++ last) now new → AreTaken (AllTaken ends Takes Stops s all.lines) Finishes IsAtEnd all.tail old new
 end_taken ends Takes Stops Finishes s all left due old now new far at_end last finished at put = record {
   state = far.state;

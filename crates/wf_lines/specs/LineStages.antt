@@ -8,10 +8,10 @@ pub record LineEnds (E : Type 0) : Type 0 where
   pub long_file : ℕ → E
   pub broken : E
 
-module _ {S E : Type 0} (ends : LineEnds E) (Takes : S → List ℕ → S → List ℕ → Type 0) (Stops : S → ℕ → List ℕ → E → List ℕ → Type 0) where
-  -- a line is taken: its text leaves a state, and makes a text
+module _ {S E : Type 0} (ends : LineEnds E) (Takes : S → ℕ → List ℕ → S → List ℕ → Type 0) (Stops : S → ℕ → List ℕ → E → List ℕ → Type 0) where
+  -- a line is taken: its number and its text leave a state, and make a text
   abbrev pub TakesLine : S → Line → S → List ℕ → Type 0
-  TakesLine s l q piece = (is_too_long l.raw ≡ false) × Takes s (text_of l.raw) q piece
+  TakesLine s l q piece = (is_too_long l.raw ≡ false) × Takes s l.number (text_of l.raw) q piece
 
   -- a line stops the stage: it is too long, or its text stops it
   abbrev pub StopsLine : S → Line → E → List ℕ → Type 0
@@ -39,10 +39,10 @@ module _ {S E : Type 0} (ends : LineEnds E) (Takes : S → List ℕ → S → Li
         ((r : S) × (piece : List ℕ) × (rest : List ℕ) × TakesLine s l r piece × OfLines r ls tail e rest × (text ≡ piece ++ rest))
 
 -- A line is taken in one way, where it is taken it does not stop the stage, and it stops it in one way; and so from each sound state to the next
-pub record IsOneWay {S E : Type 0} (IsSound : S → Type 0) (Takes : S → List ℕ → S → List ℕ → Type 0) (Stops : S → ℕ → List ℕ → E → List ℕ → Type 0) : Type 0 where
-  pub sound : (s : S) (x : List ℕ) (q : S) (p : List ℕ) → IsSound s → Takes s x q p → IsSound q
-  pub taken : (s : S) (x : List ℕ) (q r : S) (p t : List ℕ) → IsSound s → Takes s x q p → Takes s x r t → (q ≡ r) × (p ≡ t)
-  pub apart : (s : S) (n : ℕ) (x : List ℕ) (q : S) (p : List ℕ) (e : E) (t : List ℕ) → IsSound s → Takes s x q p → Stops s n x e t → ⊥
+pub record IsOneWay {S E : Type 0} (IsSound : S → Type 0) (Takes : S → ℕ → List ℕ → S → List ℕ → Type 0) (Stops : S → ℕ → List ℕ → E → List ℕ → Type 0) : Type 0 where
+  pub sound : (s : S) (n : ℕ) (x : List ℕ) (q : S) (p : List ℕ) → IsSound s → Takes s n x q p → IsSound q
+  pub taken : (s : S) (n : ℕ) (x : List ℕ) (q r : S) (p t : List ℕ) → IsSound s → Takes s n x q p → Takes s n x r t → (q ≡ r) × (p ≡ t)
+  pub apart : (s : S) (n : ℕ) (x : List ℕ) (q : S) (p : List ℕ) (e : E) (t : List ℕ) → IsSound s → Takes s n x q p → Stops s n x e t → ⊥
   pub stopped : (s : S) (n : ℕ) (x : List ℕ) (d e : E) (t u : List ℕ) → IsSound s → Stops s n x d t → Stops s n x e u → (d ≡ e) × (t ≡ u)
 
 -- so does the end of a whole file: it makes one text, or stops the stage in one way

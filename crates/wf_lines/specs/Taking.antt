@@ -70,11 +70,11 @@ IsWritingCauseOf before after last (Stopped f) = after ≡ before
 IsWritingCauseOf before after last (Halted h) = (h ≡ WriteFault) × Rose before after last
 
 -- why a text may be put in part: the line that makes it is taken, or stops what takes it, or nothing is made
-abbrev pub IsMade : {S E : Type 0} → (S → List ℕ → S → List ℕ → Type 0) → (S → ℕ → List ℕ → E → List ℕ → Type 0) → S → ℕ → List ℕ → List ℕ → Type 0
-IsMade Takes Stops s n text piece = ((q : _) × Takes s text q piece) ⊎ (((e : _) × Stops s n text e piece) ⊎ (piece ≡ []))
+abbrev pub IsMade : {S E : Type 0} → (S → ℕ → List ℕ → S → List ℕ → Type 0) → (S → ℕ → List ℕ → E → List ℕ → Type 0) → S → ℕ → List ℕ → List ℕ → Type 0
+IsMade Takes Stops s n text piece = ((q : _) × Takes s n text q piece) ⊎ (((e : _) × Stops s n text e piece) ⊎ (piece ≡ []))
 
 -- what a line that was not taken made and put, behind what is due: the text with which it stopped what takes it, nothing where memory is wanting, and a beginning where writing failed
-abbrev pub IsStoppedBy : {S E F : Type 0} → (S → List ℕ → S → List ℕ → Type 0) → (S → ℕ → List ℕ → E → List ℕ → Type 0) → (F → Option E) → S → ℕ → List ℕ → List ℕ → LinesFault F → Option (List ℕ) → Option (List ℕ) → Type 0
+abbrev pub IsStoppedBy : {S E F : Type 0} → (S → ℕ → List ℕ → S → List ℕ → Type 0) → (S → ℕ → List ℕ → E → List ℕ → Type 0) → (F → Option E) → S → ℕ → List ℕ → List ℕ → LinesFault F → Option (List ℕ) → Option (List ℕ) → Type 0
 IsStoppedBy Takes Stops end_of s n text due (Stopped f) old new =
     (piece : List ℕ) × ((e : _) → end_of f ≡ Some e → Stops s n text e piece) × (end_of f ≡ None → piece ≡ []) × Appended (due ++ piece) old new
 IsStoppedBy Takes Stops end_of s n text due (Halted h) old new =

@@ -34,7 +34,7 @@ fn take_line<T: Taker, O: Sink>(
     requires ready { T.is_ready taker.old }
     ensures ready { OnOk result (T.is_ready taker.new) }
     ensures known { (k : T.Known) → T.is_known taker.old k → T.is_known taker.new k }
-    ensures taken { OnOk result ((s : T.State) → T.is_at taker.old s → (q : T.State) × (piece : List ℕ) × T.takes s text.now q piece × T.is_at taker.new q × IsDue (due.old ++ piece) due.new (O.put_bytes out.old) (O.put_bytes out.new)) }
+    ensures taken { OnOk result ((s : T.State) → T.is_at taker.old s → (q : T.State) × (piece : List ℕ) × T.takes s number text.now q piece × T.is_at taker.new q × IsDue (due.old ++ piece) due.new (O.put_bytes out.old) (O.put_bytes out.new)) }
     ensures stopped { IfErr result (λ f. (s : T.State) → T.is_at taker.old s → IsStoppedBy T.takes T.stops T.end_of s number text.now due.old f (O.put_bytes out.old) (O.put_bytes out.new)) }
     ensures fault { IfErr result (IsStoppedAs T.is_fault) }
     ensures memory { IfErr result (λ f. IsWanting T.end_of f → T.wants_memory) }

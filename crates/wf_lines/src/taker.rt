@@ -24,8 +24,8 @@ pub trait Taker {
     /// Whether a line is taken in one way from this state.
     ghost is_sound: { State → Type 0 };
 
-    /// Whether the text of a line leaves this state, and makes this text.
-    ghost takes: { State → List ℕ → State → List ℕ → Type 0 };
+    /// Whether the text of the line of a number leaves this state, and makes this text.
+    ghost takes: { State → ℕ → List ℕ → State → List ℕ → Type 0 };
 
     /// Whether the text of the line of a number stops it in this end, with this text.
     ghost stops: { State → ℕ → List ℕ → End → List ℕ → Type 0 };
@@ -61,7 +61,7 @@ pub trait Taker {
     fn take(&mut self, number: u64, text: &[u8]) -> Result<(), Self::Fault>
         requires { is_ready self.old }
         ensures ready { OnOk result (is_ready self.new) }
-        ensures taken { OnOk result ((s : State) → is_at self.old s → (q : State) × takes s text.now q (made self.new) × is_at self.new q) }
+        ensures taken { OnOk result ((s : State) → is_at self.old s → (q : State) × takes s number text.now q (made self.new) × is_at self.new q) }
         ensures stopped { IfErr result (λ f. (e : End) → end_of f ≡ Some e → (s : State) → is_at self.old s → stops s number text.now e (made self.new)) }
         ensures memory { IfErr result (λ f. end_of f ≡ None → wants_memory × (made self.new ≡ [])) }
         ensures fault { IfErr result is_fault }

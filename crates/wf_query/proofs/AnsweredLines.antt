@@ -18,8 +18,8 @@ module _ {K : Type 0} (Words : K → List ℕ → List ℕ → List ℕ → Type
   -- the text of a line is answered or refused in one way
   pub queries_one_way : IsOneWay (λ k. IsOneWord (Words k)) (TakesQuery Words) StopsQueries
   queries_one_way = record {
-    sound = λ s x q p ok h. subst (λ k. IsOneWord (Words k)) (sym h.0) ok;
-    taken = λ s x q r p t ok h k. (h.0 ∙ sym k.0, one_written (Words s) ok x p t h.1 k.1);
+    sound = λ s n x q p ok h. subst (λ k. IsOneWord (Words k)) (sym h.0) ok;
+    taken = λ s n x q r p t ok h k. (h.0 ∙ sym k.0, one_written (Words s) ok x p t h.1 k.1);
     apart = λ s n x q p e t ok h k. k.0 h.1.first h.1.second h.1.query;
     stopped = λ s n x d e t u ok h k. (h.1 ∙ sym k.1, h.2 ∙ sym k.2);
   }

@@ -23,7 +23,7 @@ query_or_not line = ⊎_elim by_space (λ none. inr (λ first second h. none (st
 
 module _ (Answers : List ℕ → List ℕ → List ℕ → Type 0) (some : (first second : List ℕ) → (word : List ℕ) × Answers first second word) where
   -- the text of a line is answered, or asks nothing
-  query_taken : (k : Unit {0}) (n : ℕ) (text : List ℕ) → ((q : Unit {0}) × (p : List ℕ) × TakesQuery {K = Unit {0}} (λ k. Answers) k text q p) ⊎ ((e : Ended) × (t : List ℕ) × StopsQueries k n text e t)
+  query_taken : (k : Unit {0}) (n : ℕ) (text : List ℕ) → ((q : Unit {0}) × (p : List ℕ) × TakesQuery {K = Unit {0}} (λ k. Answers) k n text q p) ⊎ ((e : Ended) × (t : List ℕ) × StopsQueries k n text e t)
   query_taken k n text = ⊎_elim
       (λ r. let a = some r.0 r.1 in inl (k, a.0 ++ codes "\n", (refl, record { first = r.0; second = r.1; query = r.2; answer = a.0; is = a.1; line = refl })))
       (λ none. inr (WrongAt n, [], (none, refl, refl)))
@@ -32,4 +32,4 @@ module _ (Answers : List ℕ → List ℕ → List ℕ → Type 0) (some : (firs
   -- the lines of a file are answered, to an ending
   pub some_answers : (file : FileLines) → (e : Ended) × (t : List ℕ) × AreAnswered Answers file e t
   some_answers file =
-      some_ending query_ends (TakesQuery {K = Unit {0}} (λ k. Answers)) StopsQueries EndsQueries (λ k. Unit {0}) (λ s x q p ok h. tt) (λ s n x ok. query_taken s n x) (λ s ok. (All, [], (refl, refl))) file.tail file.lines tt tt
+      some_ending query_ends (TakesQuery {K = Unit {0}} (λ k. Answers)) StopsQueries EndsQueries (λ k. Unit {0}) (λ s n x q p ok h. tt) (λ s n x ok. query_taken s n x) (λ s ok. (All, [], (refl, refl))) file.tail file.lines tt tt

@@ -33,8 +33,8 @@ pub record IsAsked (Answers : List ℕ → List ℕ → List ℕ → Type 0) (te
   pub line : written ≡ answer ++ codes "\n"
 
 -- the text of a query is answered by what is known, and what is known stays
-abbrev pub TakesQuery : {K : Type 0} → (K → List ℕ → List ℕ → List ℕ → Type 0) → K → List ℕ → K → List ℕ → Type 0
-TakesQuery Words k text q written = (q ≡ k) × IsAsked (Words k) text written
+abbrev pub TakesQuery : {K : Type 0} → (K → List ℕ → List ℕ → List ℕ → Type 0) → K → ℕ → List ℕ → K → List ℕ → Type 0
+TakesQuery Words k n text q written = (q ≡ k) × IsAsked (Words k) text written
 
 -- the text of the line of a number asks nothing
 abbrev pub StopsQueries : {K : Type 0} → K → ℕ → List ℕ → Ended → List ℕ → Type 0

@@ -9,7 +9,7 @@ use Rattle.wf_lines.proofs.SoFar.{begun_of, all_begun}
 use Rattle.wf_message.specs.Endings.{End, Done}
 use Rattle.wf_stage.specs.Ends.{EndsBehind, IsOfOutcome}
 
-module _ {S : Type 0} (ends : LineEnds End) (Takes : S → List ℕ → S → List ℕ → Type 0) (Stops : S → ℕ → List ℕ → End → List ℕ → Type 0) (Finishes : S → List ℕ → Type 0) (StopsAtEnd : S → End → List ℕ → Type 0) (Closes : S → End → List ℕ → Type 0)
+module _ {S : Type 0} (ends : LineEnds End) (Takes : S → ℕ → List ℕ → S → List ℕ → Type 0) (Stops : S → ℕ → List ℕ → End → List ℕ → Type 0) (Finishes : S → List ℕ → Type 0) (StopsAtEnd : S → End → List ℕ → Type 0) (Closes : S → End → List ℕ → Type 0)
     (first : List ℕ) (Outcome : End → List ℕ → Type 0) (s : S) (file : FileLines)
     (forth : (e : End) (t : List ℕ) → OfLines ends Takes Stops Closes s file.lines file.tail e t → Outcome e (first ++ t))
     (back : (e : End) (t : List ℕ) → Outcome e t → (made : List ℕ) × (t ≡ first ++ made) × OfLines ends Takes Stops Closes s file.lines file.tail e made)

@@ -38,7 +38,7 @@ loop-halt-preserved g c =
           let lends = advanced_lends _ _ _ _ c.in-Ok-true.field-0-test (subst (λ k. Stands (f k) c.loop-halt.lines → Advances c.in-Ok-true.field-0 (left_in (f k) c.loop-halt.lines) c.next_line.new.lines (left_in (f k) c.next_line.new.lines)) i.name (c.in-Ok-true.ensures.lines f (i.files ∙ told)) (i.stands f told st)) in
           let far = later_due g.T.Taker.ends g.T.Taker.takes g.T.Taker.stops s _ _ _ _ _ (i.so_far f told st s at) _ _ c.in-Ok-true.ensures.due in
           let t = c.in_default.ensures.taken far.state far.at in
-          one_more g.T.Taker.ends g.T.Taker.takes g.T.Taker.stops s _ _ _ _ _ far c.next_line.new.lines _ lends t.0 t.1 c.take_line.new.due _ (subst (λ x. g.T.Taker.takes far.state x t.0 t.1) c.held.ensures t.2) t.3 t.4;
+          one_more g.T.Taker.ends g.T.Taker.takes g.T.Taker.stops s _ _ _ _ _ far c.next_line.new.lines _ lends t.0 t.1 c.take_line.new.due _ (subst (λ n. g.T.Taker.takes far.state n c.next_line.new.lines.held t.0 t.1) c.line-number.ensures (subst (λ x. g.T.Taker.takes far.state c.line-number.result x t.0 t.1) c.held.ensures t.2)) t.3 t.4;
       count = λ f told st.
           let lends = advanced_lends _ _ _ _ c.in-Ok-true.field-0-test (subst (λ k. Stands (f k) c.loop-halt.lines → Advances c.in-Ok-true.field-0 (left_in (f k) c.loop-halt.lines) c.next_line.new.lines (left_in (f k) c.next_line.new.lines)) i.name (c.in-Ok-true.ensures.lines f (i.files ∙ told)) (i.stands f told st)) in
           sym (lent_length _ _ _ c.loop-halt.taken lends) ∙ i.count f told st;

@@ -11,7 +11,7 @@ pub returns-in-Ok-clause-taken : goal.returns-in-Ok-clause-taken
 returns-in-Ok-clause-taken c = λ s at.
     let r = c.args.self.now in
     let ok = c.in-Ok.ensures.ok in
-    event_taken r.grammar.now.core r.run c.requires.0 c.requires.1 c.args.text.now ok.0 ok.1 ok.2 _ ok.3 s at
+    event_taken r.grammar.now.core r.run c.requires.0 c.requires.1 c.args.number c.args.text.now ok.0 ok.1 ok.2 _ ok.3 s at
 
 pub returns-in-Err-clause-stopped : goal.returns-in-Err-clause-stopped
 returns-in-Err-clause-stopped c = λ e told s at.
