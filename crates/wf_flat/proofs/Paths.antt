@@ -1,52 +1,50 @@
 -- Paths between the ports of a flat graph, by number and by name.
-use Rattle.std.proofs.Common.{◌≡◌, ℕ, ◌<◌, ◌⊎◌, ◌↔◌, List, [], length, get_or, Vec, refl, sym, ap, subst, ◌∙◌, inl, inr, ⊎_elim}
-use Rattle.std.specs.declared.alloc.Global.{Global}
-use Rattle.wf_model.specs.Lists.{IsIn, IsAt, AllDiffer, here, onward}
+use Rattle.std.proofs.Common.{◌≡◌, ℕ, ◌<◌, ◌⊎◌, ◌↔◌, List, [], length, get_or, refl, sym, ap, subst, ◌∙◌, inl, inr, ⊎_elim}
+use Rattle.wf_model.specs.Lists.{IsIn, IsAt, AllDiffer, Walk, here, onward}
 use Rattle.wf_model.specs.Links.{Port, Link, IsLinked, Path}
-use Rattle.wf_model.proofs.Lists.{in_map, in_map_from, at_in, at_is, at_below, is_at, differ_at}
+use Rattle.wf_model.proofs.Lists.{in_map, in_map_from, is_at, differ_at}
 use Rattle.wf_model.proofs.Walks.{walk_through, walk_one}
-use Rattle.wf_graph.specs.Graph.{HasEdge, IsReached, InRange}
 use Rattle.wf_flat.specs.declared.graph.Port.{Port as PortHeld}
 use Rattle.wf_flat.specs.declared.graph.Link.{Link as LinkHeld}
 use Rattle.wf_flat.specs.Graph.{named_port, named_link, named_links}
-use Rattle.wf_flat.specs.Flat.{AreWithin, IsIndex, numbered_port, numbered_link, numbered_links}
+use Rattle.wf_flat.specs.declared.index.Arc.{Arc}
+use Rattle.wf_flat.specs.Index.{number_of, IsNumbered, HasArc, IsIndex}
+use Rattle.wf_flat.specs.Flat.{AreWithin, numbered_port, numbered_link, numbered_links}
+use Rattle.wf_flat.proofs.Numbers.{number_same}
 
 numbered_same : (x y : PortHeld) → numbered_port x ≡ numbered_port y → x ≡ y
 numbered_same x y e = (λ t. record { instance = (e t).owner; side = (e t).side; port = record { 0 = (e t).number } })
-
-pub in_range : (ls : List LinkHeld) (ports : List PortHeld) (graph : List (Vec ℕ Global)) → IsIndex ls ports graph → InRange graph
-in_range ls ports graph i a b h = let r = i.links a b h in subst (λ n. b < n) (sym i.one_each) (at_below r.0.to b ports r.3)
 
 -- what a link of numbered ports is
 link_from : (p q : Port ℕ) (ls : List LinkHeld) → IsLinked (numbered_links ls) p q → (l : LinkHeld) × IsIn l ls × (p ≡ numbered_port l.from) × (q ≡ numbered_port l.to)
 link_from p q ls h = let r = in_map_from numbered_link (record { from = p; to = q }) ls h in (r.0, r.1, ap (λ (l : Link ℕ). l.from) r.2, ap (λ (l : Link ℕ). l.to) r.2)
 
-module _ (ls : List LinkHeld) (ports : List PortHeld) (graph : List (Vec ℕ Global)) (index : IsIndex ls ports graph) where
-  forth : {a b : ℕ} → IsReached graph a b → (x y : PortHeld) → IsAt x a ports → IsAt y b ports → Path (numbered_links ls) (numbered_port x) (numbered_port y)
-  forth {a} here x y p q = subst (λ z. Path (numbered_links ls) (numbered_port x) (numbered_port z)) (sym (at_is x a ports x p) ∙ at_is y a ports x q) here
-  forth (onward {x = a} {y = c} e w) x y p q =
-      let r = index.links a c e in
-      let d : x ≡ r.0.from = sym (at_is x a ports x p) ∙ at_is r.0.from a ports x r.2 in
-      onward (subst (λ z. IsLinked (numbered_links ls) (numbered_port z) (numbered_port r.0.to)) (sym d) (in_map numbered_link r.0 ls r.1)) (forth w r.0.to y r.3 q)
+module _ (ls : List LinkHeld) (begins lasts : List ℕ) (arcs : List Arc) (index : IsIndex ls begins lasts arcs) where
+  same_port : (x y : PortHeld) → IsNumbered begins x → IsNumbered begins y → number_of begins x ≡ number_of begins y → x ≡ y
+  same_port = number_same begins index.rising
 
-  back : {p q : Port ℕ} → Path (numbered_links ls) p q → (x y : PortHeld) (a b : ℕ) → p ≡ numbered_port x → q ≡ numbered_port y → IsAt x a ports → IsAt y b ports → IsReached graph a b
-  back here x y a b d e f h =
-      let s : x ≡ y = numbered_same x y (sym d ∙ e) in
-      subst (IsReached graph a) (differ_at y a b ports index.differ (subst (λ z. IsAt z a ports) s f) h) here
-  back (onward {x = p} {y = r} l w) x y a b d e f h =
+  forth : {a b : ℕ} → Walk (HasArc lasts arcs) a b → (x y : PortHeld) → IsNumbered begins x → IsNumbered begins y → number_of begins x ≡ a → number_of begins y ≡ b → Path (numbered_links ls) (numbered_port x) (numbered_port y)
+  forth here x y p q d e = subst (λ z. Path (numbered_links ls) (numbered_port x) (numbered_port z)) (same_port x y p q (d ∙ sym e)) here
+  forth (onward {x = a} {y = c} r w) x y p q d e =
+      let l = index.links a c r in
+      let n = index.numbered l.0 l.1 in
+      let s : x ≡ l.0.from = same_port x l.0.from p n.0 (d ∙ sym l.2) in
+      onward (subst (λ z. IsLinked (numbered_links ls) (numbered_port z) (numbered_port l.0.to)) (sym s) (in_map numbered_link l.0 ls l.1)) (forth w l.0.to y n.1 q l.3 e)
+
+  back : {p q : Port ℕ} → Path (numbered_links ls) p q → (x y : PortHeld) → p ≡ numbered_port x → q ≡ numbered_port y → Walk (HasArc lasts arcs) (number_of begins x) (number_of begins y)
+  back here x y d e = let s : x ≡ y = numbered_same x y (sym d ∙ e) in subst (λ z. Walk (HasArc lasts arcs) (number_of begins x) (number_of begins z)) s here
+  back (onward {x = p} {y = r} l w) x y d e =
       let k = link_from p r ls l in
-      let n = index.linked k.0 k.1 in
       let s : x ≡ k.0.from = numbered_same x k.0.from (sym d ∙ k.2) in
-      let z : a ≡ n.0 = differ_at k.0.from a n.0 ports index.differ (subst (λ z. IsAt z a ports) s f) n.2 in
-      onward (subst (λ v. HasEdge graph v n.1) (sym z) n.4) (back w k.0.to y n.1 b k.3 e n.3 h)
+      onward (subst (λ z. HasArc lasts arcs (number_of begins z) (number_of begins k.0.to)) (sym s) (index.linked k.0 k.1)) (back w k.0.to y k.3 e)
 
   -- between ports that have numbers
-  pub by_numbers : (x y : PortHeld) (a b : ℕ) → IsAt x a ports → IsAt y b ports → IsReached graph a b ↔ Path (numbered_links ls) (numbered_port x) (numbered_port y)
-  by_numbers x y a b f h = (λ w. forth w x y f h, λ w. back w x y a b refl refl f h)
+  pub by_numbers : (x y : PortHeld) → IsNumbered begins x → IsNumbered begins y → Walk (HasArc lasts arcs) (number_of begins x) (number_of begins y) ↔ Path (numbered_links ls) (numbered_port x) (numbered_port y)
+  by_numbers x y p q = (λ w. forth w x y p q refl refl, λ w. back w x y refl refl)
 
-  begins : {p q : Port ℕ} → Path (numbered_links ls) p q → (p ≡ q) ⊎ ((l : LinkHeld) × IsIn l ls × (p ≡ numbered_port l.from))
-  begins here = inl refl
-  begins (onward {x = p} {y = r} l w) = let k = link_from p r ls l in inr (k.0, k.1, k.2)
+  leaves : {p q : Port ℕ} → Path (numbered_links ls) p q → (p ≡ q) ⊎ ((l : LinkHeld) × IsIn l ls × (p ≡ numbered_port l.from))
+  leaves here = inl refl
+  leaves (onward {x = p} {y = r} l w) = let k = link_from p r ls l in inr (k.0, k.1, k.2)
 
   ends : {p q : Port ℕ} → Path (numbered_links ls) p q → (p ≡ q) ⊎ ((l : LinkHeld) × IsIn l ls × (q ≡ numbered_port l.to))
   ends here = inl refl
@@ -55,13 +53,13 @@ module _ (ls : List LinkHeld) (ports : List PortHeld) (graph : List (Vec ℕ Glo
       ⊎_elim (λ (e : ◌≡◌ {A = Port ℕ} r _). inr (k.0, k.1, sym e ∙ k.3)) (λ o. inr o) (ends w)
 
   -- a port with no number has only the path of itself
-  pub none_from : (x y : PortHeld) → (x ≡ y → ⊥) → (IsIn x ports → ⊥) → Path (numbered_links ls) (numbered_port x) (numbered_port y) → ⊥
+  pub none_from : (x y : PortHeld) → (x ≡ y → ⊥) → (IsNumbered begins x → ⊥) → Path (numbered_links ls) (numbered_port x) (numbered_port y) → ⊥
   none_from x y d h w =
-      ⊎_elim (λ e. d (numbered_same x y e)) (λ (o : (l : LinkHeld) × IsIn l ls × (numbered_port x ≡ numbered_port l.from)). let r = index.linked o.0 o.1 in h (subst (λ z. IsIn z ports) (sym (numbered_same x o.0.from o.2)) (at_in o.0.from r.0 ports r.2))) (begins w)
+      ⊎_elim (λ e. d (numbered_same x y e)) (λ (o : (l : LinkHeld) × IsIn l ls × (numbered_port x ≡ numbered_port l.from)). h (subst (IsNumbered begins) (sym (numbered_same x o.0.from o.2)) (index.numbered o.0 o.1).0)) (leaves w)
 
-  pub none_to : (x y : PortHeld) → (x ≡ y → ⊥) → (IsIn y ports → ⊥) → Path (numbered_links ls) (numbered_port x) (numbered_port y) → ⊥
+  pub none_to : (x y : PortHeld) → (x ≡ y → ⊥) → (IsNumbered begins y → ⊥) → Path (numbered_links ls) (numbered_port x) (numbered_port y) → ⊥
   none_to x y d h w =
-      ⊎_elim (λ e. d (numbered_same x y e)) (λ (o : (l : LinkHeld) × IsIn l ls × (numbered_port y ≡ numbered_port l.to)). let r = index.linked o.0 o.1 in h (subst (λ z. IsIn z ports) (sym (numbered_same y o.0.to o.2)) (at_in o.0.to r.1 ports r.3))) (ends w)
+      ⊎_elim (λ e. d (numbered_same x y e)) (λ (o : (l : LinkHeld) × IsIn l ls × (numbered_port y ≡ numbered_port l.to)). h (subst (IsNumbered begins) (sym (numbered_same y o.0.to o.2)) (index.numbered o.0 o.1).1)) (ends w)
 
 module _ (names : List (List ℕ)) (ls : List LinkHeld) (differ : AllDiffer names) (within : AreWithin (length names) ls) where
   abbrev rename : Port ℕ → Port (List ℕ)

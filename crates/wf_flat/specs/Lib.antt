@@ -1,5 +1,7 @@
 pub mod Table
 pub mod Graph
+pub mod Index
+pub mod Search
 pub mod Flat
 pub mod Item
 pub mod Shown

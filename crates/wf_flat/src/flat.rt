@@ -1,116 +1,52 @@
 // The flat graph of a run.
-ghost use Rattle.std.specs.Prelude.{◌≡◌, ◌<◌, ◌≤◌, ◌^◌, ◌↔◌, ◌⊎◌, List, [], ℕ, false, length, get_or, IfOk, OnOk, IsTrue};
-ghost use Rattle.wf_model.specs.Lists.{IsAt, AllDiffer};
+ghost use Rattle.std.specs.Prelude.{◌≡◌, ◌<◌, ◌≤◌, ◌↔◌, List, [], ℕ, false, length, get_or, IfOk, IsTrue};
+ghost use Rattle.wf_model.specs.Lists.{AllDiffer};
 ghost use Rattle.wf_model.specs.View.{View};
 ghost use Rattle.wf_model.specs.Run.{opens, seen_in};
 ghost use Rattle.wf_model.specs.Links.{Path, links_with};
 ghost use Rattle.wf_model.specs.Meaning.{pairs_of};
 ghost use Rattle.wf_flat.specs.Table.{IsTableOf, events_of, names_in};
 ghost use Rattle.wf_flat.specs.Graph.{named_links, named_port, Marks, IsMadeFor};
-ghost use Rattle.wf_graph.specs.Graph.{HasEdge, InRange};
-ghost use Rattle.wf_flat.specs.Flat.{AreWithin, numbered_port, numbered_links, IsIndex, KeepsIndex, KeepsPlaces, AddsLink, TellsPath, is_item_shown};
+ghost use Rattle.wf_flat.specs.Index.{HasArc, AreChained};
+ghost use Rattle.wf_flat.specs.Search.{IsSearch};
+ghost use Rattle.wf_flat.specs.Flat.{AreWithin, numbered_port, numbered_links, TellsPath, is_item_shown};
 
-use crate::graph::{Link, Port};
+use crate::graph::Port;
+use crate::index::{Arc, Index, index_of, number};
 use crate::item::Item;
 use crate::run_view::RunView;
+use crate::search::{Search, no_search, reaches};
 use crate::table::PlainRun;
-use indexmap::IndexSet;
 use std::alloc::{AllocError, Global};
 use std::marker::Model;
-use wf_graph::reaches;
 use wf_spec::{Deps, Grammar};
-
-/// The number of a port, which is added where it has none.
-fn number(
-    alloc: Global,
-    ports: &mut IndexSet<Port>,
-    graph: &mut Vec<Vec<u32>>,
-    port: Port,
-) -> Result<u32, AllocError>
-    requires { length graph.old.items ≡ length ports.old.keys }
-    ensures one_each { OnOk result (length graph.new.items ≡ length ports.new.keys) }
-    ensures index { OnOk result (KeepsIndex ports.old.keys graph.old.items ports.new.keys graph.new.items) }
-    ensures there { IfOk result (λ k. IsAt port k ports.new.keys) }
-    ensures kept { OnOk result (KeepsPlaces ports.old.keys ports.new.keys) }
-{
-    let (index, is_new) = ports.insert_full(port)?;
-    let Ok(number) = u32::try_from(index) else {
-        return Err(AllocError);
-    };
-    if !is_new {
-        return Ok(number);
-    }
-    graph.push(Vec::new(alloc))?;
-    Ok(number)
-}
-
-/// Adds an edge to a graph.
-fn join(graph: &mut Vec<Vec<u32>>, a: u32, b: u32) -> Result<(), AllocError>
-    requires { a < length graph.old.items }
-    ensures count { OnOk result (length graph.new.items ≡ length graph.old.items) }
-    ensures edges { OnOk result ((x y : ℕ) → HasEdge graph.new.items x y ↔ (HasEdge graph.old.items x y ⊎ ((x ≡ a) × (y ≡ b)))) }
-{
-    graph[a as usize].push(b)?;
-    Ok(())
-}
-
-/// Adds a link to an index.
-fn add_link(
-    alloc: Global,
-    ports: &mut IndexSet<Port>,
-    graph: &mut Vec<Vec<u32>>,
-    link: Link,
-) -> Result<(), AllocError>
-    requires { length graph.old.items ≡ length ports.old.keys }
-    ensures one_each { OnOk result (length graph.new.items ≡ length ports.new.keys) }
-    ensures index { OnOk result (AddsLink link ports.old.keys graph.old.items ports.new.keys graph.new.items) }
-{
-    let from = number(alloc, ports, graph, link.from)?;
-    let to = number(alloc, ports, graph, link.to)?;
-    join(graph, from, to)?;
-    Ok(())
-}
-
-/// Adds links to an empty index.
-fn add_links(
-    alloc: Global,
-    ports: &mut IndexSet<Port>,
-    graph: &mut Vec<Vec<u32>>,
-    links: &[Link],
-) -> Result<(), AllocError>
-    requires no_ports { ports.old.keys ≡ [] }
-    requires no_edges { graph.old.items ≡ [] }
-    ensures { OnOk result (IsIndex links.now ports.new.keys graph.new.items) }
-{
-    for link in links {
-        add_link(alloc, ports, graph, *link)?;
-    }
-    Ok(())
-}
 
 /// Whether a path leads from a port to a port in the links of an index.
 fn is_joined(
-    alloc: Global,
-    ports: &IndexSet<Port>,
-    graph: &[Vec<u32>],
+    begins: &[u32],
+    lasts: &[u32],
+    arcs: &[Arc],
+    search: &mut Search,
     from: Port,
     to: Port,
 ) -> Result<bool, AllocError>
-    requires one_each { length graph.now ≡ length ports.now.keys }
-    requires few { length ports.now.keys ≤ 2 ^ 32 }
-    requires in_range { InRange graph.now }
-    ensures { IfOk result (TellsPath ports.now.keys graph.now from to) }
+    requires chained { AreChained lasts.now arcs.now }
+    requires in_range { (a b : ℕ) → HasArc lasts.now arcs.now a b → b < length lasts.now }
+    requires below { (k : ℕ) → get_or begins.now k 0 ≤ length lasts.now }
+    requires search { IsSearch (HasArc lasts.now arcs.now) (length lasts.now) search.old.marks.items search.old.queue.items search.old.done }
+    ensures search { IsSearch (HasArc lasts.now arcs.now) (length lasts.now) search.new.marks.items search.new.queue.items search.new.done }
+    ensures tells { IfOk result (TellsPath begins.now lasts.now arcs.now from to) }
 {
     if from == to {
         return Ok(true);
     }
-    let Some(a) = ports.get_index_of(&from) else {
+    let Some(a) = number(begins, from) else {
         return Ok(false);
     };
-    let Some(b) = ports.get_index_of(&to) else {
+    let Some(b) = number(begins, to) else {
         return Ok(false);
     };
-    let is_reached = reaches(alloc, graph, a as u32, b as u32)?;
+    let is_reached = reaches(lasts, arcs, search, a, b)?;
     Ok(is_reached)
 }
 
@@ -118,24 +54,24 @@ fn is_joined(
 #[derive(Drop)]
 pub struct Flat {
     shown: RunView,
-    ports: IndexSet<Port>,
-    graph: Vec<Vec<u32>>,
+    index: Index,
 }
 
 impl Model for Flat {
-    ghost use Rattle.wf_flat.specs.Flat.{FlatSeen, IsIndex};
+    ghost use Rattle.wf_flat.specs.Flat.{FlatSeen};
+    ghost use Rattle.wf_flat.specs.Index.{IsIndex};
 
     ghost Value = { FlatSeen };
 
     ghost view = { λ f. record { links = f.shown.links; opens = f.shown.opens } };
 
-    ghost invariant = { λ f. IsIndex f.shown.links f.ports.keys f.graph.items };
+    ghost invariant = { λ f. IsIndex f.shown.links f.index.begins.items f.index.lasts.items f.index.arcs.items };
 }
 
 impl Flat {
     /// The flat graph of a run. An instance is open where it is seen, expanded in the run and of a marked module: it has the edges, entries and exits of its production. A seen instance that is not open has the pairs of `leaf`, and none where `leaf` has no rows for its module.
     ///
-    /// Cost: linear in the run and its links, each port found by hashing. Fails only for want of memory; more than 2^32 ports count as such.
+    /// Cost: linear in the run and its links. Beside the links it holds 8 bytes for each instance and each link, and 4 for each port. Fails only for want of memory; 2^32 ports or links count as such.
     pub fn of(
         alloc: Global,
         g: &Grammar,
@@ -151,14 +87,8 @@ impl Flat {
             get_or f.opens k false ≡ opens u (seen_in g.now.core u g.now.core.start (events_of run.now)) (get_or (names_in run.now.instances) k [])) }
     {
         let shown = RunView::of(alloc, g, run, expanded, leaf)?;
-        let mut ports = IndexSet::new(alloc);
-        let mut graph = Vec::new(alloc);
-        add_links(alloc, &mut ports, &mut graph, shown.links())?;
-        Ok(Flat {
-            shown,
-            ports,
-            graph,
-        })
+        let index = index_of(alloc, run.instances().len(), shown.links())?;
+        Ok(Flat { shown, index })
     }
 
     /// Whether an item of the run is visible: a port of the root, or made by an open instance.
@@ -181,7 +111,15 @@ impl Flat {
         ensures by_name { IfOk result (λ b. (names : List (List ℕ)) → AllDiffer names → AreWithin (length names) self.now.links → from.instance < length names → to.instance < length names →
             IsTrue b ↔ Path (named_links names self.now.links) (named_port names from) (named_port names to)) }
     {
-        let joined = is_joined(alloc, &self.ports, &self.graph, from, to)?;
+        let mut search = no_search(alloc, self.index.lasts.len())?;
+        let joined = is_joined(
+            &self.index.begins,
+            &self.index.lasts,
+            &self.index.arcs,
+            &mut search,
+            from,
+            to,
+        )?;
         Ok(joined)
     }
 }

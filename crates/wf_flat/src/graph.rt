@@ -15,7 +15,7 @@ use std::alloc::{AllocError, Global};
 use wf_spec::{Deps, Edge, Grammar, Inner, ModNo, PortNo, Production, Side};
 
 /// A port of an instance.
-#[derive(Clone, Copy, Debug, PartialEq, Eq, Hash, Drop)]
+#[derive(Clone, Copy, Debug, PartialEq, Eq, Drop)]
 pub struct Port {
     pub instance: u32,
     pub side: Side,

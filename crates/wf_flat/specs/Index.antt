@@ -1,0 +1,77 @@
+-- The ports of a flat graph by number, and the links that leave each.
+use Rattle.std.specs.Prelude.{◌≡◌, ◌<◌, ◌≤◌, ◌+◌, ◌*◌, ◌++◌, ◌∷◌, [], ℕ, suc, List, length, get_or}
+use Rattle.wf_model.specs.Lists.{IsIn}
+use Rattle.wf_model.specs.declared.numbers.Side.{Side}
+use Rattle.wf_model.specs.declared.numbers.Side.TheVariants.{Input, Output}
+use Rattle.wf_flat.specs.declared.graph.Port.{Port}
+use Rattle.wf_flat.specs.declared.graph.Link.{Link}
+use Rattle.wf_flat.specs.declared.index.Arc.{Arc}
+
+-- inputs come before outputs
+abbrev pub place_of : Side → ℕ
+place_of Input = 0
+place_of Output = 1
+
+-- the side of an instance that a port is on: the inputs of instance k are side 2 k, its outputs side 2 k + 1
+abbrev pub side_of : Port → ℕ
+side_of x = 2 * x.instance + place_of x.side
+
+-- the side has so many ports that the port is one of them
+abbrev pub IsWide : List ℕ → Port → Type 0
+IsWide widths x = x.port.0 < get_or widths (side_of x) 0
+
+-- each port of the links is one of its side
+abbrev pub AreWide : List ℕ → List Link → Type 0
+AreWide widths ls = (l : Link) → IsIn l ls → IsWide widths l.from × IsWide widths l.to
+
+-- the number of a port, where the first port of each side has these numbers
+abbrev pub number_of : List ℕ → Port → ℕ
+number_of begins x = get_or begins (side_of x) 0 + x.port.0
+
+-- a port has a number where this is below that of the next side's first port
+abbrev pub IsNumbered : List ℕ → Port → Type 0
+IsNumbered begins x = number_of begins x < get_or begins (side_of x + 1) 0
+
+-- each port of the links has a number
+abbrev pub AreNumbered : List ℕ → List Link → Type 0
+AreNumbered begins ls = (l : Link) → IsIn l ls → IsNumbered begins l.from × IsNumbered begins l.to
+
+-- the sides follow each other
+abbrev pub IsRising : List ℕ → Type 0
+IsRising begins = (i j : ℕ) → i ≤ j → j < length begins → get_or begins i 0 ≤ get_or begins j 0
+
+-- the first port of each of n sides has the number that follows those of the sides before, which are so wide
+pub record AreSums (widths begins : List ℕ) (n : ℕ) : Type 0 where
+  pub count : length begins ≡ n + 1
+  pub step : (k : ℕ) → k < n → get_or begins (k + 1) 0 ≡ get_or begins k 0 + get_or widths k 0
+
+-- a link that leads nowhere
+abbrev pub no_arc : Arc
+no_arc = record { to = 0; before = 0 }
+
+-- from a link, by its number and one, back along those that leave the same port, one leads to q
+pub data IsMet (arcs : List Arc) (q : ℕ) : ℕ → Type 0 where
+  at_once : {at k : ℕ} → at ≡ suc k → (get_or arcs k no_arc).to ≡ q → IsMet arcs q at
+  before : {at k : ℕ} → at ≡ suc k → IsMet arcs q (get_or arcs k no_arc).before → IsMet arcs q at
+
+-- among the links that leave port p, from the last one back, one leads to port q
+abbrev pub HasArc : List ℕ → List Arc → ℕ → ℕ → Type 0
+HasArc lasts arcs p q = IsMet arcs q (get_or lasts p 0)
+
+-- the links that are named are there, and each names one before it
+pub record AreChained (lasts : List ℕ) (arcs : List Arc) : Type 0 where
+  pub there : (p : ℕ) → get_or lasts p 0 ≤ length arcs
+  pub back : (k : ℕ) → (get_or arcs k no_arc).before ≤ k
+
+-- The ports that links name are numbered, side by side. Among the links that leave the port of a number one leads to the port of another exactly where a link leads between the ports of these numbers
+pub record IsIndex (ls : List Link) (begins lasts : List ℕ) (arcs : List Arc) : Type 0 where
+  pub rising : IsRising begins
+  pub numbered : AreNumbered begins ls
+  pub below : (k : ℕ) → get_or begins k 0 ≤ length lasts
+  pub chained : AreChained lasts arcs
+  pub linked : (l : Link) → IsIn l ls → HasArc lasts arcs (number_of begins l.from) (number_of begins l.to)
+  pub links : (a b : ℕ) → HasArc lasts arcs a b → (l : Link) × IsIn l ls × (number_of begins l.from ≡ a) × (number_of begins l.to ≡ b)
+
+-- what was an index of links is one of these links and one more
+abbrev pub AddsLink : Link → List ℕ → List ℕ → List Arc → List ℕ → List Arc → Type 0
+AddsLink l begins lasts arcs lasts' arcs' = (ls : List Link) → IsIndex ls begins lasts arcs → IsIndex (ls ++ l ∷ []) begins lasts' arcs'
