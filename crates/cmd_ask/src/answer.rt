@@ -13,12 +13,13 @@ use wf_flat::{Item, find_item};
 use wf_query::{Answer, Answerer, Query};
 
 /// Whether a path leads from where the first item is consumed to where the second is produced. Fails only for want of memory.
-fn path_answer(p: &Prepared<'_>, first: Item, second: Item) -> Result<Answer, AllocError>
-    requires first { IsItemWithin (length p.now.run.instances) first }
-    requires second { IsItemWithin (length p.now.run.instances) second }
-    ensures { IfOk result (TellsPath (named_links (names_in p.now.run.instances) p.now.flat.links)
-        (option_map (named_port (names_in p.now.run.instances)) first.to)
-        (option_map (named_port (names_in p.now.run.instances)) second.from)) }
+fn path_answer(p: &mut Prepared<'_>, first: Item, second: Item) -> Result<Answer, AllocError>
+    requires first { IsItemWithin (length p.old.run.instances) first }
+    requires second { IsItemWithin (length p.old.run.instances) second }
+    ensures unchanged { p.new ≡ p.old }
+    ensures path { IfOk result (TellsPath (named_links (names_in p.old.run.instances) p.old.flat.links)
+        (option_map (named_port (names_in p.old.run.instances)) first.to)
+        (option_map (named_port (names_in p.old.run.instances)) second.from)) }
 {
     let Some(from) = first.to else {
         return Ok(Answer::No);
@@ -26,7 +27,7 @@ fn path_answer(p: &Prepared<'_>, first: Item, second: Item) -> Result<Answer, Al
     let Some(to) = second.from else {
         return Ok(Answer::No);
     };
-    let joined = p.flat.joined(p.alloc, from, to)?;
+    let joined = p.flat.joined(from, to)?;
     if joined {
         return Ok(Answer::Yes);
     }
@@ -35,9 +36,10 @@ fn path_answer(p: &Prepared<'_>, first: Item, second: Item) -> Result<Answer, Al
 
 /// The answer to a query, whether the second item depends on the first: unknown where either name is that of no item; hidden where either item is not visible under the view; and otherwise yes or no, which hold however the run is finished.
 ///
-/// Cost: two items found by hashing, and one search in the links of the run. Fails only for want of memory.
-fn answer(p: &Prepared<'_>, query: &Query<'_>) -> Result<Answer, AllocError>
-    ensures { IfOk result (λ a. IsToldBy p.now query.now.first.now query.now.second.now (answer_text a)) }
+/// Cost: two items found by hashing, and one search in the links of the run, or what is left of it where the query before has the same first item. Fails only for want of memory.
+fn answer(p: &mut Prepared<'_>, query: &Query<'_>) -> Result<Answer, AllocError>
+    ensures unchanged { p.new ≡ p.old }
+    ensures told { IfOk result (λ a. IsToldBy p.old query.now.first.now query.now.second.now (answer_text a)) }
 {
     let g = p.viewed.grammar();
     let Some(a) = find_item(g, p.run, query.first) else {

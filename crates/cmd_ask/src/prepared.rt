@@ -1,5 +1,4 @@
 // What queries on a run are answered from.
-use std::alloc::Global;
 use std::marker::Model;
 use wf_flat::{Flat, PlainRun};
 use wf_inputs::Viewed;
@@ -7,7 +6,6 @@ use wf_inputs::Viewed;
 /// A run of a grammar, and its links under a safe view.
 #[derive(Drop)]
 pub struct Prepared<'p> {
-    pub(crate) alloc: Global,
     pub(crate) viewed: &'p Viewed,
     pub(crate) run: &'p PlainRun,
     pub(crate) flat: Flat,

@@ -33,7 +33,6 @@ fn prepare<'p>(alloc: Global, v: &'p Viewed, run: &'p PlainRun) -> Result<Prepar
 {
     let flat = Flat::of(alloc, v.grammar(), run, v.view().marks(), v.full().deps())?;
     Ok(Prepared {
-        alloc,
         viewed: v,
         run,
         flat,

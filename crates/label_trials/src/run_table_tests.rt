@@ -184,14 +184,14 @@ const ITEMS: [(&str, Option<Item>); 10] = [
     ("r.a.", None),
 ];
 
-/// Each line: a view, whether it shows the item of the edge, and whether it joins the root's input to its output, the ends of the edge, and the root's output to its input.
-const VIEWS: [(&str, bool, [bool; 3]); 3] = [
-    ("{}", true, [true, true, false]),
-    (r#"{"expand":[]}"#, false, [true, false, false]),
+/// Each line: a view, whether it shows the item of the edge, and whether it joins the root's input to the input of the Q and to the root's output, the ends of the edge, the root's output to its input, and once more the root's input to its output.
+const VIEWS: [(&str, bool, [bool; 5]); 3] = [
+    ("{}", true, [true, true, true, false, true]),
+    (r#"{"expand":[]}"#, false, [false, true, false, false, true]),
     (
         r#"{"expand":[],"deps":[{"module":"S","pairs":[]}]}"#,
         false,
-        [false, false, false],
+        [false, false, false, false, false],
     ),
 ];
 
@@ -266,12 +266,14 @@ fn items_are_found_by_name(rt: HostRuntime) -> Result<(), Fail> {
     Ok(())
 }
 
-/// Whether the root's input is joined to its output, the ends of the edge to each other, and the root's output to its input.
-fn joined(alloc: Global, flat: &Flat) -> Result<[bool; 3], AllocError> {
-    let across = flat.joined(alloc, ROOT_INPUT, ROOT_OUTPUT)?;
-    let along = flat.joined(alloc, EDGE_FROM, EDGE_TO)?;
-    let back = flat.joined(alloc, ROOT_OUTPUT, ROOT_INPUT)?;
-    Ok([across, along, back])
+/// Whether the root's input is joined to the input of the Q and to the root's output, the ends of the edge to each other, the root's output to its input, and once more the root's input to its output.
+fn joined(flat: &mut Flat) -> Result<[bool; 5], AllocError> {
+    let into = flat.joined(ROOT_INPUT, EDGE_TO)?;
+    let across = flat.joined(ROOT_INPUT, ROOT_OUTPUT)?;
+    let along = flat.joined(EDGE_FROM, EDGE_TO)?;
+    let back = flat.joined(ROOT_OUTPUT, ROOT_INPUT)?;
+    let again = flat.joined(ROOT_INPUT, ROOT_OUTPUT)?;
+    Ok([into, across, along, back, again])
 }
 
 /// Whether a view of the run of the line grammar shows the item of the edge, and what ports it joins.
@@ -280,19 +282,20 @@ fn told_by_view(
     s: &Accepted,
     run: &PlainRun,
     text: &str,
-) -> Result<(bool, [bool; 3]), Fail>
+) -> Result<(bool, [bool; 5]), Fail>
     requires proper { IsProper s.now.grammar.core }
     requires ranking { IsRankingOf s.now.grammar.core s.now.ranking }
     requires run { IsTableOf s.now.grammar.core run.now }
 {
     let view = view(alloc, &s.grammar, text)?;
     let full = full(alloc, s, &view)?;
-    let flat = Flat::of(alloc, &s.grammar, run, view.marks(), full.deps())?;
-    Ok((flat.shows(&INNER), joined(alloc, &flat)?))
+    let mut flat = Flat::of(alloc, &s.grammar, run, view.marks(), full.deps())?;
+    let is_shown = flat.shows(&INNER);
+    Ok((is_shown, joined(&mut flat)?))
 }
 
 /// The same of the whole run.
-fn shown(alloc: Global, text: &str) -> Result<(bool, [bool; 3]), Fail> {
+fn shown(alloc: Global, text: &str) -> Result<(bool, [bool; 5]), Fail> {
     let s = sample(alloc, LINE)?;
     let run = table(alloc, &s.grammar, 3, WHOLE)?;
     told_by_view(alloc, &s, &run, text)

@@ -6,18 +6,18 @@ use Rattle.wf_model.specs.Lists.{IsIn}
 use Rattle.wf_model.proofs.Lists.{in_append_cases, in_append_left, in_append_right}
 use Rattle.wf_flat.specs.declared.graph.Link.{Link}
 use Rattle.wf_flat.specs.declared.index.Arc.{Arc}
-use Rattle.wf_flat.specs.Index.{no_arc, IsMet, at_once, before, HasArc, AreChained, side_of, number_of, IsNumbered, AreSums, IsIndex}
+use Rattle.wf_flat.specs.Index.{no_arc, LeadsTo, at_once, before, HasArc, AreChained, side_of, number_of, IsNumbered, AreSums, IsIndex}
 use Rattle.wf_flat.proofs.Numbers.{sums_rise, below_last}
 
 -- no link is met from none
-pub none_met : (arcs : List Arc) (q at : ℕ) → at ≡ 0 → IsMet arcs q at → ⊥
-none_met arcs q at z (at_once e t) = absurd (omega arith)
-none_met arcs q at z (before e h) = absurd (omega arith)
+pub none_led : (arcs : List Arc) (q at : ℕ) → at ≡ 0 → LeadsTo arcs q at → ⊥
+none_led arcs q at z (at_once e t) = absurd (omega arith)
+none_led arcs q at z (before e h) = absurd (omega arith)
 
 -- what is met from the link of a number
-pub met_cases : (arcs : List Arc) (q at k : ℕ) → at ≡ suc k → IsMet arcs q at → ((get_or arcs k no_arc).to ≡ q) ⊎ IsMet arcs q (get_or arcs k no_arc).before
-met_cases arcs q at k z (at_once {k = j} e t) = let s : j ≡ k = omega arith in inl (subst (λ i. (get_or arcs i no_arc).to ≡ q) s t)
-met_cases arcs q at k z (before {k = j} e h) = let s : j ≡ k = omega arith in inr (subst (λ i. IsMet arcs q (get_or arcs i no_arc).before) s h)
+pub led_cases : (arcs : List Arc) (q at k : ℕ) → at ≡ suc k → LeadsTo arcs q at → ((get_or arcs k no_arc).to ≡ q) ⊎ LeadsTo arcs q (get_or arcs k no_arc).before
+led_cases arcs q at k z (at_once {k = j} e t) = let s : j ≡ k = omega arith in inl (subst (λ i. (get_or arcs i no_arc).to ≡ q) s t)
+led_cases arcs q at k z (before {k = j} e h) = let s : j ≡ k = omega arith in inr (subst (λ i. LeadsTo arcs q (get_or arcs i no_arc).before) s h)
 
 got_last : (arcs : List Arc) (x : Arc) (k : ℕ) → k ≡ length arcs → get_or (arcs ++ x ∷ []) k no_arc ≡ x
 got_last [] x zero e = refl
@@ -35,26 +35,26 @@ module _ (arcs : List Arc) (x : Arc) (back : (k : ℕ) → (get_or arcs k no_arc
   old k h = get_or_append_left arcs (x ∷ []) no_arc k h
 
   -- a link more, which is met from none of those before it
-  pub met_still : {q at : ℕ} → at ≤ length arcs → IsMet arcs q at → IsMet (arcs ++ x ∷ []) q at
-  met_still h (at_once {k = k} e t) = let l : k < length arcs = omega arith in at_once e (ap (λ (z : Arc). z.to) (old k l) ∙ t)
-  met_still {q} h (before {k = k} e i) =
+  pub led_still : {q at : ℕ} → at ≤ length arcs → LeadsTo arcs q at → LeadsTo (arcs ++ x ∷ []) q at
+  led_still h (at_once {k = k} e t) = let l : k < length arcs = omega arith in at_once e (ap (λ (z : Arc). z.to) (old k l) ∙ t)
+  led_still {q} h (before {k = k} e i) =
       let l : k < length arcs = omega arith in
       let b = back k in
       let r : (get_or arcs k no_arc).before ≤ length arcs = omega arith in
-      before e (subst (λ (z : Arc). IsMet (arcs ++ x ∷ []) q z.before) (sym (old k l)) (met_still r i))
+      before e (subst (λ (z : Arc). LeadsTo (arcs ++ x ∷ []) q z.before) (sym (old k l)) (led_still r i))
 
-  met_before_at : (n : ℕ) {q at : ℕ} → at ≤ n → at ≤ length arcs → IsMet (arcs ++ x ∷ []) q at → IsMet arcs q at
-  met_before_at zero w h i = absurd (none_met (arcs ++ x ∷ []) _ _ (omega arith) i)
-  met_before_at (suc n) {q} w h (at_once {k = k} e t) = let l : k < length arcs = omega arith in at_once e (ap (λ (z : Arc). z.to) (sym (old k l)) ∙ t)
-  met_before_at (suc n) {q} w h (before {k = k} e i) =
+  led_before_at : (n : ℕ) {q at : ℕ} → at ≤ n → at ≤ length arcs → LeadsTo (arcs ++ x ∷ []) q at → LeadsTo arcs q at
+  led_before_at zero w h i = absurd (none_led (arcs ++ x ∷ []) _ _ (omega arith) i)
+  led_before_at (suc n) {q} w h (at_once {k = k} e t) = let l : k < length arcs = omega arith in at_once e (ap (λ (z : Arc). z.to) (sym (old k l)) ∙ t)
+  led_before_at (suc n) {q} w h (before {k = k} e i) =
       let l : k < length arcs = omega arith in
       let b = back k in
       let r : (get_or arcs k no_arc).before ≤ length arcs = omega arith in
       let v : (get_or arcs k no_arc).before ≤ n = omega arith in
-      before e (met_before_at n v r (subst (λ (z : Arc). IsMet (arcs ++ x ∷ []) q z.before) (old k l) i))
+      before e (led_before_at n v r (subst (λ (z : Arc). LeadsTo (arcs ++ x ∷ []) q z.before) (old k l) i))
 
-  pub met_before : {q at : ℕ} → at ≤ length arcs → IsMet (arcs ++ x ∷ []) q at → IsMet arcs q at
-  met_before h i = met_before_at (length arcs) h h i
+  pub led_before : {q at : ℕ} → at ≤ length arcs → LeadsTo (arcs ++ x ∷ []) q at → LeadsTo arcs q at
+  led_before h i = led_before_at (length arcs) h h i
 
 -- the last link of a port, where a link more leaves port a
 module _ (lasts : List ℕ) (arcs : List Arc) (a : ℕ) (x : Arc) (chained : AreChained lasts arcs) (there : a < length lasts) (follows : x.before ≡ get_or lasts a 0) where
@@ -90,11 +90,11 @@ module _ (lasts : List ℕ) (arcs : List Arc) (a : ℕ) (x : Arc) (chained : Are
           let s : get_or lasts' p 0 ≡ suc (length arcs) = ap (λ z. get_or lasts' z 0) e ∙ (get_or-set_same lasts a (length arcs + 1) 0 there ∙ omega arith) in
           ⊎_elim
           (λ t. inr (e, sym t ∙ ap (λ (z : Arc). z.to) (got_last arcs x (length arcs) refl)))
-          (λ h. inl (subst (λ z. HasArc lasts arcs z q) (sym e) (met_before arcs x chained.back (chained.there a) (subst (IsMet arcs' q) (ap (λ (z : Arc). z.before) (got_last arcs x (length arcs) refl) ∙ follows) h))))
-          (met_cases arcs' q (get_or lasts' p 0) (length arcs) s i)
+          (λ h. inl (subst (λ z. HasArc lasts arcs z q) (sym e) (led_before arcs x chained.back (chained.there a) (subst (LeadsTo arcs' q) (ap (λ (z : Arc). z.before) (got_last arcs x (length arcs) refl) ∙ follows) h))))
+          (led_cases arcs' q (get_or lasts' p 0) (length arcs) s i)
 
       at_other : (p ≡ a → ⊥) → HasArc lasts arcs p q ⊎ ((p ≡ a) × (q ≡ x.to))
-      at_other d = inl (met_before arcs x chained.back (chained.there p) (subst (IsMet arcs' q) (get_or-set_other lasts a p (length arcs + 1) 0 d) i))
+      at_other d = inl (led_before arcs x chained.back (chained.there p) (subst (LeadsTo arcs' q) (get_or-set_other lasts a p (length arcs + 1) 0 d) i))
 
   first_arc : get_or lasts' a 0 ≡ suc (length arcs)
   first_arc = get_or-set_same lasts a (length arcs + 1) 0 there ∙ omega arith
@@ -105,8 +105,8 @@ module _ (lasts : List ℕ) (arcs : List Arc) (a : ℕ) (x : Arc) (chained : Are
   arc_old : (p q : ℕ) → HasArc lasts arcs p q → HasArc lasts' arcs' p q
   arc_old p q i = ⊎_elim
       (λ (e : p ≡ a). subst (λ z. HasArc lasts' arcs' z q) (sym e) (before first_arc
-      (subst (IsMet arcs' q) (sym (ap (λ (z : Arc). z.before) (got_last arcs x (length arcs) refl) ∙ follows)) (met_still arcs x chained.back (chained.there a) (subst (λ z. HasArc lasts arcs z q) e i)))))
-      (λ d. subst (IsMet arcs' q) (sym (get_or-set_other lasts a p (length arcs + 1) 0 d)) (met_still arcs x chained.back (chained.there p) i))
+      (subst (LeadsTo arcs' q) (sym (ap (λ (z : Arc). z.before) (got_last arcs x (length arcs) refl) ∙ follows)) (led_still arcs x chained.back (chained.there a) (subst (λ z. HasArc lasts arcs z q) e i)))))
+      (λ d. subst (LeadsTo arcs' q) (sym (get_or-set_other lasts a p (length arcs + 1) 0 d)) (led_still arcs x chained.back (chained.there p) i))
       (cases_eq p a)
 
 -- an index of one link more
@@ -157,7 +157,7 @@ index_none widths begins lasts arcs sides ports sums all last no_lasts no_arcs =
     back = λ k. subst (λ (l : List Arc). (get_or l k no_arc).before ≤ k) (sym no_arcs) (omega arith);
   };
   linked = λ l i. absurd i;
-  links = λ a b h. absurd (none_met arcs b (get_or lasts a 0) (none a) h);
+  links = λ a b h. absurd (none_led arcs b (get_or lasts a 0) (none a) h);
 }
   where
     none : (p : ℕ) → get_or lasts p 0 ≡ 0

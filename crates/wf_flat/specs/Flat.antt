@@ -1,11 +1,12 @@
 -- The flat graph of a run: its links, paths between its ports, and the items that are shown.
-use Rattle.std.specs.Prelude.{◌<◌, ◌↔◌, Bool, true, false, IsTrue, ℕ, List, map, get_or, Option, Some, None}
+use Rattle.std.specs.Prelude.{◌<◌, ◌↔◌, Bool, true, false, IsTrue, ℕ, List, length, map, get_or, Option, Some, None}
 use Rattle.wf_model.specs.Lists.{IsIn}
 use Rattle.wf_model.specs.Links.{Port, Link, Path}
 use Rattle.wf_flat.specs.declared.graph.Port.{Port as PortHeld}
 use Rattle.wf_flat.specs.declared.graph.Link.{Link as LinkHeld}
 use Rattle.wf_flat.specs.declared.index.Arc.{Arc}
-use Rattle.wf_flat.specs.Index.{IsIndex}
+use Rattle.wf_flat.specs.Index.{IsIndex, HasArc}
+use Rattle.wf_flat.specs.Search.{IsSearch}
 
 -- what contracts see of a flat graph: its links, in order, and for each instance whether it is seen and of an expanded module
 pub record FlatSeen : Type 0 where
@@ -30,6 +31,11 @@ numbered_links ls = map numbered_link ls
 -- the instances of the ports are below a number
 abbrev pub AreWithin : ℕ → List LinkHeld → Type 0
 AreWithin count ls = (l : LinkHeld) → IsIn l ls → (l.from.instance < count) × (l.to.instance < count)
+
+-- an index of links, and what is known of a search along them
+pub record IsSearched (ls : List LinkHeld) (begins lasts : List ℕ) (arcs : List Arc) (marks : List Bool) (queue : List ℕ) (done : ℕ) : Type 0 where
+  pub index : IsIndex ls begins lasts arcs
+  pub search : IsSearch (HasArc lasts arcs) (length lasts) marks queue done
 
 -- an answer tells whether a path leads from a port to a port, in the links of which this is an index
 abbrev pub TellsPath : List ℕ → List ℕ → List Arc → PortHeld → PortHeld → Bool → Type 0

@@ -16,7 +16,7 @@ place_of Output = 1
 abbrev pub side_of : Port → ℕ
 side_of x = 2 * x.instance + place_of x.side
 
--- the side has so many ports that the port is one of them
+-- a port is one of those of its side, where the sides have so many
 abbrev pub IsWide : List ℕ → Port → Type 0
 IsWide widths x = x.port.0 < get_or widths (side_of x) 0
 
@@ -45,25 +45,25 @@ pub record AreSums (widths begins : List ℕ) (n : ℕ) : Type 0 where
   pub count : length begins ≡ n + 1
   pub step : (k : ℕ) → k < n → get_or begins (k + 1) 0 ≡ get_or begins k 0 + get_or widths k 0
 
--- a link that leads nowhere
+-- what stands past the last link
 abbrev pub no_arc : Arc
 no_arc = record { to = 0; before = 0 }
 
--- from a link, by its number and one, back along those that leave the same port, one leads to q
-pub data IsMet (arcs : List Arc) (q : ℕ) : ℕ → Type 0 where
-  at_once : {at k : ℕ} → at ≡ suc k → (get_or arcs k no_arc).to ≡ q → IsMet arcs q at
-  before : {at k : ℕ} → at ≡ suc k → IsMet arcs q (get_or arcs k no_arc).before → IsMet arcs q at
+-- of a link, which is named by its number and one, and those before it that leave the same port, one leads to q
+pub data LeadsTo (arcs : List Arc) (q : ℕ) : ℕ → Type 0 where
+  at_once : {at k : ℕ} → at ≡ suc k → (get_or arcs k no_arc).to ≡ q → LeadsTo arcs q at
+  before : {at k : ℕ} → at ≡ suc k → LeadsTo arcs q (get_or arcs k no_arc).before → LeadsTo arcs q at
 
--- among the links that leave port p, from the last one back, one leads to port q
+-- one of the links that leave port p, from the last of them back, leads to port q
 abbrev pub HasArc : List ℕ → List Arc → ℕ → ℕ → Type 0
-HasArc lasts arcs p q = IsMet arcs q (get_or lasts p 0)
+HasArc lasts arcs p q = LeadsTo arcs q (get_or lasts p 0)
 
--- the links that are named are there, and each names one before it
+-- each link that is named is there, and each names one before it or none
 pub record AreChained (lasts : List ℕ) (arcs : List Arc) : Type 0 where
   pub there : (p : ℕ) → get_or lasts p 0 ≤ length arcs
   pub back : (k : ℕ) → (get_or arcs k no_arc).before ≤ k
 
--- The ports that links name are numbered, side by side. Among the links that leave the port of a number one leads to the port of another exactly where a link leads between the ports of these numbers
+-- The ports that links name have numbers, side after side, and no number is past the last. One of the links that leave a number leads to another number exactly where a link leads between the ports of these numbers
 pub record IsIndex (ls : List Link) (begins lasts : List ℕ) (arcs : List Arc) : Type 0 where
   pub rising : IsRising begins
   pub numbered : AreNumbered begins ls

@@ -21,7 +21,7 @@ pub record AreMet (R : ℕ → ℕ → Type 0) (p : ℕ) (marks : List Bool) (qu
 -- a search among so many ports that goes from none
 pub record IsUnbegun (ports : ℕ) (marks : List Bool) (queue : List ℕ) (done : ℕ) : Type 0 where
   pub count : length marks ≡ ports
-  pub none : (p : ℕ) → get_or marks p false ≡ true → IsIn p []
+  pub none : (p : ℕ) → get_or marks p false ≡ true → ⊥
   pub empty : queue ≡ []
   pub not_done : done ≡ 0
 

@@ -50,28 +50,28 @@ fn is_joined(
     Ok(is_reached)
 }
 
-/// A run as a view shows it, with an index of its links by which paths are searched.
+/// A run as a view shows it, with an index of its links by which paths are searched, and the last of these searches.
 #[derive(Drop)]
 pub struct Flat {
     shown: RunView,
     index: Index,
+    search: Search,
 }
 
 impl Model for Flat {
-    ghost use Rattle.wf_flat.specs.Flat.{FlatSeen};
-    ghost use Rattle.wf_flat.specs.Index.{IsIndex};
+    ghost use Rattle.wf_flat.specs.Flat.{FlatSeen, IsSearched};
 
     ghost Value = { FlatSeen };
 
     ghost view = { λ f. record { links = f.shown.links; opens = f.shown.opens } };
 
-    ghost invariant = { λ f. IsIndex f.shown.links f.index.begins.items f.index.lasts.items f.index.arcs.items };
+    ghost invariant = { λ f. IsSearched f.shown.links f.index.begins.items f.index.lasts.items f.index.arcs.items f.search.marks.items f.search.queue.items f.search.done };
 }
 
 impl Flat {
     /// The flat graph of a run. An instance is open where it is seen, expanded in the run and of a marked module: it has the edges, entries and exits of its production. A seen instance that is not open has the pairs of `leaf`, and none where `leaf` has no rows for its module.
     ///
-    /// Cost: linear in the run and its links. Beside the links it holds 8 bytes for each instance and each link, and 4 for each port. Fails only for want of memory; 2^32 ports or links count as such.
+    /// Cost: linear in the run and its links. Beside the links it holds 8 bytes for each instance and each link, and 5 for each port that a link may name. Fails only for want of memory; 2^32 ports or links count as such.
     pub fn of(
         alloc: Global,
         g: &Grammar,
@@ -88,7 +88,12 @@ impl Flat {
     {
         let shown = RunView::of(alloc, g, run, expanded, leaf)?;
         let index = index_of(alloc, run.instances().len(), shown.links())?;
-        Ok(Flat { shown, index })
+        let search = no_search(alloc, index.lasts.len())?;
+        Ok(Flat {
+            shown,
+            index,
+            search,
+        })
     }
 
     /// Whether an item of the run is visible: a port of the root, or made by an open instance.
@@ -105,18 +110,18 @@ impl Flat {
 
     /// Whether a path of links leads from a port to a port. A path may be one port, so each port is joined to itself.
     ///
-    /// Cost: each link is looked at once at most. Fails only for want of memory.
-    pub fn joined(&self, alloc: Global, from: Port, to: Port) -> Result<bool, AllocError>
-        ensures joined { IfOk result (λ b. IsTrue b ↔ Path (numbered_links self.now.links) (numbered_port from) (numbered_port to)) }
-        ensures by_name { IfOk result (λ b. (names : List (List ℕ)) → AllDiffer names → AreWithin (length names) self.now.links → from.instance < length names → to.instance < length names →
-            IsTrue b ↔ Path (named_links names self.now.links) (named_port names from) (named_port names to)) }
+    /// Cost: each link is looked at once at most, and a mark is taken away for each port that the call before met. Where that call had the same first port, its search is gone on with instead: no link is looked at twice, and a port that it met costs one look. Fails only for want of memory.
+    pub fn joined(&mut self, from: Port, to: Port) -> Result<bool, AllocError>
+        ensures unchanged { self.new ≡ self.old }
+        ensures joined { IfOk result (λ b. IsTrue b ↔ Path (numbered_links self.old.links) (numbered_port from) (numbered_port to)) }
+        ensures by_name { IfOk result (λ b. (names : List (List ℕ)) → AllDiffer names → AreWithin (length names) self.old.links → from.instance < length names → to.instance < length names →
+            IsTrue b ↔ Path (named_links names self.old.links) (named_port names from) (named_port names to)) }
     {
-        let mut search = no_search(alloc, self.index.lasts.len())?;
         let joined = is_joined(
             &self.index.begins,
             &self.index.lasts,
             &self.index.arcs,
-            &mut search,
+            &mut self.search,
             from,
             to,
         )?;

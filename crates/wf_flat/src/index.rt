@@ -8,14 +8,14 @@ use crate::graph::{Link, Port};
 use std::alloc::{AllocError, Global};
 use wf_spec::Side;
 
-/// A link: the number of the port that it leads to, and the link before it that leaves the same port, by its number and one, or 0 where it is the first.
+/// A link, as the port that it leaves holds it: the number of the port that it leads to, and the link before it that leaves the same port. A link is named by its number and one, and 0 names none.
 #[derive(Clone, Copy, Drop)]
 pub struct Arc {
     pub to: u32,
     pub before: u32,
 }
 
-/// Ports by number, and the links that leave each: the number of the first port of each side of an instance, and one more at the end; the last link that leaves each port, by its number and one, or 0 where none does; and the links.
+/// The ports of a run by number, and the links that leave each: for each side of each instance the number of its first port, and last the count of all; for each port the last link that leaves it, named as an `Arc` names one; and the links, in order.
 #[derive(Drop)]
 pub struct Index {
     pub begins: Vec<u32>,
@@ -65,7 +65,7 @@ fn widths_of(alloc: Global, instances: usize, links: &[Link]) -> Result<Vec<u32>
     Ok(widths)
 }
 
-/// The number of the first port of each side, and one more, which no port has.
+/// The number of the first port of each side, and last the count of all.
 fn begins_of(alloc: Global, widths: &[u32]) -> Result<Vec<u32>, AllocError>
     ensures { IfOk result (λ begins. AreSums widths.now begins.items (length widths.now)) }
 {
@@ -151,9 +151,9 @@ fn add_links(
     Ok(())
 }
 
-/// The index of links between the ports of so many instances.
+/// The index of links between the ports of so many instances. A side has as many ports as the links name.
 ///
-/// Cost: linear in the instances and the links. Fails only for want of memory; 2^32 ports or links count as such.
+/// Cost: each link is looked at twice, and each side twice; nothing is hashed or sorted. Fails only for want of memory; 2^32 ports or links count as such.
 pub fn index_of(alloc: Global, instances: usize, links: &[Link]) -> Result<Index, AllocError>
     requires { AreWithin instances links.now }
     ensures { IfOk result (λ i. IsIndex links.now i.begins.items i.lasts.items i.arcs.items) }

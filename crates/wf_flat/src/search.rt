@@ -66,12 +66,12 @@ fn meet_all(
     Ok(())
 }
 
-/// Takes the marks away.
+/// Takes the marks away, each with its port in the queue.
 fn forget(marks: &mut Vec<bool>, queue: &mut Vec<u32>)
     requires marked { (p : ℕ) → get_or marks.old.items p false ≡ true → IsIn p queue.old.items }
     requires below { (p : ℕ) → IsIn p queue.old.items → p < length marks.old.items }
     ensures count { length marks.new.items ≡ length marks.old.items }
-    ensures none { (p : ℕ) → get_or marks.new.items p false ≡ true → IsIn p [] }
+    ensures none { (p : ℕ) → get_or marks.new.items p false ≡ true → ⊥ }
     ensures empty { queue.new.items ≡ [] }
 {
     while let Some(p) = queue.pop() {
@@ -79,7 +79,7 @@ fn forget(marks: &mut Vec<bool>, queue: &mut Vec<u32>)
     }
 }
 
-/// Goes from another port.
+/// Makes a search go from another port. After an error it goes from none.
 fn restart(s: &mut Search, from: u32) -> Result<(), AllocError>
     requires marked { (p : ℕ) → get_or s.old.marks.items p false ≡ true → IsIn p s.old.queue.items }
     requires below { (p : ℕ) → IsIn p s.old.queue.items → p < length s.old.marks.items }

@@ -14,34 +14,34 @@ use Rattle.cmd_ask.proofs.answer.answer.Goals as goal
 item_of_same : {g h : HeldGrammar} → g ≡ h → (e : List Event) (i : Item) → IsIn i (items g.core g.core.start e) → IsIn i (items h.core h.core.start e)
 item_of_same same e i = subst (λ (x : HeldGrammar). IsIn i (items x.core x.core.start e)) same
 
-pub returns-in_default : goal.returns-in_default
-returns-in_default c =
+pub returns-in_default-clause-told : goal.returns-in_default-clause-told
+returns-in_default-clause-told c =
     let p = c.p.inside in
     rw (← c.p.view_is)
     (first_unknown p.viewed.now.spec.grammar.core p.viewed.now.view.core c.p.invariant.formed (events_of p.run.now) c.p.invariant.run.accepted.0 c.args.query.now.first.now c.args.query.now.second.now (λ t h. c.in_default.ensures.none refl t (item_of_same (sym c.grammar-g.ensures.grammar) _ t h)))
 
-pub returns-in_default-find_item : goal.returns-in_default-find_item
-returns-in_default-find_item c =
+pub returns-in_default-find_item-clause-told : goal.returns-in_default-find_item-clause-told
+returns-in_default-find_item-clause-told c =
     let p = c.p.inside in
     rw (← c.p.view_is)
     (second_unknown p.viewed.now.spec.grammar.core p.viewed.now.view.core c.p.invariant.formed (events_of p.run.now) c.p.invariant.run.accepted.0 c.args.query.now.first.now c.args.query.now.second.now
     (named_item (names_in p.run.now.instances) c.args.query.now.first.now c.in-Some.a) (item_of_same c.grammar-g.ensures.grammar _ _ c.in-Some.ensures.found) refl (λ t h. c.in_default-find_item.ensures.none refl t (item_of_same (sym c.grammar-g.ensures.grammar) _ t h)))
 
-pub returns-then-not-shows : goal.returns-then-not-shows
-returns-then-not-shows c =
+pub returns-then-not-shows-clause-told : goal.returns-then-not-shows-clause-told
+returns-then-not-shows-clause-told c =
     rw (← c.p.view_is)
     (first_hidden _ _ _ _ c.p.invariant c.args.query.now.first.now c.args.query.now.second.now c.in-Some.a c.in-Some-find_item.b (item_of_same c.grammar-g.ensures.grammar _ _ c.in-Some.ensures.found) (item_of_same c.grammar-g.ensures.grammar _ _ c.in-Some-find_item.ensures.found) c.in-Some.ensures.within c.in-Some-find_item.ensures.within
     (sym c.shows.ensures ∙ c.if-not-shows.true))
 
-pub returns-then-not-shows-2 : goal.returns-then-not-shows-2
-returns-then-not-shows-2 c =
+pub returns-then-not-shows-2-clause-told : goal.returns-then-not-shows-2-clause-told
+returns-then-not-shows-2-clause-told c =
     rw (← c.p.view_is)
     (second_hidden _ _ _ _ c.p.invariant c.args.query.now.first.now c.args.query.now.second.now c.in-Some.a c.in-Some-find_item.b (item_of_same c.grammar-g.ensures.grammar _ _ c.in-Some.ensures.found) (item_of_same c.grammar-g.ensures.grammar _ _ c.in-Some-find_item.ensures.found) c.in-Some.ensures.within c.in-Some-find_item.ensures.within
     (sym c.shows.ensures ∙ c.if-not-shows.false) (sym c.shows-2.ensures ∙ c.if-not-shows-2.true))
 
-pub returns : goal.returns
-returns c =
-    let told = subst (λ (q : PreparedSeen). TellsPath (named_links (names_in q.run.instances) q.flat.links) (option_map (named_port (names_in q.run.instances)) c.in-Some.a.to) (option_map (named_port (names_in q.run.instances)) c.in-Some-find_item.b.from) c.in_ok-told.told) (sym c.p.view_is) c.in_ok-told.ensures in
+pub returns-clause-told : goal.returns-clause-told
+returns-clause-told c =
+    let told = subst (λ (q : PreparedSeen). TellsPath (named_links (names_in q.run.instances) q.flat.links) (option_map (named_port (names_in q.run.instances)) c.in-Some.a.to) (option_map (named_port (names_in q.run.instances)) c.in-Some-find_item.b.from) c.in_ok-told.told) (sym c.p.view_is) c.in_ok-told.ensures.path in
     rw (← c.p.view_is)
     (path_answers _ _ _ _ c.p.invariant c.args.query.now.first.now c.args.query.now.second.now c.in-Some.a c.in-Some-find_item.b (item_of_same c.grammar-g.ensures.grammar _ _ c.in-Some.ensures.found) (item_of_same c.grammar-g.ensures.grammar _ _ c.in-Some-find_item.ensures.found) c.in-Some.ensures.within c.in-Some-find_item.ensures.within
     (sym c.shows.ensures ∙ c.if-not-shows.false) (sym c.shows-2.ensures ∙ c.if-not-shows-2.false) c.in_ok-told.told told)

@@ -1,6 +1,6 @@
 use Rattle.std.proofs.Common.{◌≡◌, ◌<◌, ◌-◌, suc, true, false, get_or, refl, sym, subst, arith, inl, inr, ⊎_elim}
 use Rattle.wf_flat.specs.Index.{no_arc, at_once, before, HasArc}
-use Rattle.wf_flat.proofs.Chains.{met_cases}
+use Rattle.wf_flat.proofs.Chains.{led_cases}
 use Rattle.wf_flat.proofs.Searching.{met_one_more}
 use Rattle.wf_flat.proofs.search.meet_all.Goals as goal
 
@@ -25,6 +25,6 @@ loop-at-preserved c =
       kept = λ q h. c.loop-at.invariant.kept q (before e h);
       rest = λ q h. ⊎_elim
           (λ o. inl (met.old_marks q o))
-          (λ i. ⊎_elim (λ (t : x.to ≡ q). inl (subst (λ z. get_or c.meet.new.marks.items z false ≡ true) t (met.each x.to (inl refl)))) (λ o. inr o) (met_cases c.args.arcs.now q c.loop-at.at k e i))
+          (λ i. ⊎_elim (λ (t : x.to ≡ q). inl (subst (λ z. get_or c.meet.new.marks.items z false ≡ true) t (met.each x.to (inl refl)))) (λ o. inr o) (led_cases c.args.arcs.now q c.loop-at.at k e i))
           (c.loop-at.invariant.rest q h);
     }

@@ -9,4 +9,4 @@ pub returns-clause-answer : goal.returns-clause-answer
 returns-clause-answer c =
     let q = c.args.query.now in
     IfOk-weaker c.answer.result (λ a. IsToldBy c.args.self.now q.first.now q.second.now (answer_text a)) _
-    (λ a told k is. subst (λ (p : PreparedSeen). IsToldBy p q.first.now q.second.now (answer_text a)) (sym is) told) c.answer.ensures
+    (λ a told k is. subst (λ (p : PreparedSeen). IsToldBy p q.first.now q.second.now (answer_text a)) (sym is) told) c.answer.ensures.told
