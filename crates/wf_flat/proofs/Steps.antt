@@ -1,5 +1,5 @@
 -- A table that stands for a run goes on standing for it, an event later.
-use Rattle.std.proofs.Common.{◌≡◌, ℕ, zero, suc, ◌+◌, ◌<◌, ◌≤◌, ◌⊎◌, false, cond, List, [], ◌∷◌, ◌++◌, map, take, drop, set, get_or, length, Option, Some, None, refl, ap, sym, subst, ◌∙◌, arith, inl, inr, ⊎_elim, append_assoc}
+use Rattle.std.proofs.Common.{◌≡◌, ℕ, zero, suc, ◌+◌, ◌<◌, ◌≤◌, ◌⊎◌, cond, List, [], ◌∷◌, ◌++◌, map, take, drop, set, get_or, length, Option, Some, None, refl, ap, sym, subst, ◌∙◌, arith, inl, inr, ⊎_elim, append_assoc}
 use Rattle.std.specs.Prelude.{option_map, MatchOption}
 use Rattle.std.proofs.lemmas.List.{length-map, map-append, take-append-le, drop-append-le, drop_at, take_all, get_or_append_left, get_or-set_same, get_or-set_other, length-set, length-drop}
 use Rattle.std.proofs.lemmas.Simd.{map-map}
@@ -10,17 +10,16 @@ use Rattle.wf_model.specs.declared.body.Position.{Position}
 use Rattle.wf_model.specs.Lists.{IsIn, IsAt, AllDiffer}
 use Rattle.wf_model.specs.Grammar.{Grammar, Production, Position as PositionSeen, production_at, body_of}
 use Rattle.wf_model.specs.Meaning.{position_of}
-use Rattle.wf_model.specs.Faults.{some_twice, fault_of}
+use Rattle.wf_model.specs.Faults.{fault_of}
 use Rattle.wf_model.specs.Run.{Instance, Expanded, named, made, names_of, expanded_by, CanExpand, IsAccepted}
 use Rattle.wf_model.proofs.Lists.{in_append_cases, at_below, at_in, at_is, is_at, differ_at, bytes_same}
 use Rattle.wf_model.proofs.Runs.{made_more, expansion_later, expansion_other, run_state, AllExtend-append}
-use Rattle.wf_model.proofs.Taking.{run_differs, length-named, twice_from, taking_law}
+use Rattle.wf_model.proofs.Taking.{run_differs, length-named, taking_law}
 use Rattle.wf_model.proofs.Mapping.{at_map, map_same}
 use Rattle.wf_flat.specs.declared.table.Inst.{Inst}
 use Rattle.wf_flat.specs.declared.table.Opened.{Opened}
 use Rattle.wf_flat.specs.Table.{Table, IsTableOf, IsParentAt, IsTableKept, IsOpenedIn, instance_of, names_in, given_names, expansion_of, events_by, events_of, expansion_at, children, expanded_by_no, no_instance, opened_table, root_instance, started_table}
 use Rattle.wf_flat.proofs.Tables.{names-with_children, instances-with_children, length-with_children, module_of}
-use Rattle.wf_flat.proofs.Instances.{same_names}
 
 -- a part of a list is the same where others follow
 pub part_kept : {A : Type 0} (a n : ℕ) (xs ys : List A) → a + n ≤ length xs → take n (drop a (xs ++ ys)) ≡ take n (drop a xs)
@@ -330,11 +329,6 @@ run_started g most m name e acc = record {
 
 pub kept_of : (t : Table) (most : ℕ) (taken : List (List ℕ)) (xs : List Inst) (order : List Opened) → IsTableKept most taken xs order → ◌≡◌ {A = Table} (record { most = most; instances = xs; order = order }) t → (q : Opened) → IsIn q t.order → IsOpenedIn (length t.instances) q
 kept_of t most taken xs order k e = subst (λ (z : Table). (q : Opened) → IsIn q z.order → IsOpenedIn (length z.instances) q) e k.opened
-
-pub fresh_names : (g : Grammar) (t : Table) (i : List ℕ) (p : ℕ) (new : List (List ℕ)) → IsTableOf g t → IsAccepted g t.most (events_of t ++ Expand i p new ∷ []) → some_twice (names_in t.instances) new ≡ false
-fresh_names g t i p new run next =
-    let can = (AllExtend-append g g.start [] (events_of t) (Expand i p new ∷ []) next.0).1.0 in
-    ap (λ l. some_twice l new) (sym (same_names g t run)) ∙ twice_from (names_of (made g g.start (events_of t))) new can.differ can.new
 
 pub same_modules : (g : Grammar) (p : ℕ) (r : Production) (body : List Position) → map position_of body ≡ r.positions → r ≡ production_at g p → map (λ (q : Position). q.module.0) body ≡ body_of g p
 same_modules g p r body b e =

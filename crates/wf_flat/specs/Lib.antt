@@ -1,4 +1,5 @@
 pub mod Table
+pub mod Opening
 pub mod Graph
 pub mod Index
 pub mod Search

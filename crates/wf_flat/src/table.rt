@@ -1,16 +1,19 @@
 // A run as a table of numbered instances.
-ghost use Rattle.std.specs.Prelude.{◌≡◌, ◌<◌, ◌≤◌, ◌+◌, ◌^◌, ◌++◌, ◌∷◌, [], List, Option, Some, None, false, length, take, position, IfOk, IfErr, OnOk, OnErr, IfSome, bytes_eq, ◌⊎◌};
+ghost use Rattle.std.specs.Prelude.{◌≡◌, ◌<◌, ◌≤◌, ◌+◌, ◌^◌, ◌++◌, ◌∷◌, [], List, Option, Some, None, true, false, length, take, position, is_some, IfOk, IfErr, OnOk, OnErr, IfSome, IfNone, bytes_eq, ◌⊎◌};
 ghost use Rattle.wf_model.specs.declared.event.Event.TheVariants.{Start, Expand};
 ghost use Rattle.wf_model.specs.declared.event.RunFault.TheVariants.{NoMemory};
 ghost use Rattle.wf_model.specs.Grammar.{Grammar as GrammarSeen};
 ghost use Rattle.wf_model.specs.Faults.{some_twice, fault_of};
 ghost use Rattle.run_faults.specs.Standing.{IsFound};
+ghost use Rattle.run_faults.specs.Order.{names_fault};
+ghost use Rattle.wf_run.specs.Names.{AreNamesRefused};
 ghost use Rattle.wf_flat.specs.Table.{Table, IsTableOf, events_of, names_in, children, with_children, root_instance, started_table, opened_table};
+ghost use Rattle.wf_flat.specs.Opening.{CanOpen};
 
-use run_faults::{Found, expand_fault, start_fault};
+use crate::names::InstanceNames;
+use run_faults::{Found, fault_before_names, fault_of_names, start_fault};
 use std::alloc::{AllocError, Global};
 use std::marker::Model;
-use wf_names::Names;
 use wf_spec::{Event, Grammar, ModNo, Name, Position, ProdNo, RunFault};
 
 /// An instance of a run. The root alone has no parent. The children of an instance that is expanded stand one after the other, from `first_child` on, in order of the positions; before that `first_child` is 0.
@@ -37,7 +40,7 @@ pub struct Opened {
 pub struct PlainRun {
     alloc: Global,
     most: u32,
-    names: Names,
+    names: InstanceNames,
     instances: Vec<Inst>,
     order: Vec<Opened>,
 }
@@ -79,30 +82,33 @@ fn append_children(
 }
 
 /// Adds an expansion and its children, or leaves all as it was.
+///
+/// Errors: `NameTwice` where a name is taken already, or stands twice among them; `NoMemory`.
 fn grow(
     alloc: Global,
-    taken: &mut Names,
+    taken: &mut InstanceNames,
     instances: &mut Vec<Inst>,
     order: &mut Vec<Opened>,
     opened: Opened,
     names: &[Name],
     body: &[Position],
-) -> Result<(), AllocError>
+) -> Result<(), RunFault>
     requires there { opened.instance < length instances.old.items }
     requires one_each { length names.now ≡ length body.now }
     requires same_names { taken.old ≡ names_in instances.old.items }
-    requires fresh { some_twice taken.old names.now ≡ false }
+    ensures fresh { OnOk result (some_twice taken.old names.now ≡ false) }
     ensures names { OnOk result (taken.new ≡ taken.old ++ names.now) }
     ensures instances { OnOk result (instances.new.items ≡ with_children instances.old.items opened names.now body.now) }
     ensures order { OnOk result (order.new.items ≡ order.old.items ++ opened ∷ []) }
+    ensures refused { IfErr result (AreNamesRefused taken.old names.now) }
     ensures same_taken { OnErr result (taken.new ≡ taken.old) }
     ensures same_instances { OnErr result (instances.new.items ≡ instances.old.items) }
     ensures same_order { OnErr result (order.new.items ≡ order.old.items) }
 {
     let before = instances.len();
-    if let Err(fault) = append_children(alloc, instances, opened.instance, names, body) {
+    if let Err(_) = append_children(alloc, instances, opened.instance, names, body) {
         instances.truncate(before);
-        return Err(fault);
+        return Err(RunFault::NoMemory);
     }
     if let Err(fault) = taken.add_all(names) {
         instances.truncate(before);
@@ -111,7 +117,7 @@ fn grow(
     if order.push(opened).is_err() {
         instances.truncate(before);
         taken.cut(before);
-        return Err(AllocError);
+        return Err(RunFault::NoMemory);
     }
     let x = &mut instances[opened.instance as usize];
     x.production = Some(opened.production);
@@ -119,18 +125,19 @@ fn grow(
     Ok(())
 }
 
-/// Adds the root, or leaves all as it was.
+/// Adds the root, or leaves all as it was. The only error is that memory is refused.
 fn plant(
     alloc: Global,
-    taken: &mut Names,
+    taken: &mut InstanceNames,
     instances: &mut Vec<Inst>,
     module: ModNo,
     name: &[u8],
-) -> Result<(), AllocError>
+) -> Result<(), RunFault>
     requires no_names { taken.old ≡ [] }
     requires no_instances { instances.old.items ≡ [] }
     ensures names { OnOk result (taken.new ≡ name.now ∷ []) }
     ensures instances { OnOk result (instances.new.items ≡ root_instance «module» name.now ∷ []) }
+    ensures refused { IfErr result (λ f. f ≡ NoMemory) }
     ensures same_taken { OnErr result (taken.new ≡ taken.old) }
     ensures same_instances { OnErr result (instances.new.items ≡ instances.old.items) }
 {
@@ -168,7 +175,7 @@ impl PlainRun {
         PlainRun {
             alloc,
             most,
-            names: Names::with_key(alloc, key),
+            names: InstanceNames::with_key(alloc, key),
             instances: Vec::new(alloc),
             order: Vec::new(alloc),
         }
@@ -208,7 +215,7 @@ impl PlainRun {
     ///
     /// Errors of a start, in order of trial: `StartedTwice`, `NameBad` (a name has 1 to 64 letters, digits, `_` or `-`), `TooManyInstances`. Of an expansion: `NotStarted`, `UnknownInstance`, `UnknownProduction`, `WrongHead` (the production is not one of the instance's module), `AlreadyExpanded`, `PositionsWrong` (not one name for each position), `NameBad`, `NameTwice` (a name that the run or the event has already), `TooManyInstances`. Last `NoMemory`.
     ///
-    /// Cost: one look-up for each name of the event, which is also compared with the names before it in the event, at most 63.
+    /// Cost: one look-up for the instance and one for each name of the event, which is hashed once; where the run has no room for so many instances, each name is also compared with the names before it in the event, at most 63.
     pub fn take(&mut self, g: &Grammar, e: &Event) -> Result<(), RunFault>
         requires { IsTableOf g.now.core self.old }
         ensures taken { OnOk result (events_of self.new ≡ events_of self.old ++ e.now ∷ []) }
@@ -272,14 +279,17 @@ impl PlainRun {
         let _formed = g.start();
         let number = ProdNo(production as u16);
         let body = g.production(number).positions();
-        self.expand(k, number, names, body)?;
+        if let Err(fault) = self.expand(k, number, names, body) {
+            return Err(fault);
+        }
         Ok(())
     }
 
     /// What the table tells of the instance of a name, which has this number.
     fn found(&self, name: &[u8], number: Option<u32>) -> Option<Found>
         requires { number ≡ position (bytes_eq name.now) (names_in self.now.instances) }
-        ensures { (g : GrammarSeen) → IsTableOf g self.now → IsFound g (events_of self.now) name.now result }
+        ensures found { (g : GrammarSeen) → IsTableOf g self.now → IsFound g (events_of self.now) name.now result }
+        ensures there { is_some result ≡ is_some number }
     {
         let Some(k) = number else {
             return None;
@@ -291,7 +301,19 @@ impl PlainRun {
         })
     }
 
-    /// Why the run refuses to expand the instance of a name, which has this number.
+    /// Why names are refused for which the run has no room; None where it has.
+    fn fault_without_room(&self, names: &[Name]) -> Option<RunFault>
+        ensures fault { IfSome result (λ f. names_fault self.now.most (names_in self.now.instances) names.now ≡ Some f) }
+        ensures room { IfNone result (length self.now.instances + length names.now ≤ self.now.most) }
+    {
+        let count = self.instances.len();
+        if count.saturating_add(names.len()) <= self.most as usize {
+            return None;
+        }
+        fault_of_names(self.most, &self.names, count, names)
+    }
+
+    /// Why the run refuses to expand the instance of a name, which has this number; None where no more than a name that is taken can stand against it.
     fn expand_fault(
         &self,
         g: &Grammar,
@@ -302,14 +324,19 @@ impl PlainRun {
     ) -> Option<RunFault>
         requires run { IsTableOf g.now.core self.now }
         requires number { number ≡ position (bytes_eq name.now) (names_in self.now.instances) }
-        ensures { result ≡ fault_of g.now.core self.now.most (events_of self.now) (Expand name.now production names.now) }
+        ensures fault { IfSome result (λ f. fault_of g.now.core self.now.most (events_of self.now) (Expand name.now production names.now) ≡ Some f) }
+        ensures opens { IfNone result (CanOpen g.now.core self.now name.now production names.now) }
+        ensures there { IfNone result (is_some number ≡ true) }
     {
         let found = self.found(name, number);
         let count = self.instances.len();
-        expand_fault(g, self.most, &self.names, count, found, production, names)
+        if let Some(fault) = fault_before_names(g, count, found, production, names) {
+            return Some(fault);
+        }
+        self.fault_without_room(names)
     }
 
-    /// The number of the instance that an event may expand by the production of a number.
+    /// The number of the instance that an event may expand by the production of a number, if none of the names is taken.
     fn place(
         &self,
         g: &Grammar,
@@ -319,7 +346,7 @@ impl PlainRun {
     ) -> Result<u32, RunFault>
         requires { IsTableOf g.now.core self.now }
         ensures refused { IfErr result (λ f. fault_of g.now.core self.now.most (events_of self.now) (Expand name.now production names.now) ≡ Some f) }
-        ensures extends { OnOk result (fault_of g.now.core self.now.most (events_of self.now) (Expand name.now production names.now) ≡ None) }
+        ensures opens { OnOk result (CanOpen g.now.core self.now name.now production names.now) }
         ensures place { IfOk result (λ k. position (bytes_eq name.now) (names_in self.now.instances) ≡ Some k) }
     {
         let number = self.find(name);
@@ -332,11 +359,13 @@ impl PlainRun {
         Ok(k)
     }
 
-    fn start(&mut self, module: ModNo, name: &[u8]) -> Result<(), AllocError>
+    /// Starts the run. The only error is that memory is refused.
+    fn start(&mut self, module: ModNo, name: &[u8]) -> Result<(), RunFault>
         requires no_instances { self.old.instances ≡ [] }
         requires no_order { self.old.order ≡ [] }
         requires room { 0 < self.old.most }
         ensures started { OnOk result (self.new ≡ started_table self.old.most «module» name.now) }
+        ensures refused { IfErr result (λ f. f ≡ NoMemory) }
         ensures unchanged { OnErr result (self.new ≡ self.old) }
     {
         plant(
@@ -349,18 +378,22 @@ impl PlainRun {
         Ok(())
     }
 
+    /// Expands an instance, where there is room for the children. After an error the run is as it was.
+    ///
+    /// Errors: `NameTwice` where a name is taken already, or stands twice among them; `NoMemory`.
     fn expand(
         &mut self,
         k: u32,
         production: ProdNo,
         names: &[Name],
         body: &[Position],
-    ) -> Result<(), AllocError>
+    ) -> Result<(), RunFault>
         requires there { k < length self.old.instances }
         requires one_each { length names.now ≡ length body.now }
-        requires fresh { some_twice (names_in self.old.instances) names.now ≡ false }
         requires room { length self.old.instances + length names.now ≤ self.old.most }
         ensures opened { OnOk result (self.new ≡ opened_table self.old k production names.now body.now) }
+        ensures fresh { OnOk result (some_twice (names_in self.old.instances) names.now ≡ false) }
+        ensures refused { IfErr result (AreNamesRefused (names_in self.old.instances) names.now) }
         ensures unchanged { OnErr result (self.new ≡ self.old) }
     {
         let most = self.most as usize;

@@ -1,14 +1,46 @@
-use Rattle.std.proofs.Common.{ap, sym, ◌∙◌}
+use Rattle.std.proofs.Common.{◌≡◌, ◌+◌, ◌≤◌, length, Some, ap, sym, ◌∙◌, arith}
+use Rattle.std.proofs.lemmas.List.{length-map}
+use Rattle.std.proofs.lemmas.Option.{IfSome_then}
 use Rattle.wf_model.specs.declared.event.Event.TheVariants.{Expand}
 use Rattle.wf_model.specs.Faults.{fault_of}
+use Rattle.run_faults.specs.Order.{names_fault}
+use Rattle.wf_run.proofs.NewNames.{fault_with_room, if_none}
+use Rattle.wf_flat.specs.declared.table.Inst.{Inst}
 use Rattle.wf_flat.specs.Table.{Table, names_in, events_of}
-use Rattle.wf_flat.proofs.Instances.{same_names}
+use Rattle.wf_flat.specs.Opening.{CanOpen}
+use Rattle.wf_flat.proofs.Opening.{has_fault, left_to_names}
 use Rattle.wf_flat.proofs.table.PlainRun.expand_fault.Goals as goal
 
-pub returns : goal.returns
-returns c =
+pub returns-in-Some-clause-fault : goal.returns-in-Some-clause-fault
+returns-in-Some-clause-fault c =
     let g = c.args.g.now.core in
     let t = c.args.self.now in
-    let names = c.self.invariant.same_names ∙ (ap (λ (t : Table). names_in t.instances) c.self.view_is ∙ sym (same_names g t c.requires.run)) in
-    c.expand_fault.ensures (events_of t) c.args.name.now c.requires.run.accepted.0 names (c.found-found.ensures g c.requires.run)
-    ∙ ap (λ (r : Table). fault_of g r.most (events_of t) (Expand c.args.name.now c.args.production c.args.names.now)) c.self.view_is
+    let counted = c.len-count.ensures ∙ (c.self.inside.instances.ok.0 ∙ ap (λ (t : Table). length t.instances) c.self.view_is) in
+    has_fault g t c.requires.run _ counted _ c.args.name.now (c.found-found.ensures.found g c.requires.run) c.args.production c.args.names.now _ c.in-Some.ensures.first
+
+pub returns-clause-fault : goal.returns-clause-fault
+returns-clause-fault c =
+    let g = c.args.g.now.core in
+    let t = c.args.self.now in
+    let names = c.args.names.now in
+    let counted = c.len-count.ensures ∙ (c.self.inside.instances.ok.0 ∙ ap (λ (t : Table). length t.instances) c.self.view_is) in
+    IfSome_then _ {P = λ f. names_fault t.most (names_in t.instances) names ≡ Some f} {Q = λ f. fault_of g t.most (events_of t) (Expand c.args.name.now c.args.production names) ≡ Some f} c.fault_without_room.ensures.fault
+    (λ f e. left_to_names g t c.requires.run _ counted _ c.args.name.now (c.found-found.ensures.found g c.requires.run) c.args.production names c.in_default.ensures.left ∙ e)
+
+pub returns-clause-opens : goal.returns-clause-opens
+returns-clause-opens c =
+    let g = c.args.g.now.core in
+    let t = c.args.self.now in
+    let names = c.args.names.now in
+    let counted = c.len-count.ensures ∙ (c.self.inside.instances.ok.0 ∙ ap (λ (t : Table). length t.instances) c.self.view_is) in
+    let left = left_to_names g t c.requires.run _ counted _ c.args.name.now (c.found-found.ensures.found g c.requires.run) c.args.production names c.in_default.ensures.left in
+    if_none _ (length t.instances + length names ≤ t.most) (CanOpen g t c.args.name.now c.args.production names)
+    (λ room. record {
+      fits = c.in_default.ensures.fits;
+      room = room;
+      left = left ∙ fault_with_room t.most (names_in t.instances) names (omega (arith, room, length-map t.instances (λ (x : Inst). x.name)));
+    })
+    c.fault_without_room.ensures.room
+
+pub returns-clause-there : goal.returns-clause-there
+returns-clause-there c = if_none _ _ _ (λ room. sym c.found-found.ensures.there ∙ c.in_default.ensures.there) c.fault_without_room.ensures.room

@@ -5,11 +5,11 @@ use Rattle.wf_flat.specs.Table.{Table}
 use Rattle.wf_flat.proofs.Instances.{unknown, known, its_module, its_expansion, its_read}
 use Rattle.wf_flat.proofs.table.PlainRun.found.Goals as goal
 
-pub returns-in_default : goal.returns-in_default
-returns-in_default c g run = unknown g c.args.self.now run c.args.name.now (sym c.requires ∙ c.in_default.is)
+pub returns-in_default-clause-found : goal.returns-in_default-clause-found
+returns-in_default-clause-found c g run = unknown g c.args.self.now run c.args.name.now (sym c.requires ∙ c.in_default.is)
 
-pub returns : goal.returns
-returns c g run =
+pub returns-clause-found : goal.returns-clause-found
+returns-clause-found c g run =
     let t = c.args.self.now in
     let n = c.args.name.now in
     let place = sym c.requires ∙ c.in-Some.is in
