@@ -1,34 +1,36 @@
 // The names of the instances of a run, and their numbers.
 ghost use Rattle.std.specs.Prelude.{◌≡◌, ◌<◌, ◌++◌, ◌∷◌, [], List, ℕ, Option, Some, None, false, length, take, map, position, OnOk, IfErr, OnErr, IfSome, bytes_eq};
 ghost use Rattle.wf_model.specs.Faults.{is_one_of, some_twice};
-ghost use Rattle.wf_names.specs.Names.{bytes_of};
 ghost use Rattle.wf_run.specs.Names.{IsNameRefused, AreNamesRefused};
+ghost use Rattle.wf_flat.specs.Names.{held};
 
+use crate::held_name::HeldName;
 use indexmap::IndexSet;
 use run_faults::Taken;
 use std::alloc::Global;
 use std::marker::Model;
-use wf_names::KeyedHash;
+use wf_names::{KeyedHash, NameKey};
 use wf_spec::{Name, RunFault};
 
-fn holds(names: &IndexSet<Vec<u8>, KeyedHash>, name: &[u8]) -> bool
-    ensures { result ≡ is_one_of (bytes_of names.now.keys) name.now }
+fn holds(names: &IndexSet<HeldName, KeyedHash>, name: &[u8]) -> bool
+    ensures { result ≡ is_one_of (held names.now.keys) name.now }
 {
-    names.contains(name)
+    let key = NameKey { bytes: name };
+    names.contains(&key)
 }
 
 fn put(
     alloc: Global,
-    names: &mut IndexSet<Vec<u8>, KeyedHash>,
+    names: &mut IndexSet<HeldName, KeyedHash>,
     name: &[u8],
 ) -> Result<(), RunFault>
-    ensures fresh { OnOk result (is_one_of (bytes_of names.old.keys) name.now ≡ false) }
-    ensures added { OnOk result (bytes_of names.new.keys ≡ bytes_of names.old.keys ++ name.now ∷ []) }
-    ensures refused { IfErr result (IsNameRefused (bytes_of names.old.keys) name.now) }
+    ensures fresh { OnOk result (is_one_of (held names.old.keys) name.now ≡ false) }
+    ensures added { OnOk result (held names.new.keys ≡ held names.old.keys ++ name.now ∷ []) }
+    ensures refused { IfErr result (IsNameRefused (held names.old.keys) name.now) }
     ensures unchanged { OnErr result (names.new.keys ≡ names.old.keys) }
 {
-    let key = Vec::from_slice(alloc, name)?;
-    let is_new = names.insert(key)?;
+    let bytes = Vec::from_slice(alloc, name)?;
+    let is_new = names.insert(HeldName { bytes })?;
     if !is_new {
         return Err(RunFault::NameTwice);
     }
@@ -39,7 +41,7 @@ fn put(
 #[derive(Drop)]
 pub(crate) struct InstanceNames {
     alloc: Global,
-    numbers: IndexSet<Vec<u8>, KeyedHash>,
+    numbers: IndexSet<HeldName, KeyedHash>,
 }
 
 impl Model for InstanceNames {
@@ -47,7 +49,7 @@ impl Model for InstanceNames {
 
     ghost Value = { List (List ℕ) };
 
-    ghost view = { λ t. map (λ k. k.items) t.numbers.keys };
+    ghost view = { λ t. map (λ k. k.bytes.items) t.numbers.keys };
 }
 
 impl InstanceNames {
@@ -66,7 +68,8 @@ impl InstanceNames {
         ensures place { result ≡ position (bytes_eq name.now) self.now }
         ensures within { IfSome result (λ i. i < length self.now) }
     {
-        self.numbers.get_index_of(name)
+        let key = NameKey { bytes: name };
+        self.numbers.get_index_of(&key)
     }
 
     /// Adds a name. After an error the names are as they were.
