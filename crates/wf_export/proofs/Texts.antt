@@ -3,12 +3,12 @@ use Rattle.std.proofs.Common.{◌≡◌, ℕ, ◌+◌, ◌<◌, ◌≤◌, Bool,
 use Rattle.std.specs.Prelude.{flat_map, Result, Ok, Err}
 use Rattle.std.proofs.lemmas.List.{take_more, take-append-drop, take_all}
 use Rattle.std.proofs.lemmas.Grind.{flat_map-append}
-use Rattle.wf_io.specs.Told.{Rose, Appended}
+use Rattle.wf_io.specs.Told.{Appended}
 use Rattle.wf_io.proofs.Appending.{begun_longer, begun_none}
 use Rattle.wf_lines.specs.Taking.{IsDue, IsBegun}
 use Rattle.wf_lines.proofs.Dues.{due_still, due_later, due_more, due_begun, due_put}
 use Rattle.wf_export.specs.declared.fault.ExportFault.{ExportFault}
-use Rattle.wf_export.specs.declared.fault.ExportFault.TheVariants.{WriteFault, NoMemory}
+use Rattle.wf_export.specs.declared.fault.ExportFault.TheVariants.{NoMemory}
 use Rattle.wf_export.specs.Adds.{IsCauseOf, IsStopped, Adds, Writes}
 
 -- a text is due behind what was due, and no fault came
@@ -63,15 +63,13 @@ module _ {S : Type 0} (bytes : S → Option (List ℕ)) (faults : S → ℕ) (la
   adds_after a b due mid_due new_due old mid new (Ok x) whole more = adds_both a b due mid_due new_due old mid new whole more
   adds_after a b due mid_due new_due old mid new (Err f) whole s = stopped_after a b due mid_due old mid new f whole s
 
-  -- what is due was put, and nothing was due before
-  pub put_whole : (text new_due : List ℕ) (old mid new : S) → AddsWhole bytes faults text [] new_due old mid → Appended new_due (bytes mid) (bytes new) → faults new ≡ faults mid → Appended text (bytes old) (bytes new) × (faults new ≡ faults old)
-  put_whole text new_due old mid new x put same = (due_put text new_due (bytes old) (bytes mid) (bytes new) x.0 put, same ∙ x.1)
-
-  pub put_in_part : (text new_due : List ℕ) (old mid new : S) → AddsWhole bytes faults text [] new_due old mid → IsBegun new_due (bytes mid) (bytes new) → faults mid ≤ faults new → Rose (faults mid) (faults new) (last new) → IsStopped text (bytes old) (bytes new) (faults old) (faults new) (last new) WriteFault
-  put_in_part text new_due old mid new x begun later rose = record {
-    begun = due_begun text new_due (bytes old) (bytes mid) (bytes new) x.0 begun;
-    later = subst (λ n. n ≤ faults new) x.1 later;
-    cause = subst (λ n. Rose n (faults new) (last new)) x.1 rose;
+  -- a text was added to none, and what of it is due is put as a result says
+  pub written_after : {T : Type 0} (text due : List ℕ) (old mid new : S) (r : Result T ExportFault) → AddsWhole bytes faults text [] due old mid → Writes bytes faults last due mid new r → Writes bytes faults last text old new r
+  written_after text due old mid new (Ok x) added put = (due_put text due (bytes old) (bytes mid) (bytes new) added.0 put.0, put.1 ∙ added.1)
+  written_after text due old mid new (Err f) added s = record {
+    begun = due_begun text due (bytes old) (bytes mid) (bytes new) added.0 s.begun;
+    later = subst (λ n. n ≤ faults new) added.1 s.later;
+    cause = cause_from (faults old) (faults mid) (faults new) (last new) f added.1 s.cause;
   }
 
   -- whatever the result is, a beginning was put

@@ -10,6 +10,7 @@ ghost use Rattle.wf_export.specs.Shown.{IsRunSeen};
 ghost use Rattle.wf_export.specs.declared.fault.ExportFault.TheVariants.{WriteFault, NoMemory};
 
 use crate::fault::ExportFault;
+use crate::gathering::{no_text, put_text};
 use crate::instance_lines::put_instances;
 use crate::item_lines::put_items;
 use crate::link_lines::put_links;
@@ -17,7 +18,6 @@ use crate::perceived::perceived_rows;
 use std::alloc::{AllocError, Global};
 use wf_flat::{PlainRun, RunView};
 use wf_io::Sink;
-use wf_lines::Due;
 use wf_spec::Grammar;
 use wf_view::View;
 
@@ -35,10 +35,9 @@ fn run_seen(alloc: Global, g: &Grammar, view: &View, run: &PlainRun) -> Result<R
     Ok(shown)
 }
 
-/// Adds the whole text to what is due.
+/// Adds the whole text to what is due, and puts it where it is long.
 fn put_all<O: Sink>(
-    due: &mut Due,
-    line: &mut Vec<u8>,
+    text: &mut Vec<u8>,
     g: &Grammar,
     view: &View,
     run: &PlainRun,
@@ -46,11 +45,11 @@ fn put_all<O: Sink>(
     out: &mut O,
 ) -> Result<(), ExportFault>
     requires { IsRunSeen g.now.core view.now.core run.now shown.now }
-    ensures { Adds O.put_bytes O.faults O.at_last (export_text g.now.core view.now.core (events_of run.now)) due.old due.new out.old out.new result }
+    ensures { Adds O.put_bytes O.faults O.at_last (export_text g.now.core view.now.core (events_of run.now)) text.old.items text.new.items out.old out.new result }
 {
-    put_instances(due, line, g, view, run, shown, out)?;
-    put_items(due, line, g, run, shown, out)?;
-    put_links(due, line, g, run, shown, out)
+    put_instances(text, g, view, run, shown, out)?;
+    put_items(text, g, run, shown, out)?;
+    put_links(text, g, run, shown, out)
 }
 
 /// Writes the whole text, in large pieces.
@@ -65,18 +64,14 @@ fn write_all<O: Sink>(
     requires { IsRunSeen g.now.core view.now.core run.now shown.now }
     ensures { Writes O.put_bytes O.faults O.at_last (export_text g.now.core view.now.core (events_of run.now)) out.old out.new result }
 {
-    let Ok(mut due) = Due::new(alloc) else {
+    let Ok(mut text) = no_text(alloc) else {
         return Err(ExportFault::NoMemory);
     };
-    let mut line = Vec::new(alloc);
-    put_all(&mut due, &mut line, g, view, run, shown, out)?;
-    match due.put(out) {
-        Ok(()) => Ok(()),
-        Err(_) => Err(ExportFault::WriteFault),
-    }
+    put_all(&mut text, g, view, run, shown, out)?;
+    put_text(&text, out)
 }
 
-/// Writes the plain provenance of a run under a view: a line for each instance that is seen and not open, for each visible item, and for each link between their ports. The text is put in pieces of 64 KiB.
+/// Writes the plain provenance of a run under a view: a line for each instance that is seen and not open, for each visible item, and for each link between their ports. The text is put in pieces of 64 KiB and a little more.
 ///
 /// Errors: `WriteFault` where the sink fails, `NoMemory`. After either a beginning of the text was put.
 ///

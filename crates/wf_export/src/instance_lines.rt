@@ -5,12 +5,11 @@ ghost use Rattle.wf_export.specs.Adds.{Adds};
 ghost use Rattle.wf_export.specs.ExportText.{named_line, instances_text};
 ghost use Rattle.wf_export.specs.Shown.{IsRunSeen, held_instance_line};
 
-use crate::adding::add_lines;
 use crate::fault::ExportFault;
+use crate::gathering::pass_on;
 use std::alloc::AllocError;
 use wf_flat::{Inst, PlainRun, RunView};
 use wf_io::Sink;
-use wf_lines::Due;
 use wf_spec::Grammar;
 use wf_view::View;
 
@@ -46,29 +45,26 @@ fn add_instance(line: &mut Vec<u8>, g: &Grammar, view: &View, x: &Inst) -> Resul
     add_named(line, b"pending ", x.name.bytes(), module_name)
 }
 
-/// Adds the line of an instance, if it is not open, made in place of what `line` held.
+/// Adds the line of an instance, if it is not open.
 fn put_instance<O: Sink>(
-    due: &mut Due,
-    line: &mut Vec<u8>,
+    text: &mut Vec<u8>,
     g: &Grammar,
     view: &View,
     x: &Inst,
     out: &mut O,
 ) -> Result<(), ExportFault>
     requires { x.now.module.0 < length g.now.core.modules }
-    ensures { Adds O.put_bytes O.faults O.at_last (held_instance_line g.now.core view.now.core x.now) due.old due.new out.old out.new result }
+    ensures { Adds O.put_bytes O.faults O.at_last (held_instance_line g.now.core view.now.core x.now) text.old.items text.new.items out.old out.new result }
 {
-    line.clear();
-    let Ok(()) = add_instance(line, g, view, x) else {
+    let Ok(()) = add_instance(text, g, view, x) else {
         return Err(ExportFault::NoMemory);
     };
-    add_lines(due, line, out)
+    pass_on(text, out)
 }
 
 /// Adds the lines of the instances that are seen and not open, in order of making.
 pub fn put_instances<O: Sink>(
-    due: &mut Due,
-    line: &mut Vec<u8>,
+    text: &mut Vec<u8>,
     g: &Grammar,
     view: &View,
     run: &PlainRun,
@@ -76,11 +72,11 @@ pub fn put_instances<O: Sink>(
     out: &mut O,
 ) -> Result<(), ExportFault>
     requires { IsRunSeen g.now.core view.now.core run.now shown.now }
-    ensures { Adds O.put_bytes O.faults O.at_last (instances_text g.now.core view.now.core (events_of run.now)) due.old due.new out.old out.new result }
+    ensures { Adds O.put_bytes O.faults O.at_last (instances_text g.now.core view.now.core (events_of run.now)) text.old.items text.new.items out.old out.new result }
 {
     let instances = run.instances();
     for k in shown.seen() {
-        put_instance(due, line, g, view, &instances[*k as usize], out)?;
+        put_instance(text, g, view, &instances[*k as usize], out)?;
     }
     Ok(())
 }

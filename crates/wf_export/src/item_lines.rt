@@ -9,13 +9,12 @@ ghost use Rattle.wf_export.specs.Adds.{Adds};
 ghost use Rattle.wf_export.specs.ExportText.{item_line};
 ghost use Rattle.wf_export.specs.Shown.{IsReady, port_lines, root_port_lines, root_lines, held_edge_line, expansion_lines, expansions_text, held_items_text};
 
-use crate::adding::add_lines;
 use crate::fault::ExportFault;
+use crate::gathering::pass_on;
 use crate::ports::{add_dotted, port_name};
 use std::alloc::AllocError;
 use wf_flat::{Inst, Opened, PlainRun, RunView};
 use wf_io::Sink;
-use wf_lines::Due;
 use wf_spec::{Edge, Grammar, Name, Side};
 
 /// Appends the line of an item, which is named by an instance and a port.
@@ -50,22 +49,20 @@ fn add_root(line: &mut Vec<u8>, g: &Grammar, name: &[u8]) -> Result<(), AllocErr
 
 /// Adds the lines of the ports of the root, if there is one.
 fn put_root<O: Sink>(
-    due: &mut Due,
-    line: &mut Vec<u8>,
+    text: &mut Vec<u8>,
     g: &Grammar,
     instances: &[Inst],
     out: &mut O,
 ) -> Result<(), ExportFault>
-    ensures { Adds O.put_bytes O.faults O.at_last (root_lines g.now.core instances.now) due.old due.new out.old out.new result }
+    ensures { Adds O.put_bytes O.faults O.at_last (root_lines g.now.core instances.now) text.old.items text.new.items out.old out.new result }
 {
     let Some(root) = instances.first() else {
         return Ok(());
     };
-    line.clear();
-    let Ok(()) = add_root(line, g, root.name.bytes()) else {
+    let Ok(()) = add_root(text, g, root.name.bytes()) else {
         return Err(ExportFault::NoMemory);
     };
-    add_lines(due, line, out)
+    pass_on(text, out)
 }
 
 /// Appends the line of the item of an edge, where the instances at the positions are given.
@@ -96,8 +93,7 @@ fn add_edges(
 
 /// Adds the lines of the items that an expansion makes, if its instance is open.
 fn put_expansion<O: Sink>(
-    due: &mut Due,
-    line: &mut Vec<u8>,
+    text: &mut Vec<u8>,
     g: &Grammar,
     instances: &[Inst],
     shown: &RunView,
@@ -105,53 +101,50 @@ fn put_expansion<O: Sink>(
     out: &mut O,
 ) -> Result<(), ExportFault>
     requires { IsReady g.now.core (length instances.now) o }
-    ensures { Adds O.put_bytes O.faults O.at_last (expansion_lines g.now.core instances.now shown.now.opens o) due.old due.new out.old out.new result }
+    ensures { Adds O.put_bytes O.faults O.at_last (expansion_lines g.now.core instances.now shown.now.opens o) text.old.items text.new.items out.old out.new result }
 {
     if !shown.opens(o.instance) {
         return Ok(());
     }
     let first = o.first as usize;
     let children = &instances[first..first + o.count as usize];
-    line.clear();
-    let Ok(()) = add_edges(line, g, children, g.production(o.production).edges()) else {
+    let Ok(()) = add_edges(text, g, children, g.production(o.production).edges()) else {
         return Err(ExportFault::NoMemory);
     };
-    add_lines(due, line, out)
+    pass_on(text, out)
 }
 
 /// Adds the lines of the items that the expansions of open instances make, in order.
 fn put_expansions<O: Sink>(
-    due: &mut Due,
-    line: &mut Vec<u8>,
+    text: &mut Vec<u8>,
     g: &Grammar,
     run: &PlainRun,
     shown: &RunView,
     out: &mut O,
 ) -> Result<(), ExportFault>
     requires { IsTableOf g.now.core run.now }
-    ensures { Adds O.put_bytes O.faults O.at_last (expansions_text g.now.core run.now shown.now.opens) due.old due.new out.old out.new result }
+    ensures { Adds O.put_bytes O.faults O.at_last (expansions_text g.now.core run.now shown.now.opens) text.old.items text.new.items out.old out.new result }
 {
     // A grammar is well-formed: the production of an expansion is there.
     let _formed = g.start();
     let instances = run.instances();
     for o in run.order() {
-        put_expansion(due, line, g, instances, shown, *o, out)?;
+        put_expansion(text, g, instances, shown, *o, out)?;
     }
     Ok(())
 }
 
 /// Adds the lines of the items that are visible, in order of making.
 pub fn put_items<O: Sink>(
-    due: &mut Due,
-    line: &mut Vec<u8>,
+    text: &mut Vec<u8>,
     g: &Grammar,
     run: &PlainRun,
     shown: &RunView,
     out: &mut O,
 ) -> Result<(), ExportFault>
     requires { IsTableOf g.now.core run.now }
-    ensures { Adds O.put_bytes O.faults O.at_last (held_items_text g.now.core run.now shown.now.opens) due.old due.new out.old out.new result }
+    ensures { Adds O.put_bytes O.faults O.at_last (held_items_text g.now.core run.now shown.now.opens) text.old.items text.new.items out.old out.new result }
 {
-    put_root(due, line, g, run.instances(), out)?;
-    put_expansions(due, line, g, run, shown, out)
+    put_root(text, g, run.instances(), out)?;
+    put_expansions(text, g, run, shown, out)
 }

@@ -1,9 +1,9 @@
 //! The plain provenance of a run under a view, written as lines.
 #![tactic(auto)]
 
-mod adding;
 mod export;
 mod fault;
+mod gathering;
 mod instance_lines;
 mod item_lines;
 mod link_lines;

@@ -4,13 +4,12 @@ ghost use Rattle.wf_flat.specs.Flat.{AreWithin};
 ghost use Rattle.wf_export.specs.Adds.{Adds};
 ghost use Rattle.wf_export.specs.Shown.{held_port_text, held_link_line, held_links_text};
 
-use crate::adding::add_lines;
 use crate::fault::ExportFault;
+use crate::gathering::pass_on;
 use crate::ports::{add_dotted, port_name};
 use std::alloc::AllocError;
 use wf_flat::{Inst, Link, PlainRun, Port, RunView};
 use wf_io::Sink;
-use wf_lines::Due;
 use wf_spec::Grammar;
 
 /// Appends a port by its name.
@@ -42,10 +41,9 @@ fn add_link(
     Ok(())
 }
 
-/// Adds the line of a link, made in place of what `line` held.
+/// Adds the line of a link.
 fn put_link<O: Sink>(
-    due: &mut Due,
-    line: &mut Vec<u8>,
+    text: &mut Vec<u8>,
     g: &Grammar,
     instances: &[Inst],
     link: Link,
@@ -53,30 +51,28 @@ fn put_link<O: Sink>(
 ) -> Result<(), ExportFault>
     requires from { link.from.instance < length instances.now }
     requires to { link.to.instance < length instances.now }
-    ensures { Adds O.put_bytes O.faults O.at_last (held_link_line g.now.core instances.now link) due.old due.new out.old out.new result }
+    ensures { Adds O.put_bytes O.faults O.at_last (held_link_line g.now.core instances.now link) text.old.items text.new.items out.old out.new result }
 {
-    line.clear();
-    let Ok(()) = add_link(line, g, instances, link) else {
+    let Ok(()) = add_link(text, g, instances, link) else {
         return Err(ExportFault::NoMemory);
     };
-    add_lines(due, line, out)
+    pass_on(text, out)
 }
 
 /// Adds the lines of the links between what is seen, in order.
 pub fn put_links<O: Sink>(
-    due: &mut Due,
-    line: &mut Vec<u8>,
+    text: &mut Vec<u8>,
     g: &Grammar,
     run: &PlainRun,
     shown: &RunView,
     out: &mut O,
 ) -> Result<(), ExportFault>
     requires { AreWithin (length run.now.instances) shown.now.links }
-    ensures { Adds O.put_bytes O.faults O.at_last (held_links_text g.now.core run.now shown.now.links) due.old due.new out.old out.new result }
+    ensures { Adds O.put_bytes O.faults O.at_last (held_links_text g.now.core run.now shown.now.links) text.old.items text.new.items out.old out.new result }
 {
     let instances = run.instances();
     for link in shown.links() {
-        put_link(due, line, g, instances, *link, out)?;
+        put_link(text, g, instances, *link, out)?;
     }
     Ok(())
 }
