@@ -213,7 +213,7 @@ impl PlainRun {
 
     /// Takes an event, if it extends the run of the grammar. After an error the run is as it was.
     ///
-    /// Errors of a start, in order of trial: `StartedTwice`, `NameBad` (a name has 1 to 64 letters, digits, `_` or `-`), `TooManyInstances`. Of an expansion: `NotStarted`, `UnknownInstance`, `UnknownProduction`, `WrongHead` (the production is not one of the instance's module), `AlreadyExpanded`, `PositionsWrong` (not one name for each position), `NameBad`, `NameTwice` (a name that the run or the event has already), `TooManyInstances`. Last `NoMemory`.
+    /// Errors of a start, in order of trial: `StartedTwice`, `NameBad` (a name has 1 to 64 letters, digits, `_` or `-`), `TooManyInstances`. Of an expansion: `NotStarted`, `UnknownInstance`, `UnknownProduction`, `WrongHead` (the production is not one of the instance's module), `AlreadyExpanded`, `PositionsWrong` (not one name for each position), `NameBad`, `NameTwice` (a name that the run or the event has already), `TooManyInstances`. `NoMemory` last, or in place of `NameTwice`.
     ///
     /// Cost: one look-up for the instance and one for each name of the event, which is hashed once; where the run has no room for so many instances, each name is also compared with the names before it in the event, at most 63.
     pub fn take(&mut self, g: &Grammar, e: &Event) -> Result<(), RunFault>
