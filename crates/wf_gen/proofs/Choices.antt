@@ -1,17 +1,17 @@
 -- What two draws pick: a pending instance, and a production of its module.
-use Rattle.std.proofs.Common.{◌≡◌, ℕ, ◌+◌, ◌/◌, ◌%◌, ◌<◌, Bool, true, false, ◌==◌, List, map, length, get_or, Option, Some, None, refl, ap, ◌∙◌, arith}
+use Rattle.std.proofs.Common.{◌≡◌, ℕ, ◌/◌, ◌%◌, ◌<◌, Bool, true, false, ◌==◌, List, map, length, get_or, Option, Some, None, refl, ap, ◌∙◌, arith}
 use Rattle.std.specs.Prelude.{option_map}
-use Rattle.std.proofs.lemmas.Bool.{eqb-true, eq-eqb}
+use Rattle.std.proofs.lemmas.Bool.{eq-eqb}
 use Rattle.std.proofs.lemmas.Nat.{mod_below}
 use Rattle.std.proofs.lemmas.List.{length-map}
 use Rattle.wf_model.specs.declared.numbers.ProdNo.{ProdNo}
-use Rattle.wf_model.specs.Lists.{IsIn, numbers_from}
+use Rattle.wf_model.specs.Lists.{numbers_from}
 use Rattle.wf_model.specs.Grammar.{Grammar, head_of, IsComposite, IsProductionOf}
 use Rattle.wf_model.specs.WellFormed.{IsWellFormed}
 use Rattle.wf_model.specs.Reach.{Step}
 use Rattle.wf_model.specs.Linear.{IsLinear}
-use Rattle.wf_model.proofs.Lists.{at_in, is_at, in_map, in_filter, in_filter_from}
-use Rattle.wf_model.proofs.Level.{in_numbers, numbers_in}
+use Rattle.wf_model.proofs.Lists.{at_in, is_at, in_map, in_filter}
+use Rattle.wf_model.proofs.Level.{numbers_in}
 use Rattle.wf_model.proofs.Positions.{has_length}
 use Rattle.wf_spec.specs.Tables.{productions_of}
 use Rattle.label_model.specs.Continuing.{continuing}

@@ -7,13 +7,14 @@ use Rattle.wf_model.specs.Grammar.{Grammar, body_of}
 use Rattle.wf_model.specs.WellFormed.{IsWellFormed}
 use Rattle.wf_model.specs.Faults.{is_nil}
 use Rattle.wf_model.specs.declared.event.Event.{Event}
+use Rattle.wf_model.specs.declared.event.Event.TheVariants.{Start}
 use Rattle.wf_model.proofs.Lists.{in_append_cases}
 use Rattle.wf_model.proofs.Composites.{composite_gives, composite_below}
 use Rattle.wf_recur.specs.Cycles.{CyclesSeen}
 use Rattle.wf_gen.specs.declared.pending.Pending.{Pending as PendingHeld}
 use Rattle.wf_gen.specs.Draws.{draw}
-use Rattle.wf_gen.specs.Turns.{Pending, State, Generated, no_pending, pending_from, place_picked, child_count, event_of, next_turn, draws_after, after_turn, after_draws, first_state, turns, started}
-use Rattle.wf_gen.specs.Coming.{IsNext, coming, rest_of, has_ended}
+use Rattle.wf_gen.specs.Turns.{Pending, State, Generated, numbered_name, no_pending, pending_from, place_picked, child_count, event_of, next_turn, draws_after, after_turn, after_draws, first_state, turns, started}
+use Rattle.wf_gen.specs.Coming.{IsFirst, IsNext, coming, rest_of, has_ended}
 use Rattle.wf_gen.specs.Held.{all_pending, AreComposite, IsTurn, AreLeft, IsKept}
 use Rattle.wf_gen.proofs.Lists.{left_in}
 use Rattle.wf_gen.proofs.Children.{child_from}
@@ -34,6 +35,16 @@ some_pending (p ∷ ps) e = omega arith
 module _ (g : Grammar) (limit : ℕ) where
   running : (n : ℕ) (s : State) → s.made == 0 ≡ false → rest_of g limit n s ≡ turns g limit n s
   running n s e = ap (λ b. cond b (started g limit n s.draws) (turns g limit n s)) e
+
+  -- the start event comes first
+  pub start_next : (n : ℕ) (s new : State) → s.made ≡ 0 → new ≡ first_state g s.draws → IsFirst (coming g limit n s) (Start (numbered_name 0)) (coming g limit n new)
+  start_next n s new none first =
+      let old : rest_of g limit n s ≡ started g limit n s.draws = ap (λ k. cond (k == 0) (started g limit n s.draws) (turns g limit n s)) none in
+      let later : rest_of g limit n new ≡ turns g limit n (first_state g s.draws) = ap (rest_of g limit n) first in
+      record {
+        events = ap (λ (r : Generated). r.events) old ∙ ap (λ (r : Generated). Start (numbered_name 0) ∷ r.events) (sym later);
+        draws = ap (λ (r : Generated). r.last.draws) later ∙ sym (ap (λ (r : Generated). r.last.draws) old);
+      }
 
   -- where no turn is left, or nothing is pending, nothing comes
   pub no_turn : (n : ℕ) (s : State) → (n == 0) || is_nil s.pending ≡ true → turns g limit n s ≡ record { events = []; last = s }

@@ -4,6 +4,8 @@ pub mod Lists
 pub mod Choices
 pub mod Children
 pub mod Coming
+pub mod Taking
+pub mod Lines
 pub mod Following
 pub mod GeneratedRuns
 pub mod Worked

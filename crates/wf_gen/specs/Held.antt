@@ -1,14 +1,18 @@
 -- Generated runs as the program holds them.
-use Rattle.std.specs.Prelude.{◌≡◌, ℕ, ◌+◌, ◌<◌, ◌≤◌, List, [], map, length, Option, MatchOption}
+use Rattle.std.specs.Prelude.{◌≡◌, ℕ, ◌+◌, ◌^◌, ◌<◌, ◌≤◌, false, List, [], map, length, Option, MatchOption}
 use Rattle.wf_model.specs.Lists.{IsIn}
 use Rattle.wf_model.specs.Grammar.{Grammar, IsComposite}
+use Rattle.wf_model.specs.Faults.{is_nil}
 use Rattle.wf_model.specs.Linear.{IsLinear}
 use Rattle.wf_model.specs.declared.event.Event.{Event}
+use Rattle.wf_model.specs.declared.event.Event.TheVariants.{Expand}
 use Rattle.wf_recur.specs.Cycles.{CyclesSeen, AreCyclesOf}
 use Rattle.wf_gen.specs.declared.pending.Pending.{Pending as PendingHeld}
 use Rattle.wf_gen.specs.declared.choice.Turn.{Turn as TurnHeld}
 use Rattle.wf_gen.specs.declared.turn.State.{State as StateHeld}
-use Rattle.wf_gen.specs.Turns.{Pending, Turn, State, child_count, event_of, next_turn, draws_after, after_turn, after_draws}
+use Rattle.wf_gen.specs.declared.turn.Drawn.{Drawn as DrawnHeld}
+use Rattle.wf_gen.specs.Turns.{Pending, Turn, State, numbered_name, numbered_names, child_count, event_of, next_turn, draws_after, after_turn, after_draws}
+use Rattle.wf_gen.specs.Coming.{IsEnd, coming}
 
 -- a pending instance, as the definitions see it
 abbrev pub pending_of : PendingHeld → Pending
@@ -30,11 +34,35 @@ state_of s = record { made = s.made; pending = all_pending s.pending.items; draw
 abbrev pub AreComposite : Grammar → List Pending → Type 0
 AreComposite g pending = (p : Pending) → IsIn p pending → (p.module_no < length g.modules) × IsComposite g p.module_no
 
--- an expansion by a turn, with these draws left as they are: nothing where it would pass the limit; else the event of the turn
-abbrev pub IsExpansion : Grammar → ℕ → State → Turn → Option Event → State → Type 0
-IsExpansion g limit old t given new =
-    MatchOption given ((limit < old.made + child_count g t) × (new ≡ old))
-    (λ e. (old.made + child_count g t ≤ limit) × (e ≡ event_of g old.made t) × (new ≡ after_turn g old t old.draws))
+-- a turn that was drawn can be taken: it is one of a pending instance, it is told how many children it makes, and their numbers have 32 bits
+pub record CanTake (g : Grammar) (s : State) (d : DrawnHeld) : Type 0 where
+  pub place : d.turn.place < length s.pending
+  pub production : d.turn.production.0 < length g.productions
+  pub count : d.count ≡ child_count g (turn_of d.turn)
+  pub numbers : s.made + d.count < 2 ^ 32
+
+-- it is the next turn of a run, and stays in the limit
+pub record IsNextTurn (g : Grammar) (limit : ℕ) (s : State) (d : DrawnHeld) : Type 0 where
+  pub can_take : CanTake g s d
+  pub turn : turn_of d.turn ≡ next_turn g s
+  pub draws : d.draws ≡ draws_after s
+  pub within : s.made + d.count ≤ limit
+
+-- two draws were spent, and the next turn would pass the limit; or it was drawn, and the run is as it was
+abbrev pub IsDrawn : Grammar → ℕ → State → Option DrawnHeld → State → Type 0
+IsDrawn g limit old drawn new =
+    MatchOption drawn ((limit < old.made + child_count g (next_turn g old)) × (new ≡ after_draws old))
+    (λ d. IsNextTurn g limit old d × (new ≡ old))
+
+-- a turn comes next, and the run is as it was; or it is known that none comes
+abbrev pub IsTurnOrEnd : Grammar → ℕ → ℕ → State → Option DrawnHeld → ℕ → State → Type 0
+IsTurnOrEnd g limit n old drawn left new =
+    MatchOption drawn (IsEnd (coming g limit n old) (coming g limit left new))
+    (λ d. IsNextTurn g limit old d × (0 < n) × (is_nil old.pending ≡ false) × (left ≡ n) × (new ≡ old))
+
+-- the event of a turn that was drawn, where so many instances were made before
+abbrev pub event_drawn : ℕ → DrawnHeld → Event
+event_drawn made d = Expand (numbered_name d.turn.instance.number) d.turn.production.0 (numbered_names made d.count)
 
 -- the next turn of a run: nothing but two draws where it would pass the limit; else the event of the turn
 abbrev pub IsTurn : Grammar → ℕ → State → Option Event → State → Type 0

@@ -64,14 +64,10 @@ fn production(g: &Grammar, cycles: &Cycles, m: ModNo, stays: bool, e: u32) -> Pr
     requires composite { IsComposite g.now.core m.0 }
     ensures { result.0 ≡ production_by (continuing g.now.core m.0) stays (alternative_picked g.now.core m.0 e) }
 {
-    let other = alternative(g, m, e);
-    if !stays {
-        return other;
+    if stays && let Some(production) = continuing_production(g, cycles, m) {
+        return production;
     }
-    match continuing_production(g, cycles, m) {
-        Some(production) => production,
-        None => other,
-    }
+    alternative(g, m, e)
 }
 
 /// Whether a module stays on its cycle, by the number of pending instances and a draw.

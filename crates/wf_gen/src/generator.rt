@@ -1,14 +1,15 @@
 // The generator of the events of a run.
-ghost use Rattle.std.specs.Prelude.{◌≡◌, ◌<◌, [], true, IfOk, OnOk, OnErr};
+ghost use Rattle.std.specs.Prelude.{◌≡◌, ◌<◌, [], true, IfOk, OnErr};
 ghost use Rattle.wf_model.specs.Linear.{IsLinear};
 ghost use Rattle.wf_recur.specs.Cycles.{AreCyclesOf};
 ghost use Rattle.wf_gen.specs.Draws.{draw, drawn};
 ghost use Rattle.wf_gen.specs.Turns.{generated};
-ghost use Rattle.wf_gen.specs.Coming.{IsNext, all_of, coming};
-ghost use Rattle.wf_gen.specs.Held.{AreLeft, IsKept, state_of};
+ghost use Rattle.wf_gen.specs.Coming.{IsNext, all_of};
+ghost use Rattle.wf_gen.specs.Lines.{IsNextLine};
 
 use crate::choice::draw;
-use crate::turn::{State, start, take_turn};
+use crate::next::{next_event, next_line};
+use crate::turn::State;
 use rand_core::SeedableRng;
 use rand_pcg::Pcg32;
 use std::alloc::{AllocError, Global};
@@ -36,49 +37,6 @@ impl<'a> Model for Gen<'a> {
     ghost view = { λ g. coming g.grammar.now.core g.most g.left (state_of g.state) };
 
     ghost invariant = { λ g. IsKept g.grammar.now.core g.cycles.now g.most (state_of g.state) };
-}
-
-/// How many turns are left after one: none after one that gave no event.
-fn turns_left(left: u32, event: &Option<Event>) -> u32
-    requires { 0 < left }
-    ensures { AreLeft left event.now result }
-{
-    match event {
-        Some(_) => left - 1,
-        None => 0,
-    }
-}
-
-/// The next event of a run of which so many turns are left; None where it ends. The only error is that memory is refused, and then the run is as it was.
-fn next_event(
-    alloc: Global,
-    g: &Grammar,
-    cycles: &Cycles,
-    most: u32,
-    left: &mut u32,
-    state: &mut State,
-) -> Result<Option<Event>, AllocError>
-    requires { IsKept g.now.core cycles.now most (state_of state.old) }
-    ensures next { IfOk result (λ e. IsNext (coming g.now.core most left.old (state_of state.old)) e (coming g.now.core most left.new (state_of state.new))) }
-    ensures kept { OnOk result (IsKept g.now.core cycles.now most (state_of state.new)) }
-    ensures same_left { OnErr result (left.new ≡ left.old) }
-    ensures same_state { OnErr result (state_of state.new ≡ state_of state.old) }
-{
-    // A grammar is well-formed.
-    let _formed = g.start();
-    if state.made == 0 {
-        let event = start(alloc, g, state)?;
-        return Ok(Some(event));
-    }
-    if *left == 0 {
-        return Ok(None);
-    }
-    if state.pending.is_empty() {
-        return Ok(None);
-    }
-    let event = take_turn(alloc, g, cycles, most, state)?;
-    *left = turns_left(*left, &event);
-    Ok(event)
 }
 
 impl<'a> Gen<'a> {
@@ -131,7 +89,27 @@ impl<'a> Gen<'a> {
         )
     }
 
-    /// The next draw after the last event, once `next` has answered None. Takes no memory.
+    /// Appends the line of the next event: the text that `wf_events::write_event` appends for what `next` gives, and a newline. The answer is whether there is one, as for `next`; otherwise nothing is appended.
+    ///
+    /// The only error is that memory is refused, and then the generator and the text are as they were.
+    ///
+    /// Cost: that of `next`, and linear in the line. No name is made: memory is taken for the text and for the pending instances alone.
+    pub fn write_next(&mut self, to: &mut Vec<u8>) -> Result<bool, AllocError>
+        ensures next { IfOk result (λ given. IsNextLine self.old given self.new to.old.items to.new.items) }
+        ensures unchanged { OnErr result (self.new ≡ self.old) }
+        ensures same_text { OnErr result (to.new.items ≡ to.old.items) }
+    {
+        next_line(
+            self.grammar,
+            self.cycles,
+            self.most,
+            &mut self.left,
+            &mut self.state,
+            to,
+        )
+    }
+
+    /// The next draw after the last event, once `next` has answered None, or `write_next` false. Takes no memory.
     pub fn draw(&mut self) -> u32
         requires { self.old.ended ≡ true }
         ensures draw { result ≡ draw self.old.draws }

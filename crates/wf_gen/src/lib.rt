@@ -5,7 +5,9 @@ mod choice;
 mod generator;
 mod law;
 mod names;
+mod next;
 mod pending;
+mod text;
 mod turn;
 
 pub use generator::Gen;

@@ -1,0 +1,53 @@
+-- The line of an event that was appended part by part.
+use Rattle.std.proofs.Common.{◌≡◌, ℕ, zero, suc, ◌+◌, ◌-◌, ◌<◌, List, [], ◌∷◌, ◌++◌, OnOk, sym, ap, ap₂, ◌∙◌, subst, arith, append_assoc, append-nil, codes, decimal, flat_map}
+use Rattle.std.proofs.lemmas.Grind.{flat_map-append}
+use Rattle.std.specs.declared.result.Result.{Result}
+use Rattle.std.specs.List.{join_by}
+use Rattle.wf_model.specs.declared.event.Event.TheVariants.{Expand}
+use Rattle.wf_json.specs.Canonical.{text_in_quotes}
+use Rattle.wf_gen.specs.Turns.{numbered_name, numbered_names}
+use Rattle.wf_gen.specs.Lines.{event_line}
+use Rattle.wf_gen.proofs.Numbered.{names-append}
+
+-- the text of a name behind others
+abbrev pub other_text : List ℕ → List ℕ
+other_text n = codes "," ++ text_in_quotes n
+
+-- one name more
+pub other_more : (first k : ℕ) (old now later : List ℕ) → now ≡ old ++ flat_map other_text (numbered_names first k) → later ≡ now ++ other_text (numbered_name (first + k)) → later ≡ old ++ flat_map other_text (numbered_names first (k + 1))
+other_more first k old now later so_far more =
+    let ns = numbered_names first k in
+    more ∙ (ap (λ t. t ++ other_text (numbered_name (first + k))) so_far ∙ (append_assoc old (flat_map other_text ns) (other_text (numbered_name (first + k)))
+    ∙ ap (λ t. old ++ t) (ap (λ t. flat_map other_text ns ++ t) (sym (append-nil (other_text (numbered_name (first + k))))) ∙ sym (flat_map-append other_text ns (numbered_name (first + k) ∷ []))
+    ∙ ap (flat_map other_text) (names-append first k 1))))
+
+first_joined : (first count : ℕ) (old one : List ℕ) → 0 < count → one ≡ old ++ text_in_quotes (numbered_name first) → one ++ flat_map other_text (numbered_names (first + 1) (count - 1)) ≡ old ++ join_by text_in_quotes (codes ",") (numbered_names first count)
+first_joined first zero old one some a = absurd (omega arith)
+first_joined first (suc count) old one some a =
+    let e : first + 1 ≡ suc first = omega arith in
+    let f : suc count - 1 ≡ count = omega arith in
+    ap₂ (λ (k n : ℕ). one ++ flat_map other_text (numbered_names k n)) e f
+    ∙ (ap (λ t. t ++ flat_map other_text (numbered_names (suc first) count)) a ∙ append_assoc old (text_in_quotes (numbered_name first)) (flat_map other_text (numbered_names (suc first) count)))
+
+-- the first name, and the others behind it
+pub names_joined : {E : Type 0} (result : Result (Unit {0}) E) (first count : ℕ) (old one new : List ℕ) → 0 < count → one ≡ old ++ text_in_quotes (numbered_name first)
+    → OnOk result (new ≡ one ++ flat_map other_text (numbered_names (first + 1) (count - 1))) → OnOk result (new ≡ old ++ join_by text_in_quotes (codes ",") (numbered_names first count))
+names_joined result first count old one new some a last = subst (λ t. OnOk result (new ≡ t)) (first_joined first count old one some a) last
+
+regroup : (old a q b d c o j s r n : List ℕ) → ((((((old ++ a) ++ q) ++ b) ++ d) ++ (c ++ o)) ++ j) ++ (s ++ (r ++ n)) ≡ old ++ ((a ++ (q ++ (b ++ (d ++ (c ++ ((o ++ (j ++ s)) ++ r)))))) ++ n)
+regroup old a q b d c o j s r n = simp append_assoc
+
+parts_appended : (old a q b d c o j s r n one two three four five six : List ℕ) → one ≡ old ++ a → two ≡ one ++ q → three ≡ two ++ b → four ≡ three ++ d → five ≡ four ++ (c ++ o) → six ≡ five ++ j
+    → six ++ (s ++ (r ++ n)) ≡ old ++ ((a ++ (q ++ (b ++ (d ++ (c ++ ((o ++ (j ++ s)) ++ r)))))) ++ n)
+parts_appended old a q b d c o j s r n one two three four five six e f g h k l =
+    let whole : six ++ (s ++ (r ++ n)) ≡ ((((((old ++ a) ++ q) ++ b) ++ d) ++ (c ++ o)) ++ j) ++ (s ++ (r ++ n)) = cc in
+    whole ∙ regroup old a q b d c o j s r n
+
+-- the parts of the line of an expand event
+pub line_appended : {E : Type 0} (result : Result (Unit {0}) E) (i p first count : ℕ) (old one two three four five six new : List ℕ) → one ≡ old ++ codes "{\"expand\":" → two ≡ one ++ text_in_quotes (numbered_name i)
+    → three ≡ two ++ codes ",\"production\":" → four ≡ three ++ decimal p → five ≡ four ++ codes ",\"names\":[" → six ≡ five ++ join_by text_in_quotes (codes ",") (numbered_names first count)
+    → OnOk result (new ≡ six ++ codes "]}\n") → OnOk result (new ≡ old ++ event_line (Expand (numbered_name i) p (numbered_names first count)))
+line_appended result i p first count old one two three four five six new a b c d e f last =
+    subst (λ t. OnOk result (new ≡ t))
+    (parts_appended old (codes "{\"expand\":") (text_in_quotes (numbered_name i)) (codes ",\"production\":") (decimal p) (codes ",\"names\":") (codes "[") (join_by text_in_quotes (codes ",") (numbered_names first count)) (codes "]") (codes "}") (codes "\n")
+    one two three four five six a b c d e f) last
