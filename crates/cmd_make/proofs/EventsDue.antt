@@ -1,21 +1,23 @@
 -- The lines of the events of a generator, made due one by one.
-use Rattle.std.proofs.Common.{◌≡◌, ℕ, Bool, List, [], ◌∷◌, ◌++◌, Option, Some, None, refl, sym, ap, ◌∙◌, subst, append_assoc, append-nil}
+use Rattle.std.proofs.Common.{◌≡◌, ℕ, Bool, true, false, List, [], ◌∷◌, ◌++◌, Option, refl, sym, ap, ◌∙◌, subst, append_assoc, append-nil}
 use Rattle.std.proofs.lemmas.Grind.{flat_map-append}
 use Rattle.wf_model.specs.declared.event.Event.{Event}
-use Rattle.wf_gen.specs.Coming.{Coming, IsNext}
+use Rattle.wf_gen.specs.Coming.{Coming, IsNextLine}
+use Rattle.wf_gen.specs.Lines.{event_line}
 use Rattle.wf_lines.specs.Taking.{IsDue}
 use Rattle.wf_lines.proofs.Dues.{due_still}
 use Rattle.wf_message.specs.Endings.{End, Done, NoMemory}
-use Rattle.cmd_make.specs.EventLines.{event_line, event_lines}
+use Rattle.cmd_make.specs.EventLines.{event_lines}
 use Rattle.cmd_make.specs.Putting.{MakesDue}
 use Rattle.cmd_make.proofs.MakingDue.{makes_wanting, makes_text, due_piece, piece_ends, made_due}
 
--- what a generator gives is the first of the events to come, or there is none
-pub first_given : (old : Coming) (given : Option Event) (e : Event) (new : Coming) → given ≡ Some e → IsNext old given new → old.events ≡ e ∷ new.events
-first_given old given e new is next = let first = subst (λ o. IsNext old o new) is next in first.events
+-- the line that a generator appended is that of the first of the events to come
+pub line_given : (old new : Coming) (given : Bool) (a b : List ℕ) → given ≡ true → IsNextLine old given new a b → (e : Event) × (old.events ≡ e ∷ new.events) × (b ≡ a ++ event_line e)
+line_given old new given a b is next = let first = subst (λ t. IsNextLine old t new a b) is next in (first.0, first.1.events, first.2)
 
-pub none_to_come : (old : Coming) (given : Option Event) (new : Coming) → given ≡ None → IsNext old given new → old.events ≡ []
-none_to_come old given new is next = let end = subst (λ o. IsNext old o new) is next in end.none
+-- or there is none
+pub no_line : (old new : Coming) (given : Bool) (a b : List ℕ) → given ≡ false → IsNextLine old given new a b → (old.events ≡ []) × (b ≡ a)
+no_line old new given a b is next = let end = subst (λ t. IsNextLine old t new a b) is next in (end.0.none, end.1)
 
 -- of these events the first were given, the others are to come, and the lines of those that were given are due behind what was
 pub record AreDue {T : Type 0} (bytes : T → Option (List ℕ)) (faults : T → ℕ) (all : List Event) (due : List ℕ) (coming : List Event) (due' : List ℕ) (old new : T) : Type 0 where
@@ -52,14 +54,15 @@ module _ {T : Type 0} {bytes : T → Option (List ℕ)} {faults : T → ℕ} whe
 
   module _ {last : T → Bool} (all : List Event) (due : List ℕ) (coming : List Event) (a : List ℕ) (o p : T) (so_far : AreDue bytes faults all due coming a o p) where
     -- memory was wanting for the next event
-    pub next_wanting : MakesDue bytes faults last due (event_lines all) a o p NoMemory
-    next_wanting =
-        subst (λ t. MakesDue bytes faults last due t a o p NoMemory)
+    pub next_wanting : (b : List ℕ) → MakesDue bytes faults last due (event_lines all) b o p NoMemory
+    next_wanting b =
+        subst (λ t. MakesDue bytes faults last due t b o p NoMemory)
         (sym (flat_map-append event_line so_far.given coming) ∙ ap event_lines (sym so_far.split))
-        (piece_ends due (event_lines so_far.given) [] (event_lines coming) a a o p p NoMemory so_far.due_so_far so_far.count (λ e. absurd (cc)) (makes_wanting a [] a p))
+        (piece_ends due (event_lines so_far.given) [] (event_lines coming) a b o p p NoMemory so_far.due_so_far so_far.count (λ e. absurd (cc)) (makes_wanting a [] b p))
 
     -- no event is to come
-    pub all_given : coming ≡ [] → MakesDue bytes faults last due (event_lines all) a o p Done
-    all_given none =
-        let is = so_far.split ∙ (ap (λ c. so_far.given ++ c) none ∙ append-nil so_far.given) in
-        makes_text due (event_lines all) a o p (subst (λ es. IsDue (due ++ event_lines es) a (bytes o) (bytes p)) (sym is) so_far.due_so_far) so_far.count
+    pub all_given : (b : List ℕ) → (coming ≡ []) × (b ≡ a) → MakesDue bytes faults last due (event_lines all) b o p Done
+    all_given b none =
+        let is = so_far.split ∙ (ap (λ c. so_far.given ++ c) none.0 ∙ append-nil so_far.given) in
+        makes_text due (event_lines all) b o p
+        (subst (λ es. IsDue (due ++ event_lines es) b (bytes o) (bytes p)) (sym is) (subst (λ t. IsDue (due ++ event_lines so_far.given) t (bytes o) (bytes p)) (sym none.1) so_far.due_so_far)) so_far.count

@@ -1,40 +1,26 @@
 // `gen`: SPEC, and then the events of a generated run.
-ghost use Rattle.std.specs.Prelude.{◌≡◌, ◌++◌, [], OnOk};
+ghost use Rattle.std.specs.Prelude.{◌≡◌, ℕ, ◌++◌, List, []};
 ghost use Rattle.wf_message.specs.Endings.{end_after};
 ghost use Rattle.wf_stage.specs.Ends.{IsWritten};
 ghost use Rattle.wf_stage.specs.Promises.{Writes, Obeys};
-ghost use Rattle.cmd_make.specs.EventLines.{event_line, event_lines};
+ghost use Rattle.cmd_make.specs.EventLines.{event_lines};
 ghost use Rattle.cmd_make.specs.Putting.{MakesDue};
 ghost use Rattle.cmd_make.specs.Does.{generated_text, Generates};
 
-use std::alloc::{AllocError, Global};
-use wf_events::write_event;
+use std::alloc::Global;
 use wf_gen::Gen;
 use wf_inputs::{INSTANCES, Spec, spec_stage};
 use wf_io::{Shelf, Sink};
 use wf_message::Stop;
-use wf_spec::Event;
 use wf_stage::put_text;
 
 /// From so many bytes on a text is put.
 const PIECE: usize = 65536;
 
-/// Appends the line of an event.
-fn append_line(event: &Event, text: &mut Vec<u8>) -> Result<(), AllocError>
-    ensures { OnOk result (text.new.items ≡ text.old.items ++ event_line event.now) }
+/// A text behind what was due is due. All of it is put once it is as long as a piece.
+fn put_piece<O: Sink>(text: &mut Vec<u8>, out: &mut O) -> Result<(), Stop>
+    ensures makes { (due line : List ℕ) → text.old.items ≡ due ++ line → MakesDue O.put_bytes O.faults O.at_last due line text.new.items out.old out.new (end_after result) }
 {
-    write_event(event, text)?;
-    text.push(b'\n')?;
-    Ok(())
-}
-
-/// The line of an event is due behind a text, which is put once it is as long as a piece.
-fn add_event<O: Sink>(event: &Event, text: &mut Vec<u8>, out: &mut O) -> Result<(), Stop>
-    ensures makes { MakesDue O.put_bytes O.faults O.at_last text.old.items (event_line event.now) text.new.items out.old out.new (end_after result) }
-{
-    let Ok(()) = append_line(event, text) else {
-        return Err(Stop::NoMemory);
-    };
     if text.len() < PIECE {
         return Ok(());
     }
@@ -52,13 +38,13 @@ fn add_events<O: Sink>(events: &mut Gen<'_>, text: &mut Vec<u8>, out: &mut O) ->
     ensures makes { MakesDue O.put_bytes O.faults O.at_last text.old.items (event_lines events.old.events) text.new.items out.old out.new (end_after result) }
 {
     loop {
-        match events.next() {
-            Ok(Some(event)) => {
-                if let Err(stop) = add_event(&event, text, out) {
+        match events.write_next(text) {
+            Ok(true) => {
+                if let Err(stop) = put_piece(text, out) {
                     return Err(stop);
                 }
             }
-            Ok(None) => return Ok(()),
+            Ok(false) => return Ok(()),
             Err(_) => return Err(Stop::NoMemory),
         }
     }

@@ -2,6 +2,7 @@
 use crate::json_tests::PHYLO;
 use std::alloc::{AllocError, Global};
 use std::test::Fail;
+use wf_events::write_event;
 use wf_gen::Gen;
 use wf_samples::sample;
 use wf_spec::{Event, Name};
@@ -93,5 +94,59 @@ fn runs_are_generated(rt: HostRuntime) -> Result<(), Fail> {
         assert_eq!(rt; text.as_slice(), events.as_bytes());
         assert_eq!(rt; next, draw);
     }
+    Ok(())
+}
+
+/// The lines of the events of the second run above.
+const LINES: &str =
+    "{\"start\":\"n0\"}\n{\"expand\":\"n0\",\"production\":0,\"names\":[\"n1\",\"n2\",\"n3\",\"n4\"]}\n{\"expand\":\"n3\",\"production\":3,\"names\":[\"n5\",\"n6\"]}\n{\"expand\":\"n2\",\"production\":1,\"names\":[\"n7\",\"n8\"]}\n{\"expand\":\"n8\",\"production\":1,\"names\":[\"n9\",\"n10\"]}\n";
+
+/// The lines of the events of a run, each written from its names.
+fn named(alloc: Global, asked: Asked) -> Result<Vec<u8>, Fail> {
+    let (text, n, seed, most) = asked;
+    if most < 1 {
+        return Err(Fail::new("a limit from 1 on"));
+    }
+    let s = sample(alloc, text)?;
+    let mut run = Gen::new(alloc, &s.grammar, &s.cycles, n, seed, most);
+    let mut out = Vec::new(alloc);
+    for _ in 0..16 {
+        let Some(event) = run.next()? else {
+            return Ok(out);
+        };
+        write_event(&event, &mut out)?;
+        out.push(b'\n')?;
+    }
+    Err(Fail::new("a run of fewer than 16 events"))
+}
+
+/// The lines of the events of a run, each written from its numbers, and the draw after them.
+fn numbered(alloc: Global, asked: Asked) -> Result<(Vec<u8>, u32), Fail> {
+    let (text, n, seed, most) = asked;
+    if most < 1 {
+        return Err(Fail::new("a limit from 1 on"));
+    }
+    let s = sample(alloc, text)?;
+    let mut run = Gen::new(alloc, &s.grammar, &s.cycles, n, seed, most);
+    let mut out = Vec::new(alloc);
+    for _ in 0..16 {
+        if !run.write_next(&mut out)? {
+            return Ok((out, run.draw()));
+        }
+    }
+    Err(Fail::new("a run of fewer than 16 events"))
+}
+
+#[test]
+fn lines_are_written_from_numbers(rt: HostRuntime) -> Result<(), Fail> {
+    for (asked, _, draw) in RUNS {
+        let by_names = named(rt.alloc(), asked)?;
+        let (by_numbers, next) = numbered(rt.alloc(), asked)?;
+        assert_eq!(rt; by_numbers.as_slice(), by_names.as_slice());
+        assert_eq!(rt; next, draw);
+    }
+    let (asked, _, _) = RUNS[1];
+    let (lines, _) = numbered(rt.alloc(), asked)?;
+    assert_eq!(rt; lines.as_slice(), LINES.as_bytes());
     Ok(())
 }

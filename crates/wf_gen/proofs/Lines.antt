@@ -9,30 +9,27 @@ use Rattle.wf_gen.specs.Turns.{numbered_name, numbered_names}
 use Rattle.wf_gen.specs.Lines.{event_line}
 use Rattle.wf_gen.proofs.Numbered.{names-append}
 
--- the text of a name behind others
-abbrev pub other_text : List ℕ → List ℕ
-other_text n = codes "," ++ text_in_quotes n
+module _ (text : List ℕ → List ℕ) where
+  -- one name more
+  pub name_more : (first k : ℕ) (old now later : List ℕ) → now ≡ old ++ flat_map text (numbered_names first k) → later ≡ now ++ text (numbered_name (first + k)) → later ≡ old ++ flat_map text (numbered_names first (k + 1))
+  name_more first k old now later so_far more =
+      more ∙ (ap (λ t. t ++ text (numbered_name (first + k))) so_far ∙ (append_assoc old (flat_map text (numbered_names first k)) (text (numbered_name (first + k)))
+      ∙ ap (λ t. old ++ t) (ap (λ t. flat_map text (numbered_names first k) ++ t) (sym (append-nil (text (numbered_name (first + k))))) ∙ sym (flat_map-append text (numbered_names first k) (numbered_name (first + k) ∷ []))
+      ∙ ap (flat_map text) (names-append first k 1))))
 
--- one name more
-pub other_more : (first k : ℕ) (old now later : List ℕ) → now ≡ old ++ flat_map other_text (numbered_names first k) → later ≡ now ++ other_text (numbered_name (first + k)) → later ≡ old ++ flat_map other_text (numbered_names first (k + 1))
-other_more first k old now later so_far more =
-    let ns = numbered_names first k in
-    more ∙ (ap (λ t. t ++ other_text (numbered_name (first + k))) so_far ∙ (append_assoc old (flat_map other_text ns) (other_text (numbered_name (first + k)))
-    ∙ ap (λ t. old ++ t) (ap (λ t. flat_map other_text ns ++ t) (sym (append-nil (other_text (numbered_name (first + k))))) ∙ sym (flat_map-append other_text ns (numbered_name (first + k) ∷ []))
-    ∙ ap (flat_map other_text) (names-append first k 1))))
+  first_joined : (between : List ℕ) (first count : ℕ) (old one : List ℕ) → 0 < count → one ≡ old ++ text (numbered_name first)
+      → one ++ flat_map (λ n. between ++ text n) (numbered_names (first + 1) (count - 1)) ≡ old ++ join_by text between (numbered_names first count)
+  first_joined between first zero old one some a = absurd (omega arith)
+  first_joined between first (suc count) old one some a =
+      let e : first + 1 ≡ suc first = omega arith in
+      let f : suc count - 1 ≡ count = omega arith in
+      ap₂ (λ (k n : ℕ). one ++ flat_map (λ n. between ++ text n) (numbered_names k n)) e f
+      ∙ (ap (λ t. t ++ flat_map (λ n. between ++ text n) (numbered_names (suc first) count)) a ∙ append_assoc old (text (numbered_name first)) (flat_map (λ n. between ++ text n) (numbered_names (suc first) count)))
 
-first_joined : (first count : ℕ) (old one : List ℕ) → 0 < count → one ≡ old ++ text_in_quotes (numbered_name first) → one ++ flat_map other_text (numbered_names (first + 1) (count - 1)) ≡ old ++ join_by text_in_quotes (codes ",") (numbered_names first count)
-first_joined first zero old one some a = absurd (omega arith)
-first_joined first (suc count) old one some a =
-    let e : first + 1 ≡ suc first = omega arith in
-    let f : suc count - 1 ≡ count = omega arith in
-    ap₂ (λ (k n : ℕ). one ++ flat_map other_text (numbered_names k n)) e f
-    ∙ (ap (λ t. t ++ flat_map other_text (numbered_names (suc first) count)) a ∙ append_assoc old (text_in_quotes (numbered_name first)) (flat_map other_text (numbered_names (suc first) count)))
-
--- the first name, and the others behind it
-pub names_joined : {E : Type 0} (result : Result (Unit {0}) E) (first count : ℕ) (old one new : List ℕ) → 0 < count → one ≡ old ++ text_in_quotes (numbered_name first)
-    → OnOk result (new ≡ one ++ flat_map other_text (numbered_names (first + 1) (count - 1))) → OnOk result (new ≡ old ++ join_by text_in_quotes (codes ",") (numbered_names first count))
-names_joined result first count old one new some a last = subst (λ t. OnOk result (new ≡ t)) (first_joined first count old one some a) last
+  -- the first name, and the others behind it
+  pub names_joined : {E : Type 0} (result : Result (Unit {0}) E) (between : List ℕ) (first count : ℕ) (old one new : List ℕ) → 0 < count → one ≡ old ++ text (numbered_name first)
+      → OnOk result (new ≡ one ++ flat_map (λ n. between ++ text n) (numbered_names (first + 1) (count - 1))) → OnOk result (new ≡ old ++ join_by text between (numbered_names first count))
+  names_joined result between first count old one new some a last = subst (λ t. OnOk result (new ≡ t)) (first_joined between first count old one some a) last
 
 regroup : (old a q b d c o j s r n : List ℕ) → ((((((old ++ a) ++ q) ++ b) ++ d) ++ (c ++ o)) ++ j) ++ (s ++ (r ++ n)) ≡ old ++ ((a ++ (q ++ (b ++ (d ++ (c ++ ((o ++ (j ++ s)) ++ r)))))) ++ n)
 regroup old a q b d c o j s r n = simp append_assoc

@@ -1,9 +1,10 @@
 -- What contracts see of a generator: the events to come, the draws after them, and whether it is known that none comes.
-use Rattle.std.specs.Prelude.{◌≡◌, ℕ, Bool, true, false, cond, not, ◌||◌, ◌&&◌, ◌==◌, List, [], ◌∷◌, Option, MatchOption}
+use Rattle.std.specs.Prelude.{◌≡◌, ℕ, Bool, true, false, cond, not, ◌||◌, ◌&&◌, ◌==◌, List, [], ◌∷◌, ◌++◌, Option, MatchOption}
 use Rattle.rand_pcg.specs.Lcg.{Lcg}
 use Rattle.wf_model.specs.Grammar.{Grammar}
 use Rattle.wf_model.specs.Faults.{is_nil}
 use Rattle.wf_model.specs.declared.event.Event.{Event}
+use Rattle.wf_gen.specs.Lines.{event_line}
 use Rattle.wf_gen.specs.Turns.{State, Generated, turns, started}
 
 -- the events to come, the generator of the draws after the last of them, and whether no further turn is tried
@@ -43,3 +44,8 @@ pub record IsFirst (old : Coming) (e : Event) (new : Coming) : Type 0 where
 -- what is given is the first of the events to come, and nothing exactly where there is none
 abbrev pub IsNext : Coming → Option Event → Coming → Type 0
 IsNext old given new = MatchOption given (IsEnd old new) (λ e. IsFirst old e new)
+
+-- the line of the first of the events to come was appended, and the others are to come; or nothing was appended, and it is known that none comes
+abbrev pub IsNextLine : Coming → Bool → Coming → List ℕ → List ℕ → Type 0
+IsNextLine old true new before after = (e : Event) × IsFirst old e new × (after ≡ before ++ event_line e)
+IsNextLine old false new before after = IsEnd old new × (after ≡ before)

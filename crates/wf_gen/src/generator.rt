@@ -4,8 +4,7 @@ ghost use Rattle.wf_model.specs.Linear.{IsLinear};
 ghost use Rattle.wf_recur.specs.Cycles.{AreCyclesOf};
 ghost use Rattle.wf_gen.specs.Draws.{draw, drawn};
 ghost use Rattle.wf_gen.specs.Turns.{generated};
-ghost use Rattle.wf_gen.specs.Coming.{IsNext, all_of};
-ghost use Rattle.wf_gen.specs.Lines.{IsNextLine};
+ghost use Rattle.wf_gen.specs.Coming.{IsNext, IsNextLine, all_of};
 
 use crate::choice::draw;
 use crate::next::{next_event, next_line};

@@ -2,9 +2,9 @@
 ghost use Rattle.std.specs.Prelude.{◌≡◌, ◌<◌, ◌++◌, [], IfOk, OnOk, OnErr};
 ghost use Rattle.wf_model.specs.declared.event.Event.TheVariants.{Start};
 ghost use Rattle.wf_gen.specs.Turns.{numbered_name, after_turn, first_state};
-ghost use Rattle.wf_gen.specs.Coming.{IsNext, coming};
+ghost use Rattle.wf_gen.specs.Coming.{IsNext, IsNextLine, coming};
 ghost use Rattle.wf_gen.specs.Held.{CanTake, IsKept, IsTurnOrEnd, event_drawn, state_of, turn_of};
-ghost use Rattle.wf_gen.specs.Lines.{IsNextLine, event_line};
+ghost use Rattle.wf_gen.specs.Lines.{event_line};
 
 use crate::names::{expand_event, start_event};
 use crate::text::{append_expand, append_start};
