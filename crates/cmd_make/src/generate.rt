@@ -17,9 +17,10 @@ use wf_stage::put_text;
 /// From so many bytes on a text is put.
 const PIECE: usize = 65536;
 
-/// A text behind what was due is due. All of it is put once it is as long as a piece.
+/// Puts a text once it is as long as a piece, and leaves a shorter one due. The text is what was due, and a line behind it.
 fn put_piece<O: Sink>(text: &mut Vec<u8>, out: &mut O) -> Result<(), Stop>
-    ensures makes { (due line : List ℕ) → text.old.items ≡ due ++ line → MakesDue O.put_bytes O.faults O.at_last due line text.new.items out.old out.new (end_after result) }
+    ensures makes { (due line : List ℕ) → text.old.items ≡ due ++ line
+        → MakesDue O.put_bytes O.faults O.at_last due line text.new.items out.old out.new (end_after result) }
 {
     if text.len() < PIECE {
         return Ok(());

@@ -86,7 +86,8 @@ pub(crate) fn next_line(
     to: &mut Vec<u8>,
 ) -> Result<bool, AllocError>
     requires { IsKept g.now.core cycles.now most (state_of state.old) }
-    ensures next { IfOk result (λ given. IsNextLine (coming g.now.core most left.old (state_of state.old)) given (coming g.now.core most left.new (state_of state.new)) to.old.items to.new.items) }
+    ensures next { IfOk result (λ given. IsNextLine (coming g.now.core most left.old (state_of state.old)) given
+        (coming g.now.core most left.new (state_of state.new)) to.old.items to.new.items) }
     ensures kept { OnOk result (IsKept g.now.core cycles.now most (state_of state.new)) }
     ensures same_left { OnErr result (left.new ≡ left.old) }
     ensures same_state { OnErr result (state_of state.new ≡ state_of state.old) }

@@ -29,7 +29,8 @@ pub(crate) fn append_expand(
 ) -> Result<(), AllocError>
     requires numbers { first + count < 2 ^ 32 }
     requires begun { begun ≤ length to.old.items }
-    ensures ok { OnOk result (to.new.items ≡ to.old.items ++ event_line (Expand (numbered_name turn.instance.number) turn.production.0 (numbered_names first count))) }
+    ensures ok { OnOk result (to.new.items ≡ to.old.items
+        ++ event_line (Expand (numbered_name turn.instance.number) turn.production.0 (numbered_names first count))) }
     ensures err { OnErr result (to.new.items ≡ take begun to.old.items) }
 {
     append_part(b"{\"expand\":", begun, to)?;
