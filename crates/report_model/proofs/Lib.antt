@@ -1,0 +1,5 @@
+pub mod Events
+pub mod FirstOnes
+pub mod Reordered
+pub mod LateFaults
+pub mod Holding
