@@ -6,3 +6,4 @@ pub mod Holding
 pub mod Applying
 pub mod Growing
 pub mod Ready
+pub mod TakenReports
