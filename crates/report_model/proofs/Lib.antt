@@ -7,3 +7,4 @@ pub mod Applying
 pub mod Growing
 pub mod Ready
 pub mod TakenReports
+pub mod InOrder

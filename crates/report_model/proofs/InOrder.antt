@@ -1,0 +1,100 @@
+-- Reports of an accepted run in its own order: each is applied when it comes.
+use Rattle.std.proofs.Common.{◌≡◌, ℕ, zero, suc, ◌+◌, ◌≤◌, Bool, true, cond, List, [], ◌∷◌, ◌++◌, length, Option, Some, None, refl, sym, ap, ◌∙◌, subst, inl, inr, arith, append_assoc, append-nil, length-append}
+use Rattle.std.specs.List.{find}
+use Rattle.std.proofs.lemmas.List.{map-append}
+use Rattle.wf_model.specs.Lists.{IsIn, AllDiffer}
+use Rattle.wf_model.specs.Grammar.{Grammar}
+use Rattle.wf_model.specs.declared.event.Event.{Event}
+use Rattle.wf_model.specs.declared.event.Event.TheVariants.{Start, Expand}
+use Rattle.wf_model.specs.declared.event.RunFault.{RunFault}
+use Rattle.wf_model.specs.Run.{made, names_of, Extends, IsAccepted}
+use Rattle.wf_model.specs.Faults.{is_nil, fault_of}
+use Rattle.wf_model.proofs.Lists.{in_append_left, in_append_right, among_from}
+use Rattle.wf_model.proofs.Runs.{made-append, name_in, AllExtend-append}
+use Rattle.wf_model.proofs.Taking.{taking_law}
+use Rattle.label_model.proofs.Differing.{differ_parts}
+use Rattle.report_model.specs.Reports.{Report, reported, about}
+use Rattle.report_model.specs.Intake.{Intake, nothing_taken, Taking, GoesOn, and_then, without_first, is_ready, ready_in, hold_beside, hold, apply_unless, without_ready, apply_one, apply_ready, take_report, take_reports, end_with}
+use Rattle.report_model.specs.Laws.{InOrderLaw}
+use Rattle.report_model.proofs.Events.{one_subject, events_differ}
+use Rattle.report_model.proofs.FirstOnes.{report_in, reported-more, taken_out}
+use Rattle.report_model.proofs.Ready.{names_within}
+
+-- the state where each report was applied when it came
+abbrev all_applied : List Report → Intake
+all_applied done = record { run = reported done; held = []; known = done }
+
+ready_where_taken : (g : Grammar) (run : List Event) (x : Event) → Extends g g.start run x → is_ready g run x ≡ true
+ready_where_taken g run (Start r) h = ap is_nil h.0
+ready_where_taken g run (Expand i p names) h = among_from i (names_of (made g g.start run)) (name_in _ (made g g.start run) h.stands)
+
+-- an event of an accepted run has no fault after those before it
+no_fault : (g : Grammar) (most : ℕ) (a : List Event) (x : Event) (b : List Event) → IsAccepted g most (a ++ x ∷ b) → fault_of g most a x ≡ None
+no_fault g most a x b acc =
+    let parts = AllExtend-append g g.start [] a (x ∷ b) acc.0 in
+    let whole : a ++ x ∷ b ≡ (a ++ x ∷ []) ++ b = sym (append_assoc a (x ∷ []) b) in
+    let more = (AllExtend-append g g.start [] (a ++ x ∷ []) b (subst (λ z. IsAccepted g most z) whole acc).0).0 in
+    let l : length (made g g.start (a ++ x ∷ b)) ≡ length (made g g.start a) + length (made g g.start (x ∷ b)) = ap length (made-append g g.start a (x ∷ b)) ∙ length-append (made g g.start a) (made g g.start (x ∷ b)) in
+    let k : length (made g g.start (a ++ x ∷ b)) ≡ length (made g g.start (a ++ x ∷ [])) + length (made g g.start b) = ap (λ z. length (made g g.start z)) whole ∙ (ap length (made-append g g.start (a ++ x ∷ []) b) ∙ length-append (made g g.start (a ++ x ∷ [])) (made g g.start b)) in
+    let few : length (made g g.start (a ++ x ∷ b)) ≤ most = acc.1 in
+    let one : IsAccepted g most a = (parts.0, omega (arith, l, few), λ n h. acc.2 n (names_within g g.start a (a ++ x ∷ b) (λ y i. in_append_left y a (x ∷ b) i) n h)) in
+    let two : IsAccepted g most (a ++ x ∷ []) = (more, omega (arith, k, few), λ n h. acc.2 n (names_within g g.start (a ++ x ∷ []) (a ++ x ∷ b) (λ y i. subst (IsIn y) (sym whole) (in_append_left y (a ++ x ∷ []) b i)) n h)) in
+    (taking_law g most a x one).1 two
+
+module _ (g : Grammar) (most : ℕ) where
+  -- the next report is applied
+  applied_next : (done : List Report) (r : Report) (more : List Report) → IsAccepted g most (reported (done ++ r ∷ more)) → take_report g most (all_applied done) r ≡ GoesOn (all_applied (done ++ r ∷ []))
+  applied_next done r more acc =
+      ap (λ u. and_then u (λ t. apply_ready g most (length t.held) t)) is_held ∙ (first_is ∙ (no_fault_here ∙ ends))
+    where
+      x : Event
+      x = r.event
+
+      run : List Event
+      run = reported done
+
+      whole : reported (done ++ r ∷ more) ≡ run ++ x ∷ reported more
+      whole = map-append (λ (k : Report). k.event) done (r ∷ more)
+
+      acc_here : IsAccepted g most (run ++ x ∷ reported more)
+      acc_here = subst (IsAccepted g most) whole acc
+
+      apart : IsIn x run → ⊥
+      apart h = (differ_parts run (x ∷ reported more) (events_differ g g.start [] (run ++ x ∷ reported more) acc_here.0)).2 x h (inl refl)
+
+      unknown : (o : Option Report) → find (about x) done ≡ o → find (about x) done ≡ None
+      unknown None q = q
+      unknown (Some k) q =
+          let t = taken_out (about x) done k q in
+          let there : IsIn k.event run = report_in k done t.here in
+          absurd (apart (subst (λ z. IsIn z run) (one_subject g g.start (run ++ x ∷ reported more) acc_here.0 k.event x (in_append_left k.event run (x ∷ reported more) there) (in_append_right x run (x ∷ reported more) (inl refl)) t.passes) there))
+
+      held_one : Intake
+      held_one = record { run = run; held = r ∷ []; known = done ++ r ∷ [] }
+
+      is_held : hold (all_applied done) r ≡ GoesOn held_one
+      is_held = ap (hold_beside (all_applied done) r) (unknown (find (about x) done) refl)
+
+      ready : is_ready g run x ≡ true
+      ready = ready_where_taken g run x (AllExtend-append g g.start [] run (x ∷ reported more) acc_here.0).1.0
+
+      first_is : apply_ready g most 1 held_one ≡ apply_one g most (apply_ready g most 0) held_one (Some r)
+      first_is = ap (λ b. apply_one g most (apply_ready g most 0) held_one (cond b (Some r) None)) ready
+
+      no_fault_here : apply_one g most (apply_ready g most 0) held_one (Some r) ≡ apply_unless (apply_ready g most 0) (without_ready g held_one) r None
+      no_fault_here = ap (apply_unless (apply_ready g most 0) (without_ready g held_one) r) (no_fault g most run x (reported more) acc_here)
+
+      ends : apply_unless (apply_ready g most 0) (without_ready g held_one) r None ≡ GoesOn (all_applied (done ++ r ∷ []))
+      ends =
+          ap (λ (b : Bool). GoesOn (record { run = run ++ x ∷ []; held = cond b [] (r ∷ []); known = done ++ r ∷ [] })) ready ∙
+          ap (λ (z : List Event). GoesOn (record { run = z; held = []; known = done ++ r ∷ [] })) (sym (reported-more done r))
+
+  applied_all : (rs done : List Report) → IsAccepted g most (reported (done ++ rs)) → take_reports g most (all_applied done) rs ≡ GoesOn (all_applied (done ++ rs))
+  applied_all [] done acc = ap (λ z. GoesOn (all_applied z)) (sym (append-nil done))
+  applied_all (r ∷ rs) done acc =
+      let whole : (done ++ r ∷ []) ++ rs ≡ done ++ r ∷ rs = append_assoc done (r ∷ []) rs in
+      ap (λ u. and_then u (λ t. take_reports g most t rs)) (applied_next done r rs acc) ∙
+      (applied_all rs (done ++ r ∷ []) (subst (λ z. IsAccepted g most (reported z)) (sym whole) acc) ∙ ap (λ z. GoesOn (all_applied z)) whole)
+
+pub in_order_law : InOrderLaw
+in_order_law g most rs acc = ap (λ u. and_then u (λ t. end_with t t.held)) (applied_all g most rs [] acc)
