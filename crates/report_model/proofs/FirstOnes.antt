@@ -1,10 +1,10 @@
 -- The first report that passes a test, and the others.
-use Rattle.std.proofs.Common.{◌≡◌, ℕ, suc, ◌≤◌, ◌⊎◌, Bool, true, false, cond, List, [], ◌∷◌, ◌++◌, length, Option, Some, None, refl, sym, ap, ◌∙◌, subst, inl, inr, ⊎_elim, arith, true≢false}
+use Rattle.std.proofs.Common.{◌≡◌, suc, ◌≤◌, ◌⊎◌, Bool, true, false, cond, List, [], ◌∷◌, ◌++◌, length, Some, None, refl, sym, ap, ◌∙◌, subst, inl, inr, ⊎_elim, arith, true≢false}
 use Rattle.std.specs.List.{find}
 use Rattle.std.proofs.lemmas.List.{map-append}
 use Rattle.wf_model.specs.Lists.{IsIn, AllDiffer}
 use Rattle.wf_model.specs.declared.event.Event.{Event}
-use Rattle.wf_model.proofs.Lists.{in_map, in_map_from, in_append_left, in_append_right, in_append_cases}
+use Rattle.wf_model.proofs.Lists.{in_map, in_map_from, in_append_right, in_append_cases}
 use Rattle.report_model.specs.Reports.{Report, reported}
 use Rattle.report_model.specs.Intake.{without_first}
 

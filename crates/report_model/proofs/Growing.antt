@@ -7,7 +7,7 @@ use Rattle.wf_model.specs.declared.event.RunFault.{RunFault}
 use Rattle.wf_model.specs.Faults.{fault_of}
 use Rattle.report_model.specs.Reports.{Report, same_event, about}
 use Rattle.report_model.specs.Intake.{Intake, nothing_taken, Conflict, Taking, GoesOn, Stops, state_after, and_then, ready_in, hold_beside, hold, apply_unless, without_ready, apply_one, apply_ready, take_report, take_reports, end_with, intake}
-use Rattle.report_model.specs.Laws.{Grows, GrowingLaw}
+use Rattle.report_model.specs.Laws.{GrowingLaw}
 
 -- the run of what is taken goes on from this run
 abbrev GoesFrom : List Event → Taking → Type 0

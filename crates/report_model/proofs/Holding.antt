@@ -1,26 +1,18 @@
 -- What holds of the state of the intake after some reports, and how a report is held and applied.
-use Rattle.std.proofs.Common.{◌≡◌, ◌≢◌, ◌⊎◌, ℕ, zero, suc, ◌≤◌, Bool, true, false, cond, List, [], ◌∷◌, ◌++◌, length, Option, Some, None, refl, sym, ap, ◌∙◌, subst, inl, inr, ⊎_elim, arith, true≢false, append_assoc, append-nil}
+use Rattle.std.proofs.Common.{◌≡◌, ◌≢◌, ◌⊎◌, ℕ, Bool, true, false, cond, List, [], ◌∷◌, ◌++◌, Option, Some, None, refl, sym, ap, ◌∙◌, subst, inl, inr, ⊎_elim, true≢false}
 use Rattle.std.specs.List.{find}
 use Rattle.std.specs.Option.{option_or}
 use Rattle.std.proofs.lemmas.List.Folds.{find-append}
 use Rattle.wf_model.specs.Lists.{IsIn, AllDiffer}
 use Rattle.wf_model.specs.Grammar.{Grammar}
 use Rattle.wf_model.specs.declared.event.Event.{Event}
-use Rattle.wf_model.specs.declared.event.Event.TheVariants.{Start, Expand}
-use Rattle.wf_model.specs.declared.event.RunFault.{RunFault}
-use Rattle.wf_model.specs.Run.{Expanded, expanded_by, IsAccepted}
-use Rattle.wf_model.specs.Faults.{fault_of}
-use Rattle.wf_model.proofs.Lists.{in_append_left, in_append_right}
-use Rattle.wf_model.proofs.Taking.{taking_law}
-use Rattle.wf_model.proofs.Expanding.{expanded_from}
-use Rattle.wf_model.proofs.Lists.{bytes_same}
+use Rattle.wf_model.specs.Run.{IsAccepted}
+use Rattle.wf_model.proofs.Lists.{in_append_left}
 use Rattle.label_model.proofs.Differing.{differ-append}
 use Rattle.report_model.specs.Reports.{Report, reported, subject_of, same_subject, same_event, about}
-use Rattle.report_model.specs.Intake.{Intake, ReportFault, Conflict, Refused, Taking, GoesOn, Stops, without_first, is_ready, ready_in, hold_beside, hold, apply_unless, without_ready, apply_one, apply_ready}
-use Rattle.report_model.specs.Laws.{NoneReady}
+use Rattle.report_model.specs.Intake.{Intake, Conflict, Taking, GoesOn, Stops, hold_beside, hold}
 use Rattle.report_model.proofs.Events.{event_same, same_itself, subject_itself, subjects_same, same_subjects}
-use Rattle.report_model.proofs.FirstOnes.{report_in, report_from, reported-more, more_cases, last_in, IsTakenOut, taken_out, none_passes, none_of_none}
-use Rattle.report_model.proofs.LateFaults.{IsLate, late_fault}
+use Rattle.report_model.proofs.FirstOnes.{report_in, report_from, reported-more, more_cases, last_in, taken_out, none_passes}
 
 -- what holds of a state after the reports that are done, if none of them was refused
 pub record Holds (g : Grammar) (most : ℕ) (done : List Report) (s : Intake) : Type 0 where

@@ -1,12 +1,11 @@
 -- Reports of an accepted run in its own order: each is applied when it comes.
-use Rattle.std.proofs.Common.{◌≡◌, ℕ, zero, suc, ◌+◌, ◌≤◌, Bool, true, cond, List, [], ◌∷◌, ◌++◌, length, Option, Some, None, refl, sym, ap, ◌∙◌, subst, inl, inr, arith, append_assoc, append-nil, length-append}
+use Rattle.std.proofs.Common.{◌≡◌, ℕ, ◌+◌, ◌≤◌, Bool, true, cond, List, [], ◌∷◌, ◌++◌, length, Option, Some, None, refl, sym, ap, ◌∙◌, subst, inl, arith, append_assoc, append-nil, length-append}
 use Rattle.std.specs.List.{find}
 use Rattle.std.proofs.lemmas.List.{map-append}
-use Rattle.wf_model.specs.Lists.{IsIn, AllDiffer}
+use Rattle.wf_model.specs.Lists.{IsIn}
 use Rattle.wf_model.specs.Grammar.{Grammar}
 use Rattle.wf_model.specs.declared.event.Event.{Event}
 use Rattle.wf_model.specs.declared.event.Event.TheVariants.{Start, Expand}
-use Rattle.wf_model.specs.declared.event.RunFault.{RunFault}
 use Rattle.wf_model.specs.Run.{made, names_of, Extends, IsAccepted}
 use Rattle.wf_model.specs.Faults.{is_nil, fault_of}
 use Rattle.wf_model.proofs.Lists.{in_append_left, in_append_right, among_from}
@@ -14,7 +13,7 @@ use Rattle.wf_model.proofs.Runs.{made-append, name_in, AllExtend-append}
 use Rattle.wf_model.proofs.Taking.{taking_law}
 use Rattle.label_model.proofs.Differing.{differ_parts}
 use Rattle.report_model.specs.Reports.{Report, reported, about}
-use Rattle.report_model.specs.Intake.{Intake, nothing_taken, Taking, GoesOn, and_then, without_first, is_ready, ready_in, hold_beside, hold, apply_unless, without_ready, apply_one, apply_ready, take_report, take_reports, end_with}
+use Rattle.report_model.specs.Intake.{Intake, GoesOn, and_then, is_ready, hold_beside, hold, apply_unless, without_ready, apply_one, apply_ready, take_report, take_reports, end_with}
 use Rattle.report_model.specs.Laws.{InOrderLaw}
 use Rattle.report_model.proofs.Events.{one_subject, events_differ}
 use Rattle.report_model.proofs.FirstOnes.{report_in, reported-more, taken_out}

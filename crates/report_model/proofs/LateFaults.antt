@@ -1,5 +1,5 @@
 -- The faults of an event that is ready, and whose instance has not been expanded: four of the ten are not among them.
-use Rattle.std.proofs.Common.{◌≡◌, ◌≢◌, ◌⊎◌, ℕ, Bool, true, false, cond, not, List, [], ◌∷◌, Option, Some, None, is_some, refl, sym, ap, ◌∙◌, subst, inl, inr, true≢false}
+use Rattle.std.proofs.Common.{◌≡◌, ◌≢◌, ◌⊎◌, ℕ, Bool, true, false, cond, not, List, [], ◌∷◌, Some, None, is_some, refl, sym, ap, ◌∙◌, inl, inr, true≢false}
 use Rattle.wf_model.specs.Grammar.{Grammar}
 use Rattle.wf_model.specs.declared.event.Event.{Event}
 use Rattle.wf_model.specs.declared.event.Event.TheVariants.{Start, Expand}

@@ -8,3 +8,4 @@ pub mod Growing
 pub mod Ready
 pub mod TakenReports
 pub mod InOrder
+pub mod WorkedReports

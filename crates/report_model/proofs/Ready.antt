@@ -1,14 +1,14 @@
 -- A run within another: an event of the other that is ready is taken, and where one is missing, the first such one is ready.
-use Rattle.std.proofs.Common.{◌≡◌, ◌⊎◌, ℕ, ◌≤◌, Bool, true, false, List, [], ◌∷◌, ◌++◌, length, Option, Some, None, refl, sym, ap, ◌∙◌, subst, inl, inr, ⊎_elim, arith, true≢false}
+use Rattle.std.proofs.Common.{◌≡◌, ◌⊎◌, ℕ, ◌≤◌, true, List, [], ◌∷◌, ◌++◌, length, Option, Some, None, refl, sym, ap, subst, inl, inr, ⊎_elim, arith}
 use Rattle.std.proofs.lemmas.List.{length-map}
 use Rattle.wf_model.specs.Lists.{IsIn}
 use Rattle.wf_model.specs.Grammar.{Grammar, head_of, body_of}
 use Rattle.wf_model.specs.declared.event.Event.{Event}
 use Rattle.wf_model.specs.declared.event.Event.TheVariants.{Start, Expand}
 use Rattle.wf_model.specs.Run.{Instance, Expanded, named, made, made_by, names_of, expanded_by, CanExpand, Extends, AllExtend, IsRun, IsAccepted}
-use Rattle.wf_model.specs.Faults.{is_nil, is_one_of}
-use Rattle.wf_model.proofs.Lists.{in_append_left, in_flat_map, in_flat_map_from, among_gives, among_from}
-use Rattle.wf_model.proofs.Runs.{made-append, names-named, name_in, name_from}
+use Rattle.wf_model.specs.Faults.{is_nil}
+use Rattle.wf_model.proofs.Lists.{in_flat_map, in_flat_map_from, among_gives, among_from}
+use Rattle.wf_model.proofs.Runs.{names-named, name_in, name_from}
 use Rattle.wf_model.proofs.Differ.{one_of_name}
 use Rattle.wf_model.proofs.Taking.{run_differs, extended, nil_gives}
 use Rattle.wf_model.proofs.Expanding.{expanded_from, one_expansion}

@@ -1,5 +1,5 @@
 -- Runs with the same events: they have the same root, expansions, addresses and labels.
-use Rattle.std.proofs.Common.{◌≡◌, ◌↔◌, ℕ, List, [], ◌∷◌, map, length, zip, get_or, Option, Some, None, refl, sym, ap, ◌∙◌, subst, inl, inr}
+use Rattle.std.proofs.Common.{◌≡◌, ℕ, List, [], ◌∷◌, map, length, zip, get_or, Option, Some, None, refl, sym, ap, ◌∙◌, subst, inl}
 use Rattle.wf_model.specs.Lists.{IsIn, numbers_from}
 use Rattle.wf_model.specs.Grammar.{Grammar, head_of, production_at}
 use Rattle.wf_model.specs.WellFormed.{IsWellFormed}
@@ -9,7 +9,7 @@ use Rattle.wf_model.specs.Run.{Instance, Expanded, made, expanded_by, IsRun, roo
 use Rattle.wf_model.specs.Items.{Item, items_by}
 use Rattle.wf_model.specs.Reach.{Step}
 use Rattle.wf_model.specs.Routes.{IsAddress}
-use Rattle.wf_model.proofs.Lists.{in_flat_map, in_flat_map_from}
+use Rattle.wf_model.proofs.Lists.{in_map, in_map_from, in_flat_map, in_flat_map_from}
 use Rattle.wf_model.proofs.Runs.{name_in}
 use Rattle.wf_model.proofs.Expanding.{expanded_from}
 use Rattle.wf_laws.proofs.Order.{order_law}
@@ -17,6 +17,7 @@ use Rattle.wf_laws.proofs.Routes.{address_law}
 use Rattle.label_model.specs.Labels.{Label, OfEdge}
 use Rattle.label_model.specs.Places.{place_of}
 use Rattle.label_model.specs.RunLabels.{address_in, labels_by, labelled_by, labelled}
+use Rattle.label_model.specs.Files.{Entry, entry_of, entries_of}
 use Rattle.label_model.proofs.TakenEvents.{expansion_of}
 use Rattle.label_model.proofs.InstanceAddresses.{known}
 use Rattle.report_model.specs.Laws.{ReorderedLaw}
@@ -61,6 +62,9 @@ module _ (g : Grammar) (e f : List Event) (wf : IsWellFormed g) (run_e : IsRun g
       let r = in_flat_map_from (labelled_by g e) (t, l) e h in
       in_flat_map (labelled_by g f) r.0 (t, l) f (to r.0 r.1) (subst (λ z. IsIn (t, l) (zip (items_by g g.start r.0) z)) (same_labels r.0 r.1) r.2)
 
+entries_within : (g : Grammar) (e f : List Event) → ((t : Item) (l : Label) → IsIn (t, l) (labelled g e) → IsIn (t, l) (labelled g f)) → (x : Entry) → IsIn x (entries_of g e) → IsIn x (entries_of g f)
+entries_within g e f h x i = let r = in_map_from entry_of x (labelled g e) i in subst (λ z. IsIn z (entries_of g f)) (sym r.2) (in_map entry_of r.0 (labelled g f) (h r.0.0 r.0.1 r.1))
+
 pub reordered_law : ReorderedLaw
 reordered_law g e f wf run_e run_f same =
     let to : (x : Event) → IsIn x e → IsIn x f = λ x. (same x).0 in
@@ -73,4 +77,5 @@ reordered_law g e f wf run_e run_f same =
       expansions = same_expansions g e f run_e run_f to from;
       addresses = λ n a c. (along_to g e f run_e run_f to from a n c, along_to g f e run_f run_e from to a n c);
       labels = λ t l. (labels_to g e f wf run_e run_f to from t l, labels_to g f e wf run_f run_e from to t l);
+      entries = λ x. (entries_within g e f (labels_to g e f wf run_e run_f to from) x, entries_within g f e (labels_to g f e wf run_f run_e from to) x);
     }

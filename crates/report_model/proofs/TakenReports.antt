@@ -1,23 +1,26 @@
 -- What reports come to when they are taken one after another, and at their end.
-use Rattle.std.proofs.Common.{◌≡◌, ◌≢◌, ◌⊎◌, ℕ, ◌≤◌, Bool, true, false, List, [], ◌∷◌, ◌++◌, zero, suc, length, Option, Some, None, refl, sym, ap, ◌∙◌, subst, inl, inr, ⊎_elim, arith, append_assoc, append-nil}
+use Rattle.std.proofs.Common.{◌≡◌, ◌≢◌, ℕ, ◌≤◌, Bool, true, false, List, [], ◌∷◌, ◌++◌, zero, suc, length, Option, Some, None, refl, sym, ap, ◌∙◌, subst, inl, ⊎_elim, arith, append_assoc, append-nil}
 use Rattle.std.specs.List.{find}
-use Rattle.wf_model.specs.Lists.{IsIn, AllDiffer}
+use Rattle.wf_model.specs.Lists.{IsIn}
 use Rattle.wf_model.specs.Grammar.{Grammar}
 use Rattle.wf_model.specs.declared.event.Event.{Event}
 use Rattle.wf_model.specs.declared.event.RunFault.{RunFault}
-use Rattle.wf_model.specs.Run.{IsAccepted}
+use Rattle.wf_model.specs.Run.{IsRun, IsAccepted}
 use Rattle.wf_model.specs.Faults.{fault_of}
 use Rattle.wf_model.proofs.Lists.{in_append_left}
 use Rattle.wf_model.proofs.Taking.{taking_law}
+use Rattle.label_model.specs.Files.{label_file}
+use Rattle.label_model.proofs.FileGrowth.{file_grows_law}
 use Rattle.report_model.specs.Reports.{Report, reported, about}
 use Rattle.report_model.specs.Intake.{Intake, nothing_taken, ReportFault, Conflict, Refused, Orphan, Taking, GoesOn, Stops, state_after, and_then, is_ready, hold, apply_ready, take_report, take_reports, end_with, intake, without_first, ready_in, apply_unless, without_ready, apply_one}
-use Rattle.report_model.specs.Laws.{NoneReady, IsRefused, contradicts, not_taken, never_ready, AreTaken, AnyOrderLaw, TakenLaw, AcceptedLaw, AllReadyLaw, RefusedLaw, IsRunOfSome}
+use Rattle.report_model.specs.Laws.{NoneReady, IsRefused, contradicts, not_taken, never_ready, AreTaken, AnyOrderLaw, TakenLaw, AcceptedLaw, AllReadyLaw, RefusedLaw, FileOfMoreLaw, IsRunOfSome}
 use Rattle.report_model.proofs.Events.{one_subject, events_differ}
 use Rattle.report_model.proofs.FirstOnes.{report_in, report_from, last_in, taken_out, none_passes, none_of_none}
 use Rattle.report_model.proofs.Holding.{Holds, AfterHold, held, find_kept}
-use Rattle.report_model.proofs.Applying.{IsApplied, IsNotApplied, AfterApply, after_apply, run_within}
-use Rattle.report_model.proofs.Ready.{accepted_when_ready, all_or_missing, IsMissing}
-use Rattle.report_model.proofs.Growing.{at_end}
+use Rattle.report_model.proofs.Applying.{AfterApply, after_apply, run_within}
+use Rattle.report_model.proofs.Ready.{accepted_when_ready, all_or_missing}
+use Rattle.report_model.proofs.Growing.{at_end, growing_law}
+use Rattle.report_model.proofs.Reordered.{reordered_law}
 
 -- one of the reports was refused before their end
 record IsStopped (g : Grammar) (most : ℕ) (done : List Report) (t : Intake) (f : ReportFault) : Type 0 where
@@ -140,8 +143,8 @@ module _ (g : Grammar) (most : ℕ) where
         ⊎_elim
         (λ all. nil_from s.held (λ r h. hs.held_new r.event (report_in r s.held h) (all r.event ((same r.event).0 (report_in r rs (hs.from r (hs.held_known r h)))))))
         (λ m. absurd (
-          let w = report_from m.0 rs ((same m.0).1 m.1.0) in
-          ⊎_elim (λ a. m.1.1 a) (λ a. let v = report_from m.0 s.held a in ready v.0 v.1 (ap (is_ready g s.run) (sym v.2) ∙ m.1.2)) (hs.split m.0 (subst (λ z. IsIn z (reported s.known)) (sym w.2) (hs.all_known w.0 w.1)))
+        let w = report_from m.0 rs ((same m.0).1 m.1.0) in
+        ⊎_elim (λ a. m.1.1 a) (λ a. let v = report_from m.0 s.held a in ready v.0 v.1 (ap (is_ready g s.run) (sym v.2) ∙ m.1.2)) (hs.split m.0 (subst (λ z. IsIn z (reported s.known)) (sym w.2) (hs.all_known w.0 w.1)))
         ))
         (all_or_missing g e acc.0 s.run hs.accepted.0 sub)
 
@@ -153,7 +156,9 @@ module _ (g : Grammar) (most : ℕ) where
         go (Stops s f) q h = absurd (none_refused s.run f h.accepted h.within h.why h.within_end)
 
 pub any_order_law : AnyOrderLaw
-any_order_law g most e rs acc same = any_order g most e rs acc same
+any_order_law g most e rs acc same =
+    let t = any_order g most e rs acc same in
+    (t, λ wf. reordered_law g e t.state.run wf acc.0 t.accepted.0 (λ x. ((λ h. (t.events x).0 ((same x).1 h)), (λ h. (same x).0 ((t.events x).1 h)))))
 
 pub taken_law : TakenLaw
 taken_law g most rs s e =
@@ -169,6 +174,15 @@ accepted_law g most rs =
     go : (u : Taking) → AfterReports g most rs u → IsRunOfSome g most rs (state_after u).run
     go (GoesOn s) h = record { accepted = h.0.accepted; within = run_within g most rs s h.0; once = events_differ g g.start [] s.run h.0.accepted.0 }
     go (Stops s f) h = record { accepted = h.accepted; within = h.within; once = events_differ g g.start [] s.run h.accepted.0 }
+
+pub file_of_more_law : FileOfMoreLaw
+file_of_more_law g digest most rs more =
+    let long = state_after (intake g most (rs ++ more)) in
+    let short = state_after (intake g most rs) in
+    let b = (growing_law.from g most nothing_taken rs more).begins in
+    let e : long.run ≡ short.run ++ b.0 = ap (λ (z : Intake). z.run) (at_end g most (rs ++ more)) ∙ (b.1 ∙ ap (λ (z : Intake). z.run ++ b.0) (sym (at_end g most rs))) in
+    let r = file_grows_law g digest short.run b.0 (subst (IsRun g g.start) e (accepted_law g most (rs ++ more)).accepted.0) in
+    (r.0, ap (label_file g digest) e ∙ r.1)
 
 -- no held report is ready after as many times as reports are held, whatever the state
 times_enough : (g : Grammar) (most n : ℕ) (s t : Intake) → length s.held ≤ n → apply_ready g most n s ≡ GoesOn t → NoneReady g t

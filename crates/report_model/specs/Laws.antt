@@ -1,5 +1,5 @@
 -- Laws of the intake of reports.
-use Rattle.std.specs.Prelude.{◌≡◌, ◌≢◌, ◌↔◌, ℕ, true, false, List, [], ◌∷◌, ◌++◌, length, Some}
+use Rattle.std.specs.Prelude.{◌≡◌, ◌≢◌, ◌↔◌, ℕ, true, false, List, [], ◌++◌, length, Some}
 use Rattle.std.specs.List.{find}
 use Rattle.wf_model.specs.Lists.{IsIn, AllDiffer}
 use Rattle.wf_model.specs.Grammar.{Grammar}
@@ -8,7 +8,7 @@ use Rattle.wf_model.specs.View.{View}
 use Rattle.wf_model.specs.declared.event.Event.{Event}
 use Rattle.wf_model.specs.declared.event.RunFault.{RunFault}
 use Rattle.wf_model.specs.declared.event.RunFault.TheVariants.{NotStarted, StartedTwice, UnknownInstance, AlreadyExpanded}
-use Rattle.wf_model.specs.Run.{Expanded, expanded_by, IsRun, IsAccepted, root_of}
+use Rattle.wf_model.specs.Run.{expanded_by, IsRun, IsAccepted, root_of}
 use Rattle.wf_model.specs.Faults.{fault_of}
 use Rattle.wf_model.specs.Items.{Item}
 use Rattle.wf_model.specs.Reach.{Step}
@@ -16,10 +16,11 @@ use Rattle.wf_model.specs.Routes.{IsAddress}
 use Rattle.wf_laws.specs.Order.{HaveTheSame}
 use Rattle.label_model.specs.Labels.{Label}
 use Rattle.label_model.specs.RunLabels.{labelled}
+use Rattle.label_model.specs.Files.{Entry, entries_of, label_file}
 use Rattle.report_model.specs.Reports.{Report, reported, about}
-use Rattle.report_model.specs.Intake.{Intake, nothing_taken, ReportFault, Conflict, Refused, Orphan, Taking, GoesOn, Stops, state_after, and_then, is_ready, apply_ready, take_reports, intake}
+use Rattle.report_model.specs.Intake.{Intake, nothing_taken, ReportFault, Conflict, Refused, Orphan, GoesOn, Stops, state_after, and_then, is_ready, apply_ready, take_reports, intake}
 
--- Two runs with the same events, in whatever order: they have the same root, instances, links and items, each expanded in the same way and with the same addresses, and each item has in both the same label
+-- Two runs with the same events, in whatever order: they have the same root, the same instances, links and items under each view, the same expansions and addresses, and each item has in both the same label
 pub record AreReordered (g : Grammar) (e f : List Event) : Type 0 where
   pub events : (x : Event) → IsIn x e ↔ IsIn x f
   pub once : AllDiffer f
@@ -28,8 +29,9 @@ pub record AreReordered (g : Grammar) (e f : List Event) : Type 0 where
   pub expansions : (n : List ℕ) → expanded_by e n ≡ expanded_by f n
   pub addresses : (n : List ℕ) (a : List Step) (c : List ℕ) → IsAddress e n a c ↔ IsAddress f n a c
   pub labels : (t : Item) (l : Label) → IsIn (t, l) (labelled g e) ↔ IsIn (t, l) (labelled g f)
+  pub entries : (x : Entry) → IsIn x (entries_of g e) ↔ IsIn x (entries_of g f)
 
--- so are any two runs of a well-formed grammar with the same events
+-- two runs of a well-formed grammar with the same events are so
 abbrev pub ReorderedLaw : Type 0
 ReorderedLaw =
     (g : Grammar) (e f : List Event) → IsWellFormed g → IsRun g g.start e → IsRun g g.start f → ((x : Event) → IsIn x e ↔ IsIn x f) → AreReordered g e f
@@ -43,10 +45,11 @@ pub record AreTaken (g : Grammar) (most : ℕ) (reports : List Report) : Type 0 
   pub events : (x : Event) → IsIn x (reported reports) ↔ IsIn x state.run
   pub once : AllDiffer state.run
 
--- reports of all events of an accepted run and of nothing else, in whatever order and repeated, are taken whole
+-- Reports of all events of an accepted run and of nothing else, in whatever order and repeated, are taken whole. The run that the intake has then is the accepted one in another order
 abbrev pub AnyOrderLaw : Type 0
 AnyOrderLaw =
-    (g : Grammar) (most : ℕ) (e : List Event) (reports : List Report) → IsAccepted g most e → ((x : Event) → IsIn x (reported reports) ↔ IsIn x e) → AreTaken g most reports
+    (g : Grammar) (most : ℕ) (e : List Event) (reports : List Report) → IsAccepted g most e → ((x : Event) → IsIn x (reported reports) ↔ IsIn x e) →
+    (taken : AreTaken g most reports) × (IsWellFormed g → AreReordered g e taken.state.run)
 
 -- and no other reports are: where the intake goes on to the end, they are those of an accepted run
 abbrev pub TakenLaw : Type 0
@@ -79,6 +82,12 @@ pub record Grows (g : Grammar) (most : ℕ) (s : Intake) (reports more : List Re
 pub record GrowingLaw : Type 0 where
   pub from : (g : Grammar) (most : ℕ) (s : Intake) (reports more : List Report) → Grows g most s reports more
   pub end : (g : Grammar) (most : ℕ) (reports : List Report) → state_after (intake g most reports) ≡ state_after (take_reports g most nothing_taken reports)
+
+-- so the label file of the run of some reports begins that of more reports
+abbrev pub FileOfMoreLaw : Type 0
+FileOfMoreLaw =
+    (g : Grammar) (digest : List ℕ) (most : ℕ) (reports more : List Report) →
+    (rest : List ℕ) × (label_file g digest (state_after (intake g most (reports ++ more))).run ≡ label_file g digest (state_after (intake g most reports)).run ++ rest)
 
 -- reports of an accepted run in its own order are taken as they are: each is applied when it comes, and the run is the list of their events
 abbrev pub InOrderLaw : Type 0

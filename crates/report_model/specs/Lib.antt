@@ -1,3 +1,4 @@
 pub mod Reports
 pub mod Intake
 pub mod Laws
+pub mod Examples
