@@ -17,9 +17,6 @@ use Rattle.wf_model.proofs.Deciding.{Either, either_same, test_either, in_either
 use Rattle.label_model.proofs.TakenEvents.{taken, expansion_of}
 use Rattle.report_model.specs.Reports.{subject_of, same_event, same_subject}
 
-same_number : (p q : ℕ) → p == q ≡ true → p ≡ q
-same_number p q h = grind (arith, nat_tests)
-
 number_same : (p : ℕ) → p == p ≡ true
 number_same p = grind (arith, nat_tests)
 
@@ -33,7 +30,8 @@ event_same (Expand i p ns) (Start b) h = absurd (true≢false (sym h))
 event_same (Expand i p ns) (Expand j q ms) h =
     let a = same_bytes i j (and_left (bytes_eq i j) _ h) in
     let rest = and_right (bytes_eq i j) ((p == q) && pointwise bytes_eq ns ms) h in
-    let b = same_number p q (and_left (p == q) (pointwise bytes_eq ns ms) rest) in
+    let n : p == q ≡ true = and_left (p == q) (pointwise bytes_eq ns ms) rest in
+    let b : p ≡ q = grind (arith, nat_tests) in
     let c = (names_decide ns ms).0 (and_right (p == q) (pointwise bytes_eq ns ms) rest) in
     λ t. Expand (a t) (b t) (c t)
 

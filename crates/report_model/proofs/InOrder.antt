@@ -27,18 +27,19 @@ ready_where_taken : (g : Grammar) (run : List Event) (x : Event) → Extends g g
 ready_where_taken g run (Start r) h = ap is_nil h.0
 ready_where_taken g run (Expand i p names) h = among_from i (names_of (made g g.start run)) (name_in _ (made g g.start run) h.stands)
 
--- an event of an accepted run has no fault after those before it
-no_fault : (g : Grammar) (most : ℕ) (a : List Event) (x : Event) (b : List Event) → IsAccepted g most (a ++ x ∷ b) → fault_of g most a x ≡ None
-no_fault g most a x b acc =
+-- what an accepted run begins with is accepted, without and with the next event
+accepted_next : (g : Grammar) (most : ℕ) (a : List Event) (x : Event) (b : List Event) → IsAccepted g most (a ++ x ∷ b) → IsAccepted g most a × IsAccepted g most (a ++ x ∷ [])
+accepted_next g most a x b acc =
     let parts = AllExtend-append g g.start [] a (x ∷ b) acc.0 in
     let whole : a ++ x ∷ b ≡ (a ++ x ∷ []) ++ b = sym (append_assoc a (x ∷ []) b) in
     let more = (AllExtend-append g g.start [] (a ++ x ∷ []) b (subst (λ z. IsAccepted g most z) whole acc).0).0 in
     let l : length (made g g.start (a ++ x ∷ b)) ≡ length (made g g.start a) + length (made g g.start (x ∷ b)) = ap length (made-append g g.start a (x ∷ b)) ∙ length-append (made g g.start a) (made g g.start (x ∷ b)) in
-    let k : length (made g g.start (a ++ x ∷ b)) ≡ length (made g g.start (a ++ x ∷ [])) + length (made g g.start b) = ap (λ z. length (made g g.start z)) whole ∙ (ap length (made-append g g.start (a ++ x ∷ []) b) ∙ length-append (made g g.start (a ++ x ∷ [])) (made g g.start b)) in
-    let few : length (made g g.start (a ++ x ∷ b)) ≤ most = acc.1 in
-    let one : IsAccepted g most a = (parts.0, omega (arith, l, few), λ n h. acc.2 n (names_within g g.start a (a ++ x ∷ b) (λ y i. in_append_left y a (x ∷ b) i) n h)) in
-    let two : IsAccepted g most (a ++ x ∷ []) = (more, omega (arith, k, few), λ n h. acc.2 n (names_within g g.start (a ++ x ∷ []) (a ++ x ∷ b) (λ y i. subst (IsIn y) (sym whole) (in_append_left y (a ++ x ∷ []) b i)) n h)) in
-    (taking_law g most a x one).1 two
+    let k : length (made g g.start (a ++ x ∷ b)) ≡ length (made g g.start (a ++ x ∷ [])) + length (made g g.start b) =
+    ap (λ z. length (made g g.start z)) whole ∙ (ap length (made-append g g.start (a ++ x ∷ []) b) ∙ length-append (made g g.start (a ++ x ∷ [])) (made g g.start b)) in
+    let few : length (made g g.start (a ++ x ∷ b)) ≤ most = acc.1 in (
+      (parts.0, omega (arith, l, few), λ n h. acc.2 n (names_within g g.start a (a ++ x ∷ b) (λ y i. in_append_left y a (x ∷ b) i) n h)),
+      (more, omega (arith, k, few), λ n h. acc.2 n (names_within g g.start (a ++ x ∷ []) (a ++ x ∷ b) (λ y i. subst (IsIn y) (sym whole) (in_append_left y (a ++ x ∷ []) b i)) n h)),
+    )
 
 module _ (g : Grammar) (most : ℕ) where
   -- the next report is applied
@@ -81,7 +82,7 @@ module _ (g : Grammar) (most : ℕ) where
       first_is = ap (λ b. apply_one g most (apply_ready g most 0) held_one (cond b (Some r) None)) ready
 
       no_fault_here : apply_one g most (apply_ready g most 0) held_one (Some r) ≡ apply_unless (apply_ready g most 0) (without_ready g held_one) r None
-      no_fault_here = ap (apply_unless (apply_ready g most 0) (without_ready g held_one) r) (no_fault g most run x (reported more) acc_here)
+      no_fault_here = ap (apply_unless (apply_ready g most 0) (without_ready g held_one) r) (let two = accepted_next g most run x (reported more) acc_here in (taking_law g most run x two.0).1 two.1)
 
       ends : apply_unless (apply_ready g most 0) (without_ready g held_one) r None ≡ GoesOn (all_applied (done ++ r ∷ []))
       ends =

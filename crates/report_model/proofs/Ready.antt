@@ -1,5 +1,5 @@
 -- A run within another: an event of the other that is ready is taken, and where one is missing, the first such one is ready.
-use Rattle.std.proofs.Common.{◌≡◌, ◌⊎◌, ℕ, ◌≤◌, true, List, [], ◌∷◌, ◌++◌, length, Option, Some, None, refl, sym, ap, subst, inl, inr, ⊎_elim, arith}
+use Rattle.std.proofs.Common.{◌≡◌, ◌⊎◌, ℕ, ◌≤◌, true, List, [], ◌∷◌, ◌++◌, flat_map, length, Option, Some, None, refl, sym, ap, subst, inl, inr, ⊎_elim, arith}
 use Rattle.std.proofs.lemmas.List.{length-map}
 use Rattle.wf_model.specs.Lists.{IsIn}
 use Rattle.wf_model.specs.Grammar.{Grammar, head_of, body_of}
@@ -19,11 +19,12 @@ use Rattle.report_model.specs.Intake.{is_ready}
 use Rattle.report_model.proofs.Events.{is_there, one_start}
 use Rattle.report_model.proofs.FirstOnes.{more_cases}
 
-pub made_within : (g : Grammar) (m : ℕ) (f e : List Event) → ((x : Event) → IsIn x f → IsIn x e) → (i : Instance) → IsIn i (made g m f) → IsIn i (made g m e)
-made_within g m f e h i q = let r = in_flat_map_from (made_by g m) i f q in in_flat_map (made_by g m) r.0 i e (h r.0 r.1) r.2
+-- what elements give, more elements give too
+in_more : {A B : Type 0} (f : A → List B) (xs ys : List A) → ((x : A) → IsIn x xs → IsIn x ys) → (y : B) → IsIn y (flat_map f xs) → IsIn y (flat_map f ys)
+in_more f xs ys h y q = let r = in_flat_map_from f y xs q in in_flat_map f r.0 y ys (h r.0 r.1) r.2
 
 pub names_within : (g : Grammar) (m : ℕ) (f e : List Event) → ((x : Event) → IsIn x f → IsIn x e) → (n : List ℕ) → IsIn n (names_of (made g m f)) → IsIn n (names_of (made g m e))
-names_within g m f e h n q = let r = name_from n (made g m f) q in subst (λ z. IsIn z (names_of (made g m e))) (sym r.2) (name_in r.0 (made g m e) (made_within g m f e h r.0 r.1))
+names_within g m f e h n q = let r = name_from n (made g m f) q in subst (λ z. IsIn z (names_of (made g m e))) (sym r.2) (name_in r.0 (made g m e) (in_more (made_by g m) f e h r.0 r.1))
 
 within_more : (f e : List Event) (x : Event) → ((y : Event) → IsIn y f → IsIn y e) → IsIn x e → (y : Event) → IsIn y (f ++ x ∷ []) → IsIn y e
 within_more f e x h k y q = ⊎_elim (λ a. h y a) (λ d. subst (λ w. IsIn w e) (sym d) k) (more_cases y x f q)
@@ -39,7 +40,7 @@ module _ (g : Grammar) (e : List Event) (run : IsRun g g.start e) (f : List Even
       let can : CanExpand g g.start q.before i p names = q.extends in
       let whole : IsIn (record { name = i; module_no = head_of g p }) (made g g.start e) = (expansion_of g g.start e run i p names here).stands in
       let j = name_from i (made g g.start f) (among_gives i (names_of (made g g.start f)) ready) in
-      let same : j.0 ≡ record { name = i; module_no = head_of g p } = one_of_name (made g g.start e) (run_differs g g.start e run) j.0 (record { name = i; module_no = head_of g p }) (made_within g g.start f e sub j.0 j.1) whole (sym j.2) in
+      let same : j.0 ≡ record { name = i; module_no = head_of g p } = one_of_name (made g g.start e) (run_differs g g.start e run) j.0 (record { name = i; module_no = head_of g p }) (in_more (made_by g g.start) f e sub j.0 j.1) whole (sym j.2) in
       record {
         in_range = can.in_range;
         stands = subst (λ z. IsIn z (made g g.start f)) same j.1;

@@ -1,5 +1,7 @@
 -- Worked reports: what the intake makes of them.
-use Rattle.std.specs.Prelude.{◌≡◌, ℕ, List, [], ◌∷◌, take, codes}
+use Rattle.std.specs.Prelude.{◌≡◌, ℕ, suc, List, [], ◌∷◌, map, take, codes, Option, Some, None}
+use Prim.Native.String.{String}
+use Rattle.wf_model.specs.Grammar.{Grammar}
 use Rattle.wf_model.specs.declared.event.Event.{Event}
 use Rattle.wf_model.specs.declared.event.Event.TheVariants.{Start, Expand}
 use Rattle.wf_model.specs.declared.event.RunFault.TheVariants.{WrongHead, NameTwice, TooManyInstances}
@@ -7,82 +9,68 @@ use Rattle.wf_laws.specs.LineGrammar.{line, events as line_run}
 use Rattle.wf_laws.specs.TwistingGrammar.{two}
 use Rattle.label_model.specs.Examples.{loop, loop_run}
 use Rattle.report_model.specs.Reports.{Report}
-use Rattle.report_model.specs.Intake.{Intake, Conflict, Refused, Orphan, GoesOn, Stops, intake}
+use Rattle.report_model.specs.Intake.{Intake, ReportFault, Conflict, Refused, Orphan, Taking, GoesOn, Stops, intake}
 
--- a report of a line
-abbrev pub on : ℕ → Event → Report
-on n e = record { line = n; event = e }
+-- a start event
+abbrev pub start : String → Event
+start r = Start (codes r)
 
--- the state in which these events are applied, and these reports are held and known
-abbrev pub state : List Event → List Report → List Report → Intake
-state run held known = record { run = run; held = held; known = known }
+-- an instance is expanded by a production to one child, or to two
+abbrev pub to_one : String → ℕ → String → Event
+to_one i p a = Expand (codes i) p (codes a ∷ [])
 
--- the limit on instances, 2^24
-abbrev pub limit : ℕ
-limit = 16777216
+abbrev pub to_two : String → ℕ → String → String → Event
+to_two i p a b = Expand (codes i) p (two a b)
 
-abbrev pub start : Event
-start = Start (codes "r")
+-- events that lines report one after another, from the line n on
+abbrev pub on_lines : ℕ → List Event → List Report
+on_lines n [] = []
+on_lines n (e ∷ events) = record { line = n; event = e } ∷ on_lines (suc n) events
 
--- r of the line grammar, and in another way
-abbrev pub expand : Event
-expand = Expand (codes "r") 0 (two "i1" "i2")
+-- what reports come to: the run, the lines of the reports that are held still, and why one was refused, if one was
+pub record ComesTo : Type 0 where
+  pub run : List Event
+  pub held : List ℕ
+  pub fault : Option ReportFault
 
-abbrev pub expand_otherwise : Event
-expand_otherwise = Expand (codes "r") 0 (two "i3" "i4")
+abbrev pub comes_to : Taking → ComesTo
+comes_to (GoesOn s) = record { run = s.run; held = map (λ (r : Report). r.line) s.held; fault = None }
+comes_to (Stops s f) = record { run = s.run; held = map (λ (r : Report). r.line) s.held; fault = Some f }
 
--- an instance that is never made
-abbrev pub expand_unknown : Event
-expand_unknown = Expand (codes "q") 0 (codes "x" ∷ [])
+-- what lines come to that report these events of a run with at most 2^24 instances
+abbrev pub reports_of : Grammar → List Event → ComesTo
+reports_of g events = comes_to (intake g 16777216 (on_lines 1 events))
 
-abbrev pub expand_other_unknown : Event
-expand_other_unknown = Expand (codes "z") 0 (two "a" "b")
+-- all of them were applied, to this run
+abbrev pub applied : List Event → ComesTo
+applied run = record { run = run; held = []; fault = None }
 
--- events of the looping grammar: r is expanded to l0; l0 and l1 to a P and an L again
-abbrev pub loop_1 : Event
-loop_1 = Expand (codes "r") 0 (codes "l0" ∷ [])
+-- the reports of some lines are held still, and one was refused
+abbrev pub refused : List Event → List ℕ → ReportFault → ComesTo
+refused run held f = record { run = run; held = held; fault = Some f }
 
-abbrev pub loop_2 : Event
-loop_2 = Expand (codes "l0") 1 (two "w0" "l1")
-
-abbrev pub loop_3 : Event
-loop_3 = Expand (codes "l1") 1 (two "w1" "l2")
-
--- l0 by the production of another module, and with a name that is taken
-abbrev pub loop_wrong : Event
-loop_wrong = Expand (codes "l0") 0 (codes "k" ∷ [])
-
-abbrev pub loop_taken : Event
-loop_taken = Expand (codes "l0") 1 (two "w0" "r")
-
+-- reports of runs of the line grammar and of the looping grammar
 pub record ReportsAreWorked : Type 0 where
-  -- in order
-  pub in_order : intake line limit (on 1 start ∷ on 2 expand ∷ []) ≡ GoesOn (state line_run [] (on 1 start ∷ on 2 expand ∷ []))
-  -- the two lines exchanged give the same run
-  pub exchanged : intake line limit (on 1 expand ∷ on 2 start ∷ []) ≡ GoesOn (state line_run [] (on 1 expand ∷ on 2 start ∷ []))
-  -- so do reports that come twice, whether the first is held still or applied
-  pub repeated : intake line limit (on 1 start ∷ on 2 expand ∷ on 3 expand ∷ on 4 start ∷ []) ≡ GoesOn (state line_run [] (on 1 start ∷ on 2 expand ∷ []))
-  pub repeated_held : intake line limit (on 1 expand ∷ on 2 expand ∷ on 3 start ∷ []) ≡ GoesOn (state line_run [] (on 1 expand ∷ on 3 start ∷ []))
+  -- in order, exchanged, and two of them twice
+  pub in_order : reports_of line (start "r" ∷ to_two "r" 0 "i1" "i2" ∷ []) ≡ applied line_run
+  pub exchanged : reports_of line (to_two "r" 0 "i1" "i2" ∷ start "r" ∷ []) ≡ applied line_run
+  pub repeated : reports_of line (start "r" ∷ to_two "r" 0 "i1" "i2" ∷ to_two "r" 0 "i1" "i2" ∷ start "r" ∷ []) ≡ applied line_run
+  pub repeated_held : reports_of line (to_two "r" 0 "i1" "i2" ∷ to_two "r" 0 "i1" "i2" ∷ start "r" ∷ []) ≡ applied line_run
   -- four events in the order 4, 1, 3, 2
-  pub shuffled : intake loop limit (on 1 loop_3 ∷ on 2 start ∷ on 3 loop_2 ∷ on 4 loop_1 ∷ []) ≡ GoesOn (state (take 4 loop_run) [] (on 1 loop_3 ∷ on 2 start ∷ on 3 loop_2 ∷ on 4 loop_1 ∷ []))
-  -- no reports, and lines of any numbers
-  pub none : intake line limit [] ≡ GoesOn (state [] [] [])
-  pub any_lines : intake line limit (on 7 expand ∷ on 9 start ∷ []) ≡ GoesOn (state line_run [] (on 7 expand ∷ on 9 start ∷ []))
-  -- an instance that never comes: the first such report is the orphan, and the events before stand
-  pub orphan : intake line limit (on 1 start ∷ on 2 expand_unknown ∷ []) ≡ Stops (state (start ∷ []) (on 2 expand_unknown ∷ []) (on 1 start ∷ on 2 expand_unknown ∷ [])) (Orphan 2)
-  pub two_orphans : intake line limit (on 1 expand_other_unknown ∷ on 2 expand_unknown ∷ on 3 start ∷ []) ≡
-      Stops (state (start ∷ []) (on 1 expand_other_unknown ∷ on 2 expand_unknown ∷ []) (on 1 expand_other_unknown ∷ on 2 expand_unknown ∷ on 3 start ∷ [])) (Orphan 1)
+  pub shuffled : reports_of loop (to_two "l1" 1 "w1" "l2" ∷ start "r" ∷ to_two "l0" 1 "w0" "l1" ∷ to_one "r" 0 "l0" ∷ []) ≡ applied (take 4 loop_run)
+  pub none : reports_of line [] ≡ applied []
+  -- an instance is never made: the events before it stand
+  pub orphan : reports_of line (start "r" ∷ to_one "q" 0 "x" ∷ []) ≡ refused (start "r" ∷ []) (2 ∷ []) (Orphan 2)
+  pub two_orphans : reports_of line (to_two "z" 0 "a" "b" ∷ to_one "q" 0 "x" ∷ start "r" ∷ []) ≡ refused (start "r" ∷ []) (1 ∷ 2 ∷ []) (Orphan 1)
   -- without a start nothing comes to be ready
-  pub no_start : intake line limit (on 1 expand ∷ []) ≡ Stops (state [] (on 1 expand ∷ []) (on 1 expand ∷ [])) (Orphan 1)
-  -- a held report whose event is refused, once it is ready, is told by its own line
-  pub wrong_when_ready : intake loop limit (on 1 loop_wrong ∷ on 2 start ∷ on 3 loop_1 ∷ []) ≡ Stops (state (start ∷ loop_1 ∷ []) [] (on 1 loop_wrong ∷ on 2 start ∷ on 3 loop_1 ∷ [])) (Refused 1 WrongHead)
-  -- others stay held
-  pub taken_name : intake loop limit (on 1 loop_3 ∷ on 2 loop_taken ∷ on 3 start ∷ on 4 loop_1 ∷ []) ≡
-      Stops (state (start ∷ loop_1 ∷ []) (on 1 loop_3 ∷ []) (on 1 loop_3 ∷ on 2 loop_taken ∷ on 3 start ∷ on 4 loop_1 ∷ [])) (Refused 2 NameTwice)
-  pub past_the_limit : intake line 2 (on 1 start ∷ on 2 expand ∷ []) ≡ Stops (state (start ∷ []) [] (on 1 start ∷ on 2 expand ∷ [])) (Refused 2 TooManyInstances)
-  -- a report that contradicts an earlier one: one that is applied, one that is held, and a second start
-  pub conflict : intake line limit (on 1 start ∷ on 2 expand ∷ on 3 expand_otherwise ∷ []) ≡ Stops (state line_run [] (on 1 start ∷ on 2 expand ∷ [])) (Conflict 3 2)
-  pub conflict_held : intake line limit (on 1 expand ∷ on 2 expand_otherwise ∷ on 3 start ∷ []) ≡ Stops (state [] (on 1 expand ∷ []) (on 1 expand ∷ [])) (Conflict 2 1)
-  pub conflict_start : intake line limit (on 1 start ∷ on 2 expand ∷ on 3 (Start (codes "s")) ∷ []) ≡ Stops (state line_run [] (on 1 start ∷ on 2 expand ∷ [])) (Conflict 3 1)
-  -- the line told is that of the first report, not that of its repetition
-  pub conflict_first : intake line limit (on 1 expand ∷ on 2 expand ∷ on 3 expand_otherwise ∷ []) ≡ Stops (state [] (on 1 expand ∷ []) (on 1 expand ∷ [])) (Conflict 3 1)
+  pub no_start : reports_of line (to_two "r" 0 "i1" "i2" ∷ []) ≡ refused [] (1 ∷ []) (Orphan 1)
+  -- a held event is refused by the run when it is ready, and is told by its own line; another is held still
+  pub wrong_head : reports_of loop (to_one "l0" 0 "k" ∷ start "r" ∷ to_one "r" 0 "l0" ∷ []) ≡ refused (start "r" ∷ to_one "r" 0 "l0" ∷ []) [] (Refused 1 WrongHead)
+  pub name_twice : reports_of loop (to_two "l1" 1 "w1" "l2" ∷ to_two "l0" 1 "w0" "r" ∷ start "r" ∷ to_one "r" 0 "l0" ∷ []) ≡
+      refused (start "r" ∷ to_one "r" 0 "l0" ∷ []) (1 ∷ []) (Refused 2 NameTwice)
+  pub too_many : comes_to (intake line 2 (on_lines 1 (start "r" ∷ to_two "r" 0 "i1" "i2" ∷ []))) ≡ refused (start "r" ∷ []) [] (Refused 2 TooManyInstances)
+  -- a report contradicts one that is applied, one that is held, and the start; and the first of two equal ones is told
+  pub conflict : reports_of line (start "r" ∷ to_two "r" 0 "i1" "i2" ∷ to_two "r" 0 "i3" "i4" ∷ []) ≡ refused line_run [] (Conflict 3 2)
+  pub conflict_held : reports_of line (to_two "r" 0 "i1" "i2" ∷ to_two "r" 0 "i3" "i4" ∷ start "r" ∷ []) ≡ refused [] (1 ∷ []) (Conflict 2 1)
+  pub conflict_start : reports_of line (start "r" ∷ to_two "r" 0 "i1" "i2" ∷ start "s" ∷ []) ≡ refused line_run [] (Conflict 3 1)
+  pub conflict_first : reports_of line (to_two "r" 0 "i1" "i2" ∷ to_two "r" 0 "i1" "i2" ∷ to_two "r" 0 "i3" "i4" ∷ []) ≡ refused [] (1 ∷ []) (Conflict 3 1)
