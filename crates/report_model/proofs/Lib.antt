@@ -9,3 +9,5 @@ pub mod Ready
 pub mod TakenReports
 pub mod InOrder
 pub mod WorkedReports
+pub mod Rounds
+pub mod Marked

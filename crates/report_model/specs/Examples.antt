@@ -9,7 +9,7 @@ use Rattle.wf_laws.specs.LineGrammar.{line, events as line_run}
 use Rattle.wf_laws.specs.TwistingGrammar.{two}
 use Rattle.label_model.specs.Examples.{loop, loop_run}
 use Rattle.report_model.specs.Reports.{Report}
-use Rattle.report_model.specs.Intake.{Intake, ReportFault, Conflict, Refused, Orphan, Taking, GoesOn, Stops, intake}
+use Rattle.report_model.specs.Intake.{ReportFault, Conflict, Refused, Orphan, Taking, GoesOn, Stops, intake}
 
 -- a start event
 abbrev pub start : String → Event

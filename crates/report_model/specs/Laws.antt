@@ -1,5 +1,5 @@
 -- Laws of the intake of reports.
-use Rattle.std.specs.Prelude.{◌≡◌, ◌≢◌, ◌↔◌, ℕ, true, false, List, [], ◌++◌, length, Some}
+use Rattle.std.specs.Prelude.{◌≡◌, ◌≢◌, ◌↔◌, ℕ, true, false, List, [], ◌∷◌, ◌++◌, length, Some, None}
 use Rattle.std.specs.List.{find}
 use Rattle.wf_model.specs.Lists.{IsIn, AllDiffer}
 use Rattle.wf_model.specs.Grammar.{Grammar}
@@ -18,7 +18,7 @@ use Rattle.label_model.specs.Labels.{Label}
 use Rattle.label_model.specs.RunLabels.{labelled}
 use Rattle.label_model.specs.Files.{Entry, entries_of, label_file}
 use Rattle.report_model.specs.Reports.{Report, reported, about}
-use Rattle.report_model.specs.Intake.{Intake, nothing_taken, ReportFault, Conflict, Refused, Orphan, GoesOn, Stops, state_after, and_then, is_ready, apply_ready, take_reports, intake}
+use Rattle.report_model.specs.Intake.{Intake, nothing_taken, ReportFault, Conflict, Refused, Orphan, GoesOn, Stops, state_after, and_then, is_ready, apply_ready, take_report, take_reports, intake}
 
 -- Two runs with the same events, in whatever order: they have the same root, the same instances, links and items under each view, the same expansions and addresses, and each item has in both the same label
 pub record AreReordered (g : Grammar) (e f : List Event) : Type 0 where
@@ -89,11 +89,32 @@ FileOfMoreLaw =
     (g : Grammar) (digest : List ℕ) (most : ℕ) (reports more : List Report) →
     (rest : List ℕ) × (label_file g digest (state_after (intake g most (reports ++ more))).run ≡ label_file g digest (state_after (intake g most reports)).run ++ rest)
 
+-- the state with this run, where these reports are held and known
+abbrev pub state_of : List Event → List Report → List Report → Intake
+state_of run held known = record { run = run; held = held; known = known }
+
 -- reports of an accepted run in its own order are taken as they are: each is applied when it comes, and the run is the list of their events
 abbrev pub InOrderLaw : Type 0
 InOrderLaw =
     (g : Grammar) (most : ℕ) (reports : List Report) → IsAccepted g most (reported reports) →
-    intake g most reports ≡ GoesOn (record { run = reported reports; held = []; known = reports })
+    intake g most reports ≡ GoesOn (state_of (reported reports) [] reports)
+
+-- A report that comes while none is held. One on a subject that is not known is applied where its event is ready and has no fault, refused with the fault where it has one, and held where it is not ready.
+-- One on a known subject changes nothing where it reports the same event, and is refused as a conflict where it reports another
+pub record IsTakenAlone (g : Grammar) (most : ℕ) (run : List Event) (known : List Report) (r : Report) : Type 0 where
+  pub applied : find (about r.event) known ≡ None → is_ready g run r.event ≡ true → fault_of g most run r.event ≡ None →
+      take_report g most (state_of run [] known) r ≡ GoesOn (state_of (run ++ r.event ∷ []) [] (known ++ r ∷ []))
+  pub refused : find (about r.event) known ≡ None → is_ready g run r.event ≡ true → (f : RunFault) → fault_of g most run r.event ≡ Some f →
+      take_report g most (state_of run [] known) r ≡ Stops (state_of run [] (known ++ r ∷ [])) (Refused r.line f)
+  pub waits : find (about r.event) known ≡ None → is_ready g run r.event ≡ false →
+      take_report g most (state_of run [] known) r ≡ GoesOn (state_of run (r ∷ []) (known ++ r ∷ []))
+  pub repeated : (k : Report) → find (about r.event) known ≡ Some k → k.event ≡ r.event → take_report g most (state_of run [] known) r ≡ GoesOn (state_of run [] known)
+  pub contradicts : (k : Report) → find (about r.event) known ≡ Some k → k.event ≢ r.event →
+      take_report g most (state_of run [] known) r ≡ Stops (state_of run [] known) (Conflict r.line k.line)
+
+-- so is each such report; by this a file in order is taken as far as it is in order
+abbrev pub TakenAloneLaw : Type 0
+TakenAloneLaw = (g : Grammar) (most : ℕ) (run : List Event) (known : List Report) (r : Report) → IsTakenAlone g most run known r
 
 -- Why one of these reports is refused, where the run of the events applied so far is this one.
 -- Conflict: the first of them that is about the same reports another event. Refused: the event is ready and has not been applied, and is not taken by the run, for this fault. Orphan: the event is not ready

@@ -1,5 +1,5 @@
 // Laws of the intake of reports: each is the contract of a function that does nothing.
-ghost use Rattle.report_model.specs.Laws.{AcceptedLaw, AllReadyLaw, AnyOrderLaw, FileOfMoreLaw, GrowingLaw, InOrderLaw, RefusedLaw, ReorderedLaw, TakenLaw};
+ghost use Rattle.report_model.specs.Laws.{AcceptedLaw, AllReadyLaw, AnyOrderLaw, FileOfMoreLaw, GrowingLaw, InOrderLaw, RefusedLaw, ReorderedLaw, TakenAloneLaw, TakenLaw};
 
 /// Runs with the same events have the same instances, links and items, and each item has in both the same label.
 pub fn reordered_law()
@@ -39,6 +39,11 @@ pub fn file_of_more_law()
 /// Reports of an accepted run in its own order are taken as they are: the run is the list of their events.
 pub fn in_order_law()
     ensures { InOrderLaw }
+{}
+
+/// What becomes of a report that comes while none is held, in each case: so a file in order is taken as before, but that a repetition is no fault, and an instance may come later.
+pub fn taken_alone_law()
+    ensures { TakenAloneLaw }
 {}
 
 /// A report is refused for its reason: a conflict with the first report on its subject, a fault of its event once it is ready, or an event that never comes to be ready. Four of the ten faults of a run do not come.

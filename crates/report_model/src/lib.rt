@@ -7,5 +7,5 @@ mod laws;
 pub use examples::reports_are_worked;
 pub use laws::{
     accepted_law, all_ready_law, any_order_law, file_of_more_law, growing_law, in_order_law,
-    refused_law, reordered_law, taken_law,
+    refused_law, reordered_law, taken_alone_law, taken_law,
 };
