@@ -11,3 +11,4 @@ pub mod InOrder
 pub mod WorkedReports
 pub mod Rounds
 pub mod Marked
+pub mod KeptReports
