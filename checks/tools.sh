@@ -23,7 +23,7 @@ is_drawn() {
     fi
 }
 
-for picture in line phylogeny phylogeny-spec twisting-skewed crates; do
+for picture in line phylogeny phylogeny-spec twisting-skewed labels crates; do
     check "the picture of $picture is the one that is kept" is_kept "$picture"
     check "the picture of $picture is drawn as it is kept" is_drawn "$picture"
 done
@@ -49,6 +49,17 @@ draws_pending() {
     grep -q '^  "m1" .*style="dashed"' "$work/out" && grep -qF 'y1: Q\nx to y\nw to z' "$work/out" && grep -qF '"y1":"out_y" -> "m1":"in_a" [label="y1.y"];' "$work/out"
 }
 check "a pending instance and missing pairs are drawn" draws_pending
+# A question on the line: the two items, and the path between them where there is one.
+marks() {
+    "$program" export examples/line/spec examples/line/view examples/line/events | python3 tools/dot.py --question "$@" 2>&1
+}
+check "a worked question is drawn as worked" cmp -s tools/golden/dot/question.dot <(marks i1.y r.b)
+check "of a question that is answered no the two items are marked" test "$(marks r.b r.a | grep 1f5fa8 | grep -c 'oval.*filled')" = 2
+check "no path is marked from an item to itself" test "$(marks i1.y i1.y | grep -c 1f5fa8)" = 1
+check "an item of a question that is not shown is told" test "$(marks r.a i2.y)" = 'dot.py: `i2.y` is no item that is shown'
+check "missing words of a question are told" \
+    test "$(python3 tools/dot.py --question r.a 2>&1)" = "dot.py: the words behind --question are not FROM TO [FILE]; see --help"
+
 check "a name with a sign of the picture's language is refused" says 2 'dot.py: line 1: `a"` is no name' 'leaf a" P\n'
 
 # Specifications.
@@ -175,6 +186,42 @@ check "digits that are odd are told by their line" \
 )
 check "lines without a head are told" \
     complains 'labels.py: line 1: not `head` and hexadecimal digits with one space between' python3 tools/labels.py file <(echo 'r.a 20')
+
+# Two labels.
+two_labels() {
+    python3 tools/two_labels.py "examples/$1/spec" "examples/$2/labels" "$3" "$4"
+}
+check "a worked pair of labels is drawn as worked" cmp -s tools/golden/two_labels/mapping.dot <(two_labels mapping-cwl mapping-cwl liver-align.bam brain-trim.trimmed)
+
+# Whether each label of an example is read to its end, as that of a port of the run or of an edge that begins at the port of its item.
+reads_labels() {
+    PYTHONDONTWRITEBYTECODE=1 python3 - "examples/$1" <<'LABELS'
+import sys
+sys.path.insert(0, "tools")
+import dot, labels, two_labels
+spec = dot.read_spec(sys.argv[1] + "/spec")
+for name, label in labels.entries_of(open(sys.argv[1] + "/labels", "rb").read()):
+    parts = two_labels.parts_of(spec, label)
+    assert "".join(part.bits for part in parts).replace(" ", "") == "".join(f"{byte:08b}" for byte in label), name
+    told = [cell.what for part in parts for cell in part.cells][-1]
+    assert name.decode().split(".")[1] == (told[0].split(".")[1] if isinstance(told, tuple) else told), name
+LABELS
+}
+for example in line phylogeny-once phylogeny twisting pair mapping-cwl mapping-nextflow; do
+    check "each label of $example is read as that of its item" reads_labels "$example"
+done
+shares() {
+    two_labels "${@:2}" >"$work/out" && [ "$(grep -o 'bgcolor="gray80">[^<]*' "$work/out" | sed 's/[^>]*>//' | sort -u | tr '\n' ';')" = "$1" ]
+}
+check "labels that part in one body share its production" shares '1;Main by production 0;carried by an edge;' phylogeny-once phylogeny-once al.m sp.a
+check "labels of ports share nothing" test "$(two_labels phylogeny phylogeny run.cfg run.tree | grep -c 'nothing is shared')" = 1
+check "an item without a label is told" \
+    complains 'two_labels.py: `r.q` is no item of examples/line/labels' two_labels line line r.a r.q
+check "a label of another specification is told" \
+    complains 'two_labels.py: the label of `rl2.c2` is none of examples/line/spec: Q has no alternative 0' two_labels line phylogeny run.seqs rl2.c2
+check "missing words are told of two labels" \
+    complains 'two_labels.py: the words are not SPEC LABELS ITEM ITEM; see --help' python3 tools/two_labels.py examples/line/spec
+check "a picture of labels that cannot be written is told" test "$(two_labels line line r.a r.b 2>&1 >/dev/full)" = "two_labels.py: writing: No space left on device"
 
 # The items that rest on an item, and those on which it rests.
 rests() {

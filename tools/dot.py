@@ -2,13 +2,18 @@
 """Turns what `wfprov export` writes, or a specification, into a picture for Graphviz.
 
   ./wfprov export SPEC VIEW EVENTS | python3 tools/dot.py | dot -Tsvg > picture.svg
-  python3 tools/dot.py [FILE]                   reads FILE, and standard input where none is given
-  python3 tools/dot.py --spec SPEC [SPEC ..]    draws specifications, one beside the other
-  python3 tools/dot.py --spec SPEC --view SHOWN draws what a view shows of one; SHOWN has the lines that `wfprov view` writes
+  python3 tools/dot.py [FILE]                    reads FILE, and standard input where none is given
+  python3 tools/dot.py --question FROM TO [FILE] marks two items in the picture, and a path that leads from the one to the other
+  python3 tools/dot.py --spec SPEC [SPEC ..]     draws specifications, one beside the other
+  python3 tools/dot.py --spec SPEC --view SHOWN  draws what a view shows of one; SHOWN has the lines that `wfprov view` writes
 
 A run: an instance that the view leaves closed, or whose module has no steps, is a box with its inputs above and its outputs below;
 where some of its outputs do not rest on each of its inputs, the box lists the pairs that do. A pending instance is a dashed box. The
 ports of an instance that is open are ovals. Arrows are links, and an arrow that carries an item has the item's name.
+
+A question is drawn in blue: an item of it is a filled oval, or an arrow with a blue name. Where links lead from FROM to TO, the arrows
+of a shortest path are thick and blue, and so are the frames of the ovals and boxes on it. The picture is no answer: `trace` and `ask`
+answer. No link leads through a pending instance, so on an unfinished run the picture may lack a path where the answer is yes.
 
 A specification: a production is a frame with its number and its head. The grey bar at its top has the inputs of the head, and the one
 at its bottom the outputs. A box is a position with its module. It has the numbers of the productions by which the module is done, if
@@ -34,6 +39,10 @@ FORMS = {dict: "an object", list: "a list", str: "a text"}
 COLUMNS_OF_ONE, COLUMNS_OF_SEVERAL = 5, 3
 # How many productions the box of a composite module names.
 NAMED_PRODUCTIONS = 4
+# How a picture draws a path, the arrow of an item that is asked about, and the oval of one.
+PATH = ' color="#1f5fa8" penwidth=2'
+ASKED_ARROW = PATH + ' fontcolor="#1f5fa8"'
+ASKED_OVAL = PATH + ' style=filled fillcolor="#cfe2f7"'
 
 
 class Wrong(Exception):
@@ -92,6 +101,48 @@ class Export:
             if pair:
                 found[a][2].append((from_port, to_port))
         return found
+
+
+class Question:
+    """What is drawn of a question: the ports that name its two items, and the links of a path from the one to the other, as a set. A
+    picture without a question has neither."""
+
+    def __init__(self, export=None, items=()):
+        for item in items:
+            if item not in export.items:
+                raise Wrong(f"`{item}` is no item that is shown")
+        self.items = tuple(split_port(item, "question") for item in items)
+        self.links = set(path_between(export.links, *self.items)) if items else set()
+        self.ports = {port for link in self.links for port in link}
+
+    def of_box(self, export, instance):
+        """Returns how the box of a closed instance is drawn besides."""
+        return PATH if any(link[0][0] == instance and export.is_pair(link) for link in self.links) else ""
+
+    def of_oval(self, port):
+        """Returns how the oval of a port is drawn besides."""
+        return ASKED_OVAL if port in self.items else PATH if port in self.ports else ""
+
+    def of_arrow(self, link, named):
+        """Returns how an arrow is drawn besides, which has the name of an item or has none."""
+        return ASKED_ARROW if named and link[0] in self.items else PATH if link in self.links else ""
+
+
+def path_between(links, first, last):
+    """Returns the links of a shortest path of one or more links between two ports, or none where there is no path."""
+    onward, came_by, found = {}, {}, [first]
+    for link in links:
+        onward.setdefault(link[0], []).append(link)
+    for port in found:
+        for link in onward.get(port, []):
+            if link[1] not in came_by:
+                came_by[link[1]] = link
+                found.append(link[1])
+    path = []
+    while last in came_by and (not path or last != first):
+        path.append(came_by[last])
+        last = came_by[last][0]
+    return path
 
 
 def of_form(value, form, place):
@@ -325,13 +376,13 @@ def record(inputs, lines, outputs):
     return quoted("{" + "|".join(cells) + "}")
 
 
-def box(export, instance, ports):
+def box(export, instance, ports, more):
     """Returns the line of a closed instance."""
     kind, module = export.closed[instance]
     inputs, outputs, pairs = ports
     pending = kind == "pending"
     lines = [f"{instance}: {module}"] + ([] if pending else listed(pairs, inputs, outputs))
-    return f"  {quoted(instance)} [shape=record label={record(inputs, lines, outputs)}{' style=' + quoted('dashed') if pending else ''}];"
+    return f"  {quoted(instance)} [shape=record label={record(inputs, lines, outputs)}{' style=' + quoted('dashed') if pending else ''}{more}];"
 
 
 def end(export, port, side):
@@ -342,23 +393,24 @@ def end(export, port, side):
     return quoted(f"{instance}.{name}")
 
 
-def run_picture(export):
-    """Yields the lines of the picture of a run."""
+def run_picture(export, question):
+    """Yields the lines of the picture of a run, with a question."""
     yield "digraph provenance {"
     yield "  node [fontname=Helvetica fontsize=11];"
     yield "  edge [fontname=Helvetica fontsize=9];"
     for instance, ports in export.ports().items():
-        yield box(export, instance, ports)
+        yield box(export, instance, ports, question.of_box(export, instance))
     ovals = dict.fromkeys(port for link in export.links for port in link if port[0] not in export.closed)
     for instance, port in ovals:
-        yield f"  {quoted(f'{instance}.{port}')} [shape=oval];"
+        yield f"  {quoted(f'{instance}.{port}')} [shape=oval{question.of_oval((instance, port))}];"
     for link in export.links:
         if export.is_pair(link):
             continue
         first, second = link
         name = ".".join(first)
-        label = f" [label={quoted(name)}]" if name in export.items and first[0] in export.closed else ""
-        yield f"  {end(export, first, 'out')} -> {end(export, second, 'in')}{label};"
+        named = name in export.items and first[0] in export.closed
+        drawn = (f" label={quoted(name)}" if named else "") + question.of_arrow(link, named)
+        yield f"  {end(export, first, 'out')} -> {end(export, second, 'in')}{f' [{drawn[1:]}]' if drawn else ''};"
     yield "}"
 
 
@@ -507,12 +559,22 @@ def read_export(words):
         raise Wrong("the text is not UTF-8, and so not what `export` writes") from None
 
 
+def picture_of_run(words):
+    """Returns the lines of the picture of a run, with the question of the words where they begin with one."""
+    if words[:1] != ["--question"]:
+        return run_picture(read_export(words), Question())
+    if len(words) < 3:
+        raise Wrong("the words behind --question are not FROM TO [FILE]; see --help")
+    export = read_export(words[3:])
+    return run_picture(export, Question(export, words[1:3]))
+
+
 def main(words):
     if "--help" in words or "-h" in words:
         print(__doc__.strip())
         return 0
     try:
-        lines = picture_of_specs(words[1:]) if words[:1] == ["--spec"] else run_picture(read_export(words))
+        lines = picture_of_specs(words[1:]) if words[:1] == ["--spec"] else picture_of_run(words)
         sys.stdout.write("\n".join(lines) + "\n")
         sys.stdout.flush()
     except OSError as error:

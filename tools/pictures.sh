@@ -1,5 +1,5 @@
 #!/usr/bin/env bash
-# Makes the pictures of docs/pictures: what `export` writes of examples, and specifications, drawn by Graphviz.
+# Makes the pictures of docs/pictures: what `export` writes of examples, specifications, labels and crates, drawn by Graphviz.
 #   bash tools/pictures.sh [FOLDER]    writes them to FOLDER, and to docs/pictures where none is given
 set -euo pipefail
 
@@ -18,10 +18,11 @@ draw() {
     fi
 }
 
-# The picture of a run of an example under a view.
+# The picture of a run of an example under a view; the words behind the files are for dot.py.
 draw_run() {
     local name=$1 spec=$2 view=$3 events=$4
-    "$program" export "$spec" "$view" "$events" | python3 tools/dot.py >"$folder/$name.dot"
+    shift 4
+    "$program" export "$spec" "$view" "$events" | python3 tools/dot.py "$@" >"$folder/$name.dot"
     draw "$name"
 }
 
@@ -34,8 +35,10 @@ draw_specs() {
 }
 
 draw_run line examples/line/spec examples/line/view examples/line/events
-draw_run phylogeny examples/phylogeny-once/spec examples/phylogeny-once/view examples/phylogeny-once/events
+draw_run phylogeny examples/phylogeny-once/spec examples/phylogeny-once/view examples/phylogeny-once/events --question run.cfg run.tree
 draw_specs phylogeny-spec examples/phylogeny/spec
 draw_specs twisting-skewed examples/twisting/spec examples/skewed/spec
+python3 tools/two_labels.py examples/phylogeny/spec examples/phylogeny/labels rl2.c2 rl55.c2 >"$folder/labels.dot"
+draw labels
 python3 tools/crates.py >"$folder/crates.dot"
 draw crates
