@@ -48,6 +48,7 @@ check "HANDLES allows none" has_no_handles
 check "each statement stands once" stands_once
 check "the tables of definitions in docs/PROOFS.md are up to date" python3 checks/reading.py --check
 check "the table of cited lemmas in docs/ARCHITECTURE.md is up to date" python3 checks/cited.py --check
+check "what docs/LIBRARY.md quotes stands in the crates" python3 checks/quoted.py
 check "nothing that rt makes is committed" has_no_output
 for crate in $(crates); do
     check "$crate is there" is_a_folder "$crate"

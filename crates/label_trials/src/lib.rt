@@ -4,6 +4,8 @@
 #[cfg(test)]
 mod body_tests;
 #[cfg(test)]
+mod caller_tests;
+#[cfg(test)]
 mod events;
 #[cfg(test)]
 mod label_bits_tests;

@@ -1,0 +1,2 @@
+pub mod HeldEntries
+pub mod SaidAnswers
