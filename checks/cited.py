@@ -15,6 +15,7 @@ import sys
 TOP = os.path.dirname(os.path.dirname(os.path.abspath(__file__)))
 PAGE = f"{TOP}/docs/ARCHITECTURE.md"
 HEAD = "| Lemmas of | Cited in |"
+ROWS = re.compile(r"\A(?:\|.*\n)*\n")
 USE = re.compile(r"\buse Rattle\.(\w+)\.proofs\.([\w.]+)\.\{")
 
 
@@ -57,7 +58,7 @@ def main(words):
     if words == ["--write"]:
         before, _, rest = page.partition(HEAD + "\n")
         with open(PAGE, "w", encoding="utf-8") as file:
-            file.write(before + printed + rest.partition("\n\n")[2])
+            file.write(before + printed + ROWS.sub("", rest))
     else:
         sys.stdout.write(printed.rstrip("\n") + "\n")
     return 0
