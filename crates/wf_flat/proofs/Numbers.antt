@@ -9,7 +9,7 @@ use Rattle.wf_model.proofs.Lists.{in_append_cases, at_in, is_at}
 use Rattle.wf_flat.specs.declared.graph.Port.{Port}
 use Rattle.wf_flat.specs.declared.graph.Link.{Link}
 use Rattle.wf_flat.specs.contracts.graph.PortPartialEq.TheImpl.{eq-value}
-use Rattle.wf_flat.specs.Index.{place_of, side_of, IsWide, AreWide, number_of, IsNumbered, AreNumbered, IsRising, AreSums}
+use Rattle.wf_flat.specs.Index.{side_place, side_of, IsWide, AreWide, number_of, IsNumbered, AreNumbered, IsRising, AreSums}
 
 pub port_same : (a b : Port) → (eq-value).it a b ≡ true → a ≡ b
 port_same a b e = grind (arith, nat_tests)
@@ -22,7 +22,7 @@ within_length [] k h = absurd (omega arith)
 within_length (x ∷ xs) zero h = omega arith
 within_length (x ∷ xs) (suc k) h = let r = within_length xs k h in omega arith
 
-side_places : (i j : ℕ) (s t : Side) → 2 * i + place_of s ≡ 2 * j + place_of t → (i ≡ j) × (s ≡ t)
+side_places : (i j : ℕ) (s t : Side) → 2 * i + side_place s ≡ 2 * j + side_place t → (i ≡ j) × (s ≡ t)
 side_places i j Input Input e = (omega arith, refl)
 side_places i j Input Output e = absurd (omega arith)
 side_places i j Output Input e = absurd (omega arith)
@@ -135,7 +135,7 @@ no_link = record { from = no_port; to = no_port }
 pub link_in : (ls : List Link) (k : ℕ) → k < length ls → IsIn (get_or ls k no_link) ls
 link_in ls k h = at_in (get_or ls k no_link) k ls (is_at k ls no_link h)
 
-low_place : (s : Side) → place_of s ≤ 1
+low_place : (s : Side) → side_place s ≤ 1
 low_place Input = omega arith
 low_place Output = omega arith
 

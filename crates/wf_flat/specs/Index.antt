@@ -8,13 +8,13 @@ use Rattle.wf_flat.specs.declared.graph.Link.{Link}
 use Rattle.wf_flat.specs.declared.index.Arc.{Arc}
 
 -- inputs come before outputs
-abbrev pub place_of : Side → ℕ
-place_of Input = 0
-place_of Output = 1
+abbrev pub side_place : Side → ℕ
+side_place Input = 0
+side_place Output = 1
 
 -- the side of an instance that a port is on: the inputs of instance k are side 2 k, its outputs side 2 k + 1
 abbrev pub side_of : Port → ℕ
-side_of x = 2 * x.instance + place_of x.side
+side_of x = 2 * x.instance + side_place x.side
 
 -- a port is one of those of its side, where the sides have so many
 abbrev pub IsWide : List ℕ → Port → Type 0
