@@ -17,7 +17,7 @@ use Rattle.wf_model.proofs.Deciding.{Either, either_same, test_either, in_either
 use Rattle.label_model.proofs.TakenEvents.{taken, expansion_of}
 use Rattle.report_model.specs.Reports.{subject_of, same_event, same_subject}
 
-number_same : (p : ℕ) → p == p ≡ true
+pub number_same : (p : ℕ) → p == p ≡ true
 number_same p = grind (arith, nat_tests)
 
 names_decide : (a b : List (List ℕ)) → (pointwise bytes_eq a b ≡ true → a ≡ b) × (a ≡ b → pointwise bytes_eq a b ≡ true)
@@ -43,7 +43,7 @@ pub subject_itself : (x : Event) → same_subject x x ≡ true
 subject_itself (Start a) = refl
 subject_itself (Expand i p ns) = bytes_same i i refl
 
-option_same : (a b : Option (List ℕ)) → option_eq bytes_eq a b ≡ true → a ≡ b
+pub option_same : (a b : Option (List ℕ)) → option_eq bytes_eq a b ≡ true → a ≡ b
 option_same None None h = refl
 option_same None (Some y) h = absurd (true≢false (sym h))
 option_same (Some x) None h = absurd (true≢false (sym h))

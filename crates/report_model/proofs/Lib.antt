@@ -11,4 +11,3 @@ pub mod InOrder
 pub mod WorkedReports
 pub mod Rounds
 pub mod Marked
-pub mod KeptReports

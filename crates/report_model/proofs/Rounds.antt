@@ -11,12 +11,8 @@ use Rattle.wf_model.specs.Faults.{is_one_of, fault_of}
 use Rattle.wf_model.proofs.Runs.{made_more, names-named}
 use Rattle.wf_model.proofs.Tests.{or-assoc}
 use Rattle.report_model.specs.Reports.{Report}
-use Rattle.report_model.specs.Intake.{Intake, Refused, Taking, GoesOn, Stops, and_then, without_first, is_ready, ready_in, hold, apply_unless, without_ready, apply_one, apply_ready, take_report}
+use Rattle.report_model.specs.Intake.{Intake, Refused, Taking, GoesOn, Stops, and_then, without_first, is_ready, ready_in, hold, apply_unless, without_ready, apply_one, apply_ready, apply_all, take_report}
 use Rattle.report_model.proofs.FirstOnes.{taken_out}
-
--- all held reports that come to be ready are applied
-abbrev pub apply_all : Grammar → ℕ → Intake → Taking
-apply_all g most s = apply_ready g most (length s.held) s
 
 -- the state after an event is applied
 abbrev pub after_event : Grammar → Intake → Event → Intake

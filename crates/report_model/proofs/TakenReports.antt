@@ -41,6 +41,15 @@ refused_more g most done more run f (never_ready r h p) = never_ready r (in_appe
 reported_more : (done more : List Report) (x : Event) → IsIn x (reported done) → IsIn x (reported (done ++ more))
 reported_more done more x h = let w = report_from x done h in subst (λ z. IsIn z (reported (done ++ more))) (sym w.2) (report_in w.0 (done ++ more) (in_append_left w.0 done more w.1))
 
+-- the end is reached from where the reports go on, if none is held then
+pub ends_on : (u : Taking) (s : Intake) → and_then u (λ t. end_with t t.held) ≡ GoesOn s → (u ≡ GoesOn s) × (s.held ≡ [])
+ends_on (Stops t f) s e = absurd (cc)
+ends_on (GoesOn t) s e = go (t.held) refl e
+  where
+    go : (held : List Report) → t.held ≡ held → end_with t held ≡ GoesOn s → (GoesOn t ≡ GoesOn s) × (s.held ≡ [])
+    go [] q e = let w : t ≡ s = cc in (e, sym (ap (λ (z : Intake). z.held) w) ∙ q)
+    go (r ∷ held) q e = absurd (cc)
+
 module _ (g : Grammar) (most : ℕ) where
   stopped_more : (done more : List Report) (t : Intake) (f : ReportFault) → IsStopped g most done t f → IsStopped g most (done ++ more) t f
   stopped_more done more t f s = record {
@@ -96,15 +105,6 @@ module _ (g : Grammar) (most : ℕ) where
 
   after_all : (rs : List Report) → AfterReports g most rs (take_reports g most nothing_taken rs)
   after_all rs = after_reports rs [] nothing_taken at_first (λ r h t. h)
-
-  -- the end is reached from where the reports go on, if none is held then
-  ends_on : (u : Taking) (s : Intake) → and_then u (λ t. end_with t t.held) ≡ GoesOn s → (u ≡ GoesOn s) × (s.held ≡ [])
-  ends_on (Stops t f) s e = absurd (cc)
-  ends_on (GoesOn t) s e = go (t.held) refl e
-    where
-      go : (held : List Report) → t.held ≡ held → end_with t held ≡ GoesOn s → (GoesOn t ≡ GoesOn s) × (s.held ≡ [])
-      go [] q e = let w : t ≡ s = cc in (e, sym (ap (λ (z : Intake). z.held) w) ∙ q)
-      go (r ∷ held) q e = absurd (cc)
 
   nil_from : (rs : List Report) → ((r : Report) → IsIn r rs → ⊥) → rs ≡ []
   nil_from [] h = refl
@@ -162,7 +162,7 @@ any_order_law g most e rs acc same =
 
 pub taken_law : TakenLaw
 taken_law g most rs s e =
-    let w = ends_on g most (take_reports g most nothing_taken rs) s e in
+    let w = ends_on (take_reports g most nothing_taken rs) s e in
     let h : AfterReports g most rs (GoesOn s) = subst (AfterReports g most rs) w.0 (after_all g most rs) in
     are_taken g most rs s w.0 h.0 w.1
 

@@ -82,9 +82,13 @@ abbrev pub apply_ready : Grammar → ℕ → ℕ → Intake → Taking
 apply_ready g most zero s = GoesOn s
 apply_ready g most (suc n) s = apply_one g most (apply_ready g most n) s (find (ready_in g s.run) s.held)
 
--- A report is taken in two parts: it is held; and then, while a held report is ready, the first ready one is taken out and applied. As many times as reports are held are enough: then no held report is ready
+-- All held reports that come to be ready are applied. As many times as reports are held are enough: then no held report is ready
+abbrev pub apply_all : Grammar → ℕ → Intake → Taking
+apply_all g most s = apply_ready g most (length s.held) s
+
+-- A report is taken in two parts: it is held; and then, while a held report is ready, the first ready one is taken out and applied
 abbrev pub take_report : Grammar → ℕ → Intake → Report → Taking
-take_report g most s r = and_then (hold s r) (λ t. apply_ready g most (length t.held) t)
+take_report g most s r = and_then (hold s r) (apply_all g most)
 
 -- reports are taken one after another, up to the first that is refused
 abbrev pub take_reports : Grammar → ℕ → Intake → List Report → Taking

@@ -1,4 +1,5 @@
 pub mod Reports
 pub mod Intake
+pub mod Kept
 pub mod Laws
 pub mod Examples
