@@ -1,0 +1,9 @@
+pub mod Names
+pub mod Least
+pub mod Found
+pub mod Times
+pub mod Due
+pub mod Marks
+pub mod Known
+pub mod Together
+pub mod Offers

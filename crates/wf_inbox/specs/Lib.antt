@@ -1,0 +1,4 @@
+pub mod Inboxes
+pub mod Keeping
+pub mod Places
+pub mod Told
