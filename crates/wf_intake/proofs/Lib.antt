@@ -1,0 +1,12 @@
+pub mod Adding
+pub mod Numbers
+pub mod Places
+pub mod Marking
+pub mod Noting
+pub mod Stands
+pub mod KnownOn
+pub mod Parts
+pub mod Stepping
+pub mod Offering
+pub mod Beginning
+pub mod Answering

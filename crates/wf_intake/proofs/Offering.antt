@@ -1,0 +1,167 @@
+-- A report that is taken: it repeats another, or contradicts it, or is held; or it is ready.
+use Rattle.std.proofs.Common.{◌≡◌, ℕ, zero, suc, ◌<◌, Bool, true, false, cond, List, [], ◌∷◌, ◌++◌, map, filter, length, Option, None, Some, refl, sym, ap, ◌∙◌, subst, inl, inr, ⊎_elim, arith, true≢false}
+use Rattle.std.specs.Option.{option_or}
+use Rattle.std.specs.List.{find}
+use Rattle.std.proofs.lemmas.List.{map-append}
+use Rattle.std.proofs.lemmas.List.Folds.{find-append}
+use Rattle.wf_model.specs.Lists.{IsIn, AllDiffer}
+use Rattle.wf_model.specs.Grammar.{Grammar}
+use Rattle.wf_model.specs.declared.event.Event.{Event}
+use Rattle.wf_model.proofs.Lists.{in_map, in_map_from}
+use Rattle.report_model.specs.Reports.{Report, subject_of, same_event, about}
+use Rattle.report_model.specs.Intake.{Intake, ReportFault, Conflict, GoesOn, Stops, ready_in, without_ready, hold_beside, hold, take_report, apply_all}
+use Rattle.report_model.specs.Kept.{Kept, report_of, reports_of, is_held, kept_at, newly_kept}
+use Rattle.report_model.proofs.Events.{same_subjects}
+use Rattle.report_model.proofs.FirstOnes.{more_cases, none_passes}
+use Rattle.report_model.proofs.Marked.{marked_last}
+use Rattle.report_model.proofs.Rounds.{taken_by}
+use Rattle.wf_inbox.specs.declared.inbox.Offer.{Offer}
+use Rattle.wf_inbox.specs.declared.inbox.Offer.TheVariants.{Kept as IsHeld, Repeat}
+use Rattle.wf_inbox.specs.Inboxes.{known_on, IsKept, IsRepeat, Contradicts}
+use Rattle.wf_intake.specs.declared.fault.IntakeFault.{IntakeFault}
+use Rattle.wf_intake.specs.declared.standing.Standing.TheVariants.{Same, Other, Ready, Early}
+use Rattle.wf_intake.specs.Reported.{ReportedSeen, noted}
+use Rattle.wf_intake.specs.Applied.{applied_on, IsStanding}
+use Rattle.wf_intake.specs.Intakes.{subjects_of, IsKeptAs, IsIntakeOf, IsWrittenOn, fault_told}
+use Rattle.wf_intake.specs.Rounds.{names_given, all_marked, IsApplied, IsNotApplied, Stop}
+use Rattle.wf_intake.proofs.KnownOn.{known_more}
+use Rattle.wf_intake.proofs.Parts.{ready_refused, ready_applied, ready_parts}
+use Rattle.wf_intake.proofs.Stepping.{written_same, written_on, all_done_there}
+
+-- what is so of the report of each place, and of one more
+each_more : (P : Kept → Type 0) (kept : List Kept) (y : Kept) → ((j : ℕ) → j < length kept → P (kept_at kept j)) → P y → (j : ℕ) → j < length (kept ++ y ∷ []) → P (kept_at (kept ++ y ∷ []) j)
+each_more P [] y h p zero l = p
+each_more P [] y h p (suc j) l = absurd (omega (arith, l))
+each_more P (x ∷ kept) y h p zero l = h 0 (omega arith)
+each_more P (x ∷ kept) y h p (suc j) l = each_more P kept y (λ i m. h (suc i) (omega (arith, m))) p j (omega (arith, l))
+
+differ_last : {A : Type 0} (xs : List A) (y : A) → AllDiffer xs → (IsIn y xs → ⊥) → AllDiffer (xs ++ y ∷ [])
+differ_last [] y d n = ((λ h. h), tt)
+differ_last (x ∷ xs) y d n = ((λ h. ⊎_elim (λ a. d.0 a) (λ e. n (inl (sym e))) (more_cases x y xs h)), differ_last xs y d.1 (λ h. n (inr h)))
+
+-- the subject of a report is new where none that is kept is about it
+new_subject : (kept : List Kept) (r : Report) → find (about r.event) (reports_of kept) ≡ None → IsIn (subject_of r.event) (subjects_of kept) → ⊥
+new_subject kept r q h =
+    let w = in_map_from (λ (k : Kept). subject_of k.report.event) (subject_of r.event) kept h in
+    none_passes (about r.event) (reports_of kept) q w.0.report (in_map report_of w.0 kept w.1) (same_subjects w.0.report.event r.event (sym w.2))
+
+or_assoc : {A : Type 0} (a b c : Option A) → option_or (option_or a b) c ≡ option_or a (option_or b c)
+or_assoc None b c = refl
+or_assoc (Some x) b c = refl
+
+module _ (g : Grammar) (most : ℕ) (old : List Kept) (seen : ReportedSeen) (IsRun : List Event → Type 0) (s : Intake) (here : IsIntakeOf g old seen IsRun s) (r : Report) where
+  -- beside the one on its subject
+  beside : (k : Report) → find (about r.event) s.known ≡ Some k → (b : Bool) → same_event k.event r.event ≡ b → hold s r ≡ cond b (GoesOn s) (Stops s (Conflict r.line k.line))
+  beside k q b e = ap (hold_beside s r) q ∙ ap (λ c. cond c (GoesOn s) (Stops s (Conflict r.line k.line))) e
+
+  -- a repetition is ignored
+  repeated : (k : Report) → find (about r.event) s.known ≡ Some k → same_event k.event r.event ≡ true → take_report g most s r ≡ GoesOn s
+  repeated k q e = taken_by g most s r (GoesOn s) (beside k q true e) ∙ all_done_there g most old seen IsRun here.none_ready s here.parts
+
+  -- a contradiction ends the intake
+  contradicted : (k : Report) → find (about r.event) s.known ≡ Some k → same_event k.event r.event ≡ false → (earlier : ℕ) → k.line ≡ earlier → take_report g most s r ≡ Stops s (Conflict r.line earlier)
+  contradicted k q e earlier l = taken_by g most s r (Stops s (Conflict r.line k.line)) (beside k q false e) ∙ ap (λ n. Stops s (Conflict r.line n)) l
+
+  of_applied : (k : Report) → applied_on g s.run seen r.event ≡ Some k → find (about r.event) s.known ≡ Some k
+  of_applied k q = here.parts.known r.event ∙ ap (λ o. option_or o (known_on old r.event)) q
+
+  module _ (written : List Event → List ℕ) (text : List ℕ) where
+    abbrev Taken : List Kept → Type 0
+    Taken kept = (q : Intake) × (take_report g most s r ≡ GoesOn q) × IsIntakeOf g kept seen IsRun q × IsWrittenOn written s.run q.run text text
+
+    abbrev Stopped : ReportFault → Type 0
+    Stopped f = (q : Intake) × (take_report g most s r ≡ Stops q f) × IsWrittenOn written s.run q.run text text
+
+    -- the event of a report was applied
+    pub applied_again : IsStanding g s.run seen r.event Same → Taken old
+    applied_again a = (s, repeated a.0 (of_applied a.0 a.1) a.2, here, written_same written s.run text text refl)
+
+    -- another on its subject was applied
+    pub applied_other : (earlier : ℕ) → IsStanding g s.run seen r.event (Other earlier) → (f : ReportFault) → ◌≡◌ {A = Option ReportFault} (Some (Conflict r.line earlier)) (Some f) → Stopped f
+    applied_other earlier a f told =
+        let e : Conflict r.line earlier ≡ f = cc in
+        (s, contradicted a.0 (of_applied a.0 a.1) a.2 earlier a.3 ∙ ap (Stops s) e, written_same written s.run text text refl)
+
+    module _ (early : IsStanding g s.run seen r.event Early) where
+      of_kept : (o : Option Report) → known_on old r.event ≡ o → find (about r.event) s.known ≡ o
+      of_kept o q = here.parts.known r.event ∙ (ap (λ z. option_or z (known_on old r.event)) early.0 ∙ q)
+
+      abbrev k : Kept
+      k = newly_kept r false
+
+      abbrev later : Intake
+      later = record { run = s.run; held = s.held ++ r ∷ []; known = s.known ++ r ∷ [] }
+
+      held_new : known_on old r.event ≡ None → IsIntakeOf g (old ++ k ∷ []) seen IsRun later
+      held_new none = record {
+        parts = record {
+          run = here.parts.run;
+          held = ap (λ l. l ++ r ∷ []) here.parts.held ∙ sym (ap (map report_of) (marked_last is_held is_held old k refl) ∙ map-append report_of (filter is_held old) (k ∷ []));
+          known = λ x. known_more s.known r x ∙
+              (ap (λ o. option_or o (find (about x) (r ∷ []))) (here.parts.known x) ∙
+              (or_assoc (applied_on g s.run seen x) (known_on old x) (find (about x) (r ∷ [])) ∙
+              ap (option_or (applied_on g s.run seen x)) (sym (ap (find (about x)) (map-append report_of old (k ∷ [])) ∙ find-append (about x) (reports_of old) (r ∷ [])))));
+          marks = each_more (λ (x : Kept). x.held ≡ true → x.ready ≡ ready_in g s.run x.report) old k here.parts.marks (λ h. sym early.1);
+          subjects = subst AllDiffer (sym (map-append (λ (x : Kept). subject_of x.report.event) old (k ∷ []))) (differ_last (subjects_of old) (subject_of r.event) here.parts.subjects (new_subject old r none));
+          expansions = each_more (λ (x : Kept). subject_of x.report.event ≡ None → ⊥) old k here.parts.expansions early.2;
+          applied = each_more (λ (x : Kept). applied_on g s.run seen x.report.event ≡ cond x.held None (Some x.report)) old k here.parts.applied early.0;
+          fits = here.parts.fits;
+        };
+        none_ready = each_more (λ (x : Kept). x.held ≡ true → x.ready ≡ true → ⊥) old k here.none_ready (λ h q. true≢false (sym q));
+      }
+
+      -- its instance does not stand yet: it is held, or ignored
+      pub offered : (kept : List Kept) (o : Offer) → (o ≡ IsHeld → IsKept old kept r false) → (o ≡ Repeat → IsRepeat old r) → (o ≡ Repeat → kept ≡ old) → Taken kept
+      offered kept IsHeld held repeat same =
+          let h = held refl in
+          let now = held_new h.first in
+          subst Taken (sym h.added) (later, taken_by g most s r (GoesOn later) (ap (hold_beside s r) (of_kept None h.first)) ∙ all_done_there g most (old ++ k ∷ []) seen IsRun now.none_ready later now.parts, now, written_same written s.run text text refl)
+      offered kept Repeat held repeat same =
+          let p = repeat refl in
+          subst Taken (sym (same refl)) (s, repeated p.0 (of_kept (Some p.0) p.1) p.2, here, written_same written s.run text text refl)
+
+      -- or refused
+      pub refused : (earlier : ℕ) → Contradicts old r earlier → (f : ReportFault) → ◌≡◌ {A = Option ReportFault} (Some (Conflict r.line earlier)) (Some f) → Stopped f
+      refused earlier c f told =
+          let e : Conflict r.line earlier ≡ f = cc in
+          (s, contradicted c.0 (of_kept (Some c.0) c.1) c.2 earlier c.3 ∙ ap (Stops s) e, written_same written s.run text text refl)
+
+-- a report that is ready
+module _ (g : Grammar) (most : ℕ) (written : Grammar → List Event → List ℕ) (old : List Kept) (seen : ReportedSeen) (WasRun : List Event → Type 0) (line : ℕ) (e : Event) (number : Option ℕ) (s : Intake) (here : IsIntakeOf g old seen WasRun s) (stands : IsStanding g s.run seen e (Ready number)) (before : List ℕ) where
+  abbrev report : Report
+  report = record { line = line; event = e }
+
+  -- it is held at first
+  abbrev beside_it : Intake
+  beside_it = record { run = s.run; held = s.held ++ report ∷ []; known = s.known ++ report ∷ [] }
+
+  -- the run refuses it
+  pub refused_at_once : (r : ReportFault) (now : List ℕ) → IsNotApplied g most s.run e line r → now ≡ before → (q : Intake) × (take_report g most s report ≡ Stops q r) × IsWrittenOn (written g) s.run q.run before now
+  refused_at_once r now a same = (_, ready_refused g most old seen WasRun s here line e number stands a.fault a.of_run ∙ ap (Stops (without_ready g beside_it)) (sym a.told), written_same (written g) s.run before now same)
+
+  module _ (h : Grammar) (same : h ≡ g) (most' : ℕ) (limit : most' ≡ most) (kept : List Kept) (lines : ReportedSeen) (IsRun : List Event → Type 0) (between : List ℕ) (a : IsApplied g most (written g) s.run e IsRun before between) (marks : kept ≡ all_marked (names_given e) old) (notes : lines ≡ noted seen number line e) where
+    abbrev after : Intake
+    after = record { run = s.run ++ e ∷ []; held = s.held; known = s.known ++ report ∷ [] }
+
+    now_here : IsKeptAs g kept lines IsRun after
+    now_here = subst (λ z. IsKeptAs g kept z IsRun after) (sym notes) (subst (λ z. IsKeptAs g z (noted seen number line e) IsRun after) (sym marks) (ready_parts g most old seen WasRun s here line e number stands a.extends IsRun a.run))
+
+    goes : take_report g most s report ≡ apply_all g most after
+    goes = ready_applied g most old seen WasRun s here line e number stands a.extends
+
+    -- it is applied, and then those that are ready
+    pub then_taken : (k : Grammar) (more : List Kept) (others : ReportedSeen) (MoreRun : List Event → Type 0) (now : List ℕ) →
+        ((t : Intake) → IsKeptAs h kept lines IsRun t → (q : Intake) × (apply_all h most' t ≡ GoesOn q) × IsIntakeOf k more others MoreRun q × IsWrittenOn (written h) t.run q.run between now) →
+        (q : Intake) × (take_report g most s report ≡ GoesOn q) × IsIntakeOf k more others MoreRun q × IsWrittenOn (written g) s.run q.run before now
+    then_taken k more others MoreRun now all =
+        let there = subst (λ n. (t : Intake) → IsKeptAs g kept lines IsRun t → (q : Intake) × (apply_all g n t ≡ GoesOn q) × IsIntakeOf k more others MoreRun q × IsWrittenOn (written g) t.run q.run between now) limit
+        (subst (λ z. (t : Intake) → IsKeptAs z kept lines IsRun t → (q : Intake) × (apply_all z most' t ≡ GoesOn q) × IsIntakeOf k more others MoreRun q × IsWrittenOn (written z) t.run q.run between now) same all) in
+        let q = there after now_here in
+        (q.0, goes ∙ q.1, q.2, written_on (written g) s.run (s.run ++ e ∷ []) q.0.run before between now a.text q.3)
+
+    -- or one of these is refused
+    pub then_stopped : (f : IntakeFault) (now : List ℕ) → Stop h most' written kept lines IsRun between now f → (r : ReportFault) → fault_told f ≡ Some r → (q : Intake) × (take_report g most s report ≡ Stops q r) × IsWrittenOn (written g) s.run q.run before now
+    then_stopped f now all r told =
+        let there = subst (λ n. Stop g n written kept lines IsRun between now f) limit (subst (λ z. Stop z most' written kept lines IsRun between now f) same all) in
+        let q = there r told after now_here in
+        (q.later, goes ∙ q.stops, written_on (written g) s.run (s.run ++ e ∷ []) q.later.run before between now a.text q.text)

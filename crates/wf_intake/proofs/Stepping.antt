@@ -1,0 +1,123 @@
+-- The rounds of the intake, and how they follow one another.
+use Rattle.std.proofs.Common.{◌≡◌, ℕ, List, [], ◌++◌, Option, Some, sym, ap, ◌∙◌, subst, arith, append_assoc, append-nil}
+use Rattle.std.specs.Prelude.{◌<◌, MatchOption}
+use Rattle.std.specs.List.{find, slice_set}
+use Rattle.wf_model.specs.Grammar.{Grammar}
+use Rattle.wf_model.specs.declared.event.Event.{Event}
+use Rattle.report_model.specs.Reports.{Report}
+use Rattle.report_model.specs.Intake.{Intake, ReportFault, GoesOn, Stops, ready_in, without_ready, apply_all}
+use Rattle.report_model.specs.Kept.{Kept, kept_at, let_go, IsFirstReady}
+use Rattle.report_model.proofs.Rounds.{all_done}
+use Rattle.wf_inbox.specs.declared.inbox.Held.{Held}
+use Rattle.wf_inbox.specs.Inboxes.{IsNext, NoneReady}
+use Rattle.wf_intake.specs.declared.fault.IntakeFault.{IntakeFault}
+use Rattle.wf_intake.specs.Reported.{ReportedSeen, noted}
+use Rattle.wf_intake.specs.Applied.{number_of}
+use Rattle.wf_intake.specs.Intakes.{IsKeptAs, IsIntakeOf, IsWrittenOn, fault_told}
+use Rattle.wf_intake.specs.Rounds.{names_given, all_marked, held_count, IsApplied, IsNotApplied, ComesTo, ComesToStop, Round, Stop}
+use Rattle.wf_intake.proofs.Places.{one_less, count_marked}
+use Rattle.wf_intake.proofs.KnownOn.{none_found}
+use Rattle.wf_intake.proofs.Parts.{next_refused, next_applied, next_parts}
+
+-- the report that is let go
+pub next_held : (was left : List Kept) (o : Option Held) (h : Held) → o ≡ Some h → MatchOption o (NoneReady was) (λ x. IsNext was left (record { line = x.line; event = x.event })) → IsNext was left (record { line = h.line; event = h.event })
+next_held was left o h e next = subst (λ z. MatchOption z (NoneReady was) (λ x. IsNext was left (record { line = x.line; event = x.event }))) e next
+
+-- nothing more is written
+pub written_same : (written : List Event → List ℕ) (run : List Event) (old new : List ℕ) → new ≡ old → IsWrittenOn written run run old new
+written_same written run old new e = ([], e ∙ sym (append-nil old), sym (append-nil (written run)))
+
+-- one text behind another
+pub written_on : (written : List Event → List ℕ) (a b c : List Event) (x y z : List ℕ) → IsWrittenOn written a b x y → IsWrittenOn written b c y z → IsWrittenOn written a c x z
+written_on written a b c x y z p q = (
+  p.0 ++ q.0,
+  q.1 ∙ (ap (λ l. l ++ q.0) p.1 ∙ append_assoc x p.0 q.0),
+  q.2 ∙ (ap (λ l. l ++ q.0) p.2 ∙ append_assoc (written a) p.0 q.0),
+)
+
+module _ (g : Grammar) (most : ℕ) (written : List Event → List ℕ) (was : List Kept) (told : ReportedSeen) (WasRun IsRun : List Event → Type 0) (old new : List ℕ) (s : Intake) (here : IsKeptAs g was told WasRun s) (k : ℕ) (first : IsFirstReady was k) where
+  abbrev event : Event
+  event = (kept_at was k).report.event
+
+  abbrev left : List Kept
+  left = slice_set was k (let_go (kept_at was k))
+
+  applied : (number : Option ℕ) → number ≡ number_of g s.run event → IsApplied g most written s.run event IsRun old new →
+      ComesTo g most written (all_marked (names_given event) left) (noted told number (kept_at was k).report.line event) IsRun old new s
+  applied number numbered a = record {
+    later = _;
+    same = next_applied g most was told WasRun s here k first a.extends number numbered;
+    here = next_parts g most was told WasRun s here k first a.extends number numbered IsRun a.run;
+    text = a.text;
+  }
+
+  refused : (r : ReportFault) → IsNotApplied g most s.run event (kept_at was k).report.line r → new ≡ old → ComesToStop g most written old new r s
+  refused r a e = record {
+    later = _;
+    stops = next_refused g most was told WasRun s here k first a.fault a.of_run ∙ ap (Stops (without_ready g s)) (sym a.told);
+    text = written_same written s.run old new e;
+  }
+
+module _ (g : Grammar) (most : ℕ) (written : Grammar → List Event → List ℕ) (was left : List Kept) (told : ReportedSeen) (WasRun : List Event → Type 0) (line : ℕ) (e : Event) (next : IsNext was left (record { line = line; event = e })) (old new : List ℕ) where
+  -- the event of the first report that is ready is applied
+  pub round_applied : (kept : List Kept) (seen : ReportedSeen) (number : Option ℕ) (IsRun : List Event → Type 0) → kept ≡ all_marked (names_given e) left → seen ≡ noted told number line e →
+      ((events : List Event) → WasRun events → number ≡ number_of g events e) →
+      ((events : List Event) → WasRun events → IsApplied g most (written g) events e IsRun old new) → Round g most written was told WasRun old kept seen IsRun new
+  round_applied kept seen number IsRun marks notes numbered a s here =
+      let is : (kept_at was next.0).report ≡ record { line = line; event = e } = next.2 in
+      let goes = applied g most (written g) was told WasRun IsRun old new s here next.0 next.1 number (subst (λ (z : Report). number ≡ number_of g s.run z.event) (sym is) (numbered s.run here.run))
+      (subst (λ (z : Report). IsApplied g most (written g) s.run z.event IsRun old new) (sym is) (a s.run here.run)) in
+      let named = subst (λ (z : Report). ComesTo g most (written g) (all_marked (names_given z.event) (slice_set was next.0 (let_go (kept_at was next.0)))) (noted told number z.line z.event) IsRun old new s) is goes in
+      subst (λ z. ComesTo g most (written g) kept z IsRun old new s) (sym notes) (subst (λ z. ComesTo g most (written g) z (noted told number line e) IsRun old new s) (sym (marks ∙ ap (all_marked (names_given e)) next.3)) named)
+
+  -- and one less is held
+  pub round_fewer : (kept : List Kept) → kept ≡ all_marked (names_given e) left → held_count kept < held_count was
+  round_fewer kept marks =
+      let a = one_less was next.0 next.1.held in
+      let b : held_count kept ≡ held_count (slice_set was next.0 (let_go (kept_at was next.0))) = ap held_count marks ∙ (count_marked (names_given e) left ∙ ap held_count next.3) in
+      omega (arith, a, b)
+
+  -- or it is refused
+  pub round_refused : (f : IntakeFault) →
+      ((r : ReportFault) → fault_told f ≡ Some r → (events : List Event) → WasRun events → IsNotApplied g most events e line r) → ((r : ReportFault) → fault_told f ≡ Some r → new ≡ old) → Stop g most written was told WasRun old new f
+  round_refused f a same r t s here =
+      let l : (kept_at was next.0).report ≡ record { line = line; event = e } = next.2 in
+      refused g most (written g) was told WasRun WasRun old new s here next.0 next.1 r (subst (λ (z : Report). IsNotApplied g most s.run z.event z.line r) (sym l) (a r t s.run here.run)) (same r t)
+
+-- where none is ready, all is done
+pub all_done_there : (g : Grammar) (most : ℕ) (kept : List Kept) (seen : ReportedSeen) (IsRun : List Event → Type 0) → NoneReady kept → (s : Intake) → IsKeptAs g kept seen IsRun s → apply_all g most s ≡ GoesOn s
+all_done_there g most kept seen IsRun none s here = all_done g most s (ap (find (ready_in g s.run)) here.held ∙ none_found g s.run kept here.marks none)
+
+-- the rounds are over
+pub rounds_over : (g h : Grammar) → h ≡ g → (most : ℕ) (written : Grammar → List Event → List ℕ) (was : List Kept) (told : ReportedSeen) (WasRun : List Event → Type 0) (x : List ℕ) (kept : List Kept) (seen : ReportedSeen) (IsRun : List Event → Type 0) (y : List ℕ) →
+    Round g most written was told WasRun x kept seen IsRun y → NoneReady kept → (s : Intake) → IsKeptAs g was told WasRun s → (q : Intake) × (apply_all g most s ≡ GoesOn q) × IsIntakeOf h kept seen IsRun q × IsWrittenOn (written g) s.run q.run x y
+rounds_over g h e most written was told WasRun x kept seen IsRun y round none s here =
+    let a = round s here in (
+      a.later,
+      a.same ∙ all_done_there g most kept seen IsRun none a.later a.here,
+      subst (λ k. IsIntakeOf k kept seen IsRun a.later) (sym e) (record { parts = a.here; none_ready = none }),
+      a.text,
+    )
+
+module _ (g : Grammar) (most : ℕ) (written : List Event → List ℕ) (kept : List Kept) (seen : ReportedSeen) (IsRun : List Event → Type 0) (x y : List ℕ) (s : Intake) (a : ComesTo g most written kept seen IsRun x y s) where
+  stops_on : (z : List ℕ) (r : ReportFault) → ComesToStop g most written y z r a.later → ComesToStop g most written x z r s
+  stops_on z r b = record { later = b.later; stops = a.same ∙ b.stops; text = written_on written s.run a.later.run b.later.run x y z a.text b.text }
+
+  goes_on : (more : List Kept) (lines : ReportedSeen) (MoreRun : List Event → Type 0) (z : List ℕ) → ComesTo g most written more lines MoreRun y z a.later → ComesTo g most written more lines MoreRun x z s
+  goes_on more lines MoreRun z b = record { later = b.later; same = a.same ∙ b.same; here = b.here; text = written_on written s.run a.later.run b.later.run x y z a.text b.text }
+
+module _ (g h : Grammar) (e : h ≡ g) (most most' : ℕ) (d : most' ≡ most) (written : Grammar → List Event → List ℕ) (was : List Kept) (told : ReportedSeen) (WasRun : List Event → Type 0) (x : List ℕ)
+    (kept : List Kept) (seen : ReportedSeen) (IsRun : List Event → Type 0) (y : List ℕ) (a : Round g most written was told WasRun x kept seen IsRun y) where
+  -- a refusal after others
+  pub stop_on : (z : List ℕ) (f : IntakeFault) → Stop h most' written kept seen IsRun y z f → Stop g most written was told WasRun x z f
+  stop_on z f b r t s here =
+      let c : Stop g most written kept seen IsRun y z f = subst (λ m. Stop g m written kept seen IsRun y z f) d (subst (λ k. Stop k most' written kept seen IsRun y z f) e b) in
+      let k = a s here in
+      stops_on g most (written g) kept seen IsRun x y s k z r (c r t k.later k.here)
+
+  -- a round after others
+  pub round_on : (more : List Kept) (lines : ReportedSeen) (MoreRun : List Event → Type 0) (z : List ℕ) → Round h most' written kept seen IsRun y more lines MoreRun z → Round g most written was told WasRun x more lines MoreRun z
+  round_on more lines MoreRun z b s here =
+      let c : Round g most written kept seen IsRun y more lines MoreRun z = subst (λ m. Round g m written kept seen IsRun y more lines MoreRun z) d (subst (λ k. Round k most' written kept seen IsRun y more lines MoreRun z) e b) in
+      let k = a s here in
+      goes_on g most (written g) kept seen IsRun x y s k more lines MoreRun z (c k.later k.here)

@@ -1,0 +1,4 @@
+pub mod Applied
+pub mod Intakes
+pub mod Reported
+pub mod Rounds

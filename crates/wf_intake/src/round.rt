@@ -1,0 +1,142 @@
+// One round of the intake: the first report that is ready is let go, and its event applied.
+ghost use Rattle.std.specs.Prelude.{◌≡◌, ◌≤◌, ◌<◌, ℕ, List, length, true, false, Some, IfOk, IfErr, OnOk, OnErr};
+ghost use Rattle.wf_model.specs.declared.event.Event.{Event};
+ghost use Rattle.wf_model.specs.declared.event.RunFault.TheVariants.{NoMemory};
+ghost use Rattle.report_model.specs.Intake.{ReportFault, Refused};
+ghost use Rattle.wf_inbox.specs.Inboxes.{NoneReady};
+ghost use Rattle.wf_intake.specs.declared.fault.IntakeFault.{IntakeFault};
+ghost use Rattle.wf_intake.specs.declared.fault.IntakeFault.TheVariants.{NoMemory as WantsMemory};
+ghost use Rattle.wf_intake.specs.Reported.{noted};
+ghost use Rattle.wf_intake.specs.Applied.{number_of};
+ghost use Rattle.wf_intake.specs.Intakes.{fault_told};
+ghost use Rattle.wf_intake.specs.Rounds.{names_given, all_marked, held_count, IsApplied, IsNotApplied, Round, Stop};
+
+use crate::fault::IntakeFault;
+use crate::grows::Grows;
+use crate::reported::Reported;
+use std::alloc::AllocError;
+use wf_inbox::Inbox;
+use wf_model::{Event, Name, RunFault};
+
+/// The number of the instance that an event expands.
+fn number_of<R: Grows>(run: &R, event: &Event) -> Option<u32>
+    ensures { (events : List Event) → R.is_run run.now events → result ≡ number_of (R.grammar run.now) events event.now }
+{
+    match event {
+        Event::Start { .. } => None,
+        Event::Expand { instance, .. } => run.find(instance.bytes()),
+    }
+}
+
+/// How many names an event gives to instances.
+fn count_names(event: &Event) -> usize
+    ensures { result ≡ length (names_given event.now) }
+{
+    match event {
+        Event::Start { .. } => 1,
+        Event::Expand { names, .. } => names.items().len(),
+    }
+}
+
+/// Makes room for the names that an event gives.
+fn make_room(
+    inbox: &mut Inbox<'_>,
+    reported: &mut Reported,
+    event: &Event,
+) -> Result<(), AllocError>
+    ensures room { OnOk result (length (names_given event.now) ≤ inbox.new.spare) }
+    ensures kept { inbox.new.kept ≡ inbox.old.kept }
+    ensures reported { reported.new ≡ reported.old }
+{
+    let count = count_names(event);
+    reported.reserve(count)?;
+    let Ok(few) = u32::try_from(count) else {
+        return Err(AllocError);
+    };
+    inbox.reserve(few)
+}
+
+/// The instances of these names stand.
+fn mark_all(inbox: &mut Inbox<'_>, names: &[Name])
+    requires { length names.now ≤ inbox.old.spare }
+    ensures { inbox.new.kept ≡ all_marked names.now inbox.old.kept }
+{
+    let mut left = names;
+    while let [first, rest @ ..] = left {
+        inbox.stands(first.bytes());
+        left = rest;
+    }
+}
+
+/// The instances that an event made stand.
+fn mark_made(inbox: &mut Inbox<'_>, event: &Event)
+    requires { length (names_given event.now) ≤ inbox.old.spare }
+    ensures { inbox.new.kept ≡ all_marked (names_given event.now) inbox.old.kept }
+{
+    match event {
+        Event::Start { name } => inbox.stands(name.bytes()),
+        Event::Expand { names, .. } => mark_all(inbox, names.items()),
+    }
+}
+
+/// Why a report is refused where the run refuses its event.
+fn refusal(line: u64, fault: RunFault) -> IntakeFault
+    ensures memory { fault ≡ NoMemory → result ≡ WantsMemory }
+    ensures told { (r : ReportFault) → fault_told result ≡ Some r → r ≡ Refused line fault }
+{
+    match fault {
+        RunFault::NoMemory => IntakeFault::NoMemory,
+        _ => IntakeFault::Refused { line, fault },
+    }
+}
+
+/// Applies the event of a report, notes its line, and marks the reports that are ready by it. The number is that of the instance that it expands.
+pub(crate) fn apply_event<R: Grows>(
+    inbox: &mut Inbox<'_>,
+    reported: &mut Reported,
+    run: &mut R,
+    line: u64,
+    number: Option<u32>,
+    event: &Event,
+) -> Result<(), IntakeFault>
+    ensures applied { OnOk result ((events : List Event) → R.is_run run.old events → IsApplied (R.grammar run.old) (R.most run.old) (R.written (R.grammar run.old)) events event.now (R.is_run run.new) (R.text run.old) (R.text run.new)) }
+    ensures noted { OnOk result (reported.new ≡ noted reported.old number line event.now) }
+    ensures marks { OnOk result (inbox.new.kept ≡ all_marked (names_given event.now) inbox.old.kept) }
+    ensures refused { IfErr result (λ f. (r : ReportFault) → fault_told f ≡ Some r → (events : List Event) → R.is_run run.old events → IsNotApplied (R.grammar run.old) (R.most run.old) events event.now line r) }
+    ensures same_text { IfErr result (λ f. (r : ReportFault) → fault_told f ≡ Some r → R.text run.new ≡ R.text run.old) }
+    ensures grammar { R.grammar run.new ≡ R.grammar run.old }
+    ensures most { R.most run.new ≡ R.most run.old }
+    ensures known { (k : R.Known) → R.is_known run.old k → R.is_known run.new k }
+{
+    make_room(inbox, reported, event)?;
+    match run.apply(event) {
+        Ok(()) => {
+            reported.note(number, line, event)?;
+            mark_made(inbox, event);
+            Ok(())
+        }
+        Err(fault) => Err(refusal(line, fault)),
+    }
+}
+
+/// Lets the first report go that is held and ready, and applies its event. False where none is ready.
+pub(crate) fn apply_next<R: Grows>(
+    inbox: &mut Inbox<'_>,
+    reported: &mut Reported,
+    run: &mut R,
+) -> Result<bool, IntakeFault>
+    ensures round { OnOk result (Round (R.grammar run.old) (R.most run.old) R.written inbox.old.kept reported.old (R.is_run run.old) (R.text run.old) inbox.new.kept reported.new (R.is_run run.new) (R.text run.new)) }
+    ensures last { IfOk result (λ more. more ≡ false → NoneReady inbox.new.kept) }
+    ensures fewer { IfOk result (λ more. more ≡ true → held_count inbox.new.kept < held_count inbox.old.kept) }
+    ensures stopped { IfErr result (λ f. Stop (R.grammar run.old) (R.most run.old) R.written inbox.old.kept reported.old (R.is_run run.old) (R.text run.old) (R.text run.new) f) }
+    ensures grammar { R.grammar run.new ≡ R.grammar run.old }
+    ensures most { R.most run.new ≡ R.most run.old }
+    ensures known { (k : R.Known) → R.is_known run.old k → R.is_known run.new k }
+{
+    let Some(held) = inbox.next()? else {
+        return Ok(false);
+    };
+    let number = number_of(run, &held.event);
+    apply_event(inbox, reported, run, held.line, number, &held.event)?;
+    Ok(true)
+}
