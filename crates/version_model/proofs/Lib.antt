@@ -1,0 +1,16 @@
+pub mod SameParts
+pub mod VersionRuns
+pub mod VersionFormed
+pub mod VersionSteps
+pub mod VersionCycles
+pub mod Matching
+pub mod Standing
+pub mod VersionReach
+pub mod VersionViews
+pub mod VersionSeen
+pub mod VersionDepends
+pub mod VersionLabels
+pub mod VersionEntries
+pub mod VersionVerdicts
+pub mod LongerGrammar
+pub mod WorkedVersions

@@ -1,0 +1,5 @@
+use Rattle.version_model.proofs.VersionEntries
+use Rattle.version_model.proofs.laws.version_entries_law.Goals as goal
+
+pub returns : goal.returns
+returns c = VersionEntries.version_entries_law

@@ -1,0 +1,4 @@
+pub mod Versions
+pub mod Standing
+pub mod Laws
+pub mod Examples
