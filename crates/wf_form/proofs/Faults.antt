@@ -1,5 +1,5 @@
 -- The fault of parts, by the group of rules in which it is found.
-use Rattle.std.proofs.Common.{◌≡◌, ◌⊎◌, List, ℕ, sym, ap, ◌∙◌, inl, inr, ⊎_elim}
+use Rattle.std.proofs.Common.{◌≡◌, ◌⊎◌, List, [], ◌∷◌, ℕ, zero, suc, take, sym, ap, ◌∙◌, inl, inr, ⊎_elim}
 use Rattle.wf_model.specs.declared.parts.Parts.{Parts}
 use Rattle.wf_model.specs.Grammar.{Module}
 use Rattle.wf_form.specs.declared.fault.FormFault.{FormFault}
@@ -7,9 +7,21 @@ use Rattle.wf_form.specs.declared.fault.FormFault.TheVariants.{NoMemory}
 use Rattle.wf_spec.specs.Naming.{names_of}
 use Rattle.wf_form.specs.Forming.{modules_of, IsFormed}
 use Rattle.wf_form.specs.Rules.{module_names, first_rules, body_rules, link_rules, IsFaultOf, AreKept}
-use Rattle.wf_spec.specs.FirstFaults.{AllHold, IsFirstFault}
+use Rattle.wf_spec.specs.FirstFaults.{Rule, AllHold, IsFirstFault}
 use Rattle.wf_form.proofs.Kept.{kept_gives}
 use Rattle.wf_form.proofs.Lawful.{same_names, kept_formed}
+
+-- a fault of the first n rules is the fault of all
+pub fault_of_start : (n : ℕ) (rs : List (Rule FormFault)) (f : FormFault) → IsFirstFault (take n rs) f → IsFirstFault rs f
+fault_of_start zero rs f h = absurd h
+fault_of_start (suc n) [] f h = absurd h
+fault_of_start (suc n) (r ∷ rs) f (inl h) = inl h
+fault_of_start (suc n) (r ∷ rs) f (inr h) = inr (h.0, fault_of_start n rs f h.1)
+
+-- or want of memory
+pub told_of_start : (n : ℕ) (rs : List (Rule FormFault)) (f : FormFault) → (f ≡ NoMemory) ⊎ IsFirstFault (take n rs) f → (f ≡ NoMemory) ⊎ IsFirstFault rs f
+told_of_start n rs f (inl e) = inl e
+told_of_start n rs f (inr h) = inr (fault_of_start n rs f h)
 
 -- a fault that is found among the first rules
 pub first_fault : (parts : Parts) (f : FormFault) → (f ≡ NoMemory) ⊎ IsFirstFault (first_rules parts) f → (f ≡ NoMemory) ⊎ IsFaultOf parts f

@@ -22,6 +22,7 @@ pub mod Numbering
 pub mod PairsOf
 pub mod Picking
 pub mod Placing
+pub mod Pushing
 pub mod Rows
 pub mod ShortNames
 pub mod Sided

@@ -7,6 +7,7 @@ use Rattle.wf_model.specs.Lists.{IsIn, numbers_from}
 use Rattle.wf_model.specs.Grammar.{Grammar, Module, Production, Given, alternative_of}
 use Rattle.wf_model.specs.WellFormed.{IsWellFormed}
 use Rattle.wf_spec.specs.Naming.{place_of, names_of}
+use Rattle.wf_form.specs.Assembling.{AreListed}
 use Rattle.wf_form.specs.Forming.{modules_of, production_in, given_in, grammar_of}
 use Rattle.wf_spec.specs.Held.{HeldProduction}
 use Rattle.wf_form.specs.Resolving.{HaveFewPorts}
@@ -73,26 +74,27 @@ pub record AreMade (parts : Parts) (g : Grammar) (names lists table : List (List
   pub places : among ≡ places g.productions (length g.productions)
 
 -- as they are read
-pub made : (parts : Parts) (modules seq given_of rows_of : List Module) (names : List (List ℕ)) (start : ℕ) (told : List ℕ) (deps : List DepsPart) (given read kept : List Given) (rules headed_by : List Production)
-    (productions : List HeldProduction) (count : ℕ) (lists table : List (List ℕ)) (among : List ℕ) → modules ≡ modules_of parts → names ≡ names_of modules → seq ≡ modules → given_of ≡ modules → rows_of ≡ modules
-    → told ≡ parts.start → start ≡ place_of names told → deps ≡ parts.deps → given ≡ map (given_in given_of) deps → read ≡ given → kept ≡ given
-    → headed_by ≡ map (production_in modules) parts.productions → headed_by ≡ rules → map (λ (p : HeldProduction). p.core) productions ≡ rules → count ≡ length modules
-    → AreByHead count headed_by (length headed_by) lists → ((g : Grammar) → g.modules ≡ rows_of → g.given ≡ read → AreRows g table) → among ≡ places headed_by (length headed_by)
-    → AreMade parts (record { start = start; modules = seq; productions = map (λ (p : HeldProduction). p.core) productions; given = kept }) names lists table among
-made parts modules seq given_of rows_of names start told deps given read kept rules headed_by productions count lists table among are is seq_is given_is rows_is told_is place deps_are of read_is kept_is heads same cores counted by_head rows numbers = record {
+pub made : (parts : Parts) (modules seq given_of listed_of : List Module) (names : List (List ℕ)) (start : ℕ) (told : List ℕ) (given kept : List Given) (productions held : List HeldProduction) (lists table : List (List ℕ))
+    → modules ≡ modules_of parts → names ≡ names_of modules → seq ≡ modules → given_of ≡ modules → listed_of ≡ modules → told ≡ parts.start → start ≡ place_of names told
+    → given ≡ map (given_in given_of) parts.deps → kept ≡ given → ((g : Grammar) → g.modules ≡ given_of → g.given ≡ given → AreRows g table)
+    → AreListed (length listed_of) (map (production_in listed_of) parts.productions) productions lists → held ≡ productions
+    → AreMade parts (record { start = start; modules = seq; productions = map (λ (p : HeldProduction). p.core) held; given = kept }) names lists table (map (λ (p : HeldProduction). p.alternative) held)
+made parts modules seq given_of listed_of names start told given kept productions held lists table are is seq_is given_is listed_is told_is place of kept_is rows listed held_is = record {
   modules = seq_is ∙ are;
   names_are = is ∙ ap names_of (sym seq_is);
   start = place ∙ ap (place_of names) told_is;
-  productions = cores ∙ (sym same ∙ (heads ∙ ap (λ ms. map (production_in ms) parts.productions) (sym seq_is)));
-  given = kept_is ∙ (of ∙ (ap (map (given_in given_of)) deps_are ∙ ap (λ ms. map (given_in ms) parts.deps) (given_is ∙ sym seq_is)));
-  by_head = subst (λ rs. AreByHead (length seq) rs (length rs) lists) (same ∙ sym cores)
-      (subst (λ n. AreByHead n headed_by (length headed_by) lists) (counted ∙ ap length (sym seq_is)) by_head);
-  rows = rows g (seq_is ∙ sym rows_is) (kept_is ∙ sym read_is);
-  places = numbers ∙ ap (λ rs. places rs (length rs)) (same ∙ sym cores);
+  productions = cores ∙ ap (λ ms. map (production_in ms) parts.productions) (listed_is ∙ sym seq_is);
+  given = kept_is ∙ (of ∙ ap (λ ms. map (given_in ms) parts.deps) (given_is ∙ sym seq_is));
+  by_head = subst (λ ms. AreByHead (length ms) g.productions (length g.productions) lists) (listed_is ∙ sym seq_is) (subst (λ rs. AreByHead (length listed_of) rs (length rs) lists) (sym cores) listed.by_head);
+  rows = rows g (seq_is ∙ sym given_is) kept_is;
+  places = ap (map (λ (p : HeldProduction). p.alternative)) held_is ∙ (listed.places ∙ ap (λ rs. places rs (length rs)) (sym cores));
 }
   where
     g : Grammar
-    g = record { start = start; modules = seq; productions = map (λ (p : HeldProduction). p.core) productions; given = kept }
+    g = record { start = start; modules = seq; productions = map (λ (p : HeldProduction). p.core) held; given = kept }
+
+    cores : g.productions ≡ map (production_in listed_of) parts.productions
+    cores = ap (map (λ (p : HeldProduction). p.core)) held_is ∙ listed.cores
 
 -- they make the grammar of the parts
 pub whole : (parts : Parts) (g : Grammar) (names lists table : List (List ℕ)) (among : List ℕ) → AreKept parts → AreMade parts g names lists table among → g ≡ grammar_of parts

@@ -12,3 +12,7 @@ named r old new a b position port first second done =
 -- two texts that were appended in brackets with a comma between
 pub paired : (old a b opened first parted second closed : List ℕ) → opened ≡ old ++ codes "[" → first ≡ opened ++ a → parted ≡ first ++ codes "," → second ≡ parted ++ b → closed ≡ second ++ codes "]" → closed ≡ old ++ pair_text a b
 paired old a b opened first parted second closed p q r s t = grind (arith, append_assoc {A = ℕ})
+
+-- a text that was appended after another was appended with it, under another name
+pub also : (old a b s t u : List ℕ) → a ≡ old ++ s → b ≡ a ++ t → t ≡ u → b ≡ old ++ (s ++ u)
+also old a b s t u p q same = q ∙ ap (λ l. a ++ l) same ∙ ap (λ l. l ++ u) p ∙ append_assoc old s u

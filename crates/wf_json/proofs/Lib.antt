@@ -3,3 +3,5 @@ pub mod Joined
 pub mod Places
 pub mod Seen
 pub mod Readings
+pub mod Told
+pub mod Items

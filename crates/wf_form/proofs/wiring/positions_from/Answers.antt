@@ -1,4 +1,5 @@
-use Rattle.std.proofs.Common.{◌<◌, ◌∙◌, List, ℕ, sym, subst, ap, length}
+use Rattle.std.proofs.lemmas.List.{take_all}
+use Rattle.std.proofs.Common.{map, ◌<◌, ◌∙◌, List, ℕ, sym, subst, ap, length}
 use Rattle.wf_model.specs.declared.body.Position.{Position}
 use Rattle.wf_model.specs.Lists.{IsIn}
 use Rattle.wf_model.specs.Meaning.{position_of}
@@ -22,3 +23,10 @@ loop-part-preserved c = record {
   known = all_push (λ (q : Position). q.module.0 < length c.args.names.now) c.loop-part.list.items c.push.new.self.items (record { name = c.in_ok-name.name; «module» = c.module_number-number.result })
       c.loop-part.invariant.known c.module_number-number.ensures.within c.in_ok-push.ensures.items;
 }
+
+pub returns-clause-positions : goal.returns-clause-positions
+returns-clause-positions c =
+    c.loop-part.invariant.made ∙ ap (map (placed c.args.names.now)) (take_all c.loop-part.part-index c.args.parts.now c.loop-part-test.false)
+
+pub returns-clause-known : goal.returns-clause-known
+returns-clause-known c = c.loop-part.invariant.known

@@ -1,9 +1,10 @@
-use Rattle.std.proofs.Common.{◌≡◌, List, refl, subst, sym, map}
+use Rattle.std.proofs.Common.{◌≡◌, ◌≤◌, ◌∙◌, List, ap, length, refl, subst, sym, map}
+use Rattle.std.proofs.lemmas.List.{length-map}
 use Rattle.wf_model.specs.declared.parts.PosPart.{PosPart}
 use Rattle.wf_model.specs.Lists.{IsIn}
 use Rattle.wf_model.specs.Meaning.{position_of}
 use Rattle.wf_spec.specs.Naming.{names_of, place_of}
-use Rattle.wf_form.specs.Forming.{body_in, head_in}
+use Rattle.wf_form.specs.Forming.{body_in, head_in, placed}
 use Rattle.wf_form.specs.Resolving.{AreOfModules, HasFewPorts}
 use Rattle.wf_form.proofs.Fitting.{made_body, read_head}
 use Rattle.wf_form.proofs.Placing.{few_there}
@@ -69,3 +70,18 @@ returns c =
           c.as_slice-body.ensures.value refl (the_body s) (the_head s).0 c.items-2.ensures c.items-3.ensures c.items-4.ensures (the_head s).1
           (rw c.in-Some.is at c.in_ok-edges.ensures.edges) (rw c.in-Some-2.is at c.in_ok-entries.ensures.entries) (rw c.in-Some-3.is at c.in_ok-exits.ensures.exits),
     )
+
+few_here : (c : After-as_slice-body) → length c.as_slice-body.result.now ≤ 64
+few_here c =
+    let body = c.args.part.now.body in
+    let names = names_of c.args.modules.now in
+    subst (λ n. n ≤ 64) (sym (sym (length-map c.as_slice-body.result.now position_of) ∙ ap length (the_body c) ∙ length-map body (placed names))) c.requires.few_positions
+
+pub edge_numbers-requires-clause-few_positions : goal.edge_numbers-requires-clause-few_positions
+edge_numbers-requires-clause-few_positions c = few_here (goal.at.edge_numbers-requires-clause-few_positions c).After-as_slice-body
+
+pub entry_numbers-requires-clause-few_positions : goal.entry_numbers-requires-clause-few_positions
+entry_numbers-requires-clause-few_positions c = few_here (goal.at.entry_numbers-requires-clause-few_positions c).After-as_slice-body
+
+pub exit_numbers-requires-clause-few_positions : goal.exit_numbers-requires-clause-few_positions
+exit_numbers-requires-clause-few_positions c = few_here (goal.at.exit_numbers-requires-clause-few_positions c).After-as_slice-body

@@ -1,4 +1,4 @@
-use Rattle.std.proofs.Common.{◌∷◌, ◌+◌, [], length-append, length, ap, inl, inr, refl, ◌∙◌}
+use Rattle.std.proofs.Common.{arith, ◌∷◌, ◌+◌, [], length-append, length, ap, inl, inr, refl, ◌∙◌}
 use Rattle.wf_form.specs.Rules.{HasKnownPorts}
 use Rattle.wf_form.specs.Wiring.{IsWiringOf}
 use Rattle.wf_spec.proofs.Listing.{read_in}
@@ -26,3 +26,6 @@ loop-k-preserved c =
       wired = matched_more (IsWiringOf c.args.modules.now) c.args.parts.now c.loop-k.list.items c.push.new.self.items c.loop-k.k c.index-parts-k.result c.in-Some.wiring
           c.loop-k.invariant.as_many c.loop-k.invariant.wired made.1 c.index-parts-k.is c.in_ok-push.ensures.items;
     }
+
+pub returns-clause-kept : goal.returns-clause-kept
+returns-clause-kept c = λ k inside. c.loop-k.invariant.known k (let end = c.loop-k-test.false in omega arith)

@@ -1,8 +1,10 @@
-use Rattle.std.proofs.Common.{map}
+use Rattle.std.proofs.lemmas.List.{take_all}
+use Rattle.std.proofs.Common.{◌∙◌, ap, map}
 use Rattle.wf_model.specs.Meaning.{position_of, edge_of}
 use Rattle.wf_form.specs.Forming.{edge_in}
 use Rattle.wf_form.specs.Resolving.{IsEdgeIn}
 use Rattle.wf_spec.proofs.Listing.{made_more, all_take_more, read_in}
+use Rattle.wf_form.proofs.Numbering.{all_read}
 use Rattle.wf_form.proofs.links.numbers.edge_numbers.Goals as goal
 
 pub returns-in_default-clause-unknown : goal.returns-in_default-clause-unknown
@@ -15,3 +17,14 @@ loop-part-preserved c = record {
   all = all_take_more (IsEdgeIn c.args.modules.now (map position_of c.args.body.now)) c.args.parts.now c.loop-part.part-index c.part-item.result c.loop-part.invariant.all
       c.in-Some.ensures.1 c.part-item.is c.loop-part-test.true;
 }
+
+pub returns-clause-unknown : goal.returns-clause-unknown
+returns-clause-unknown c = tt
+
+pub returns-clause-known : goal.returns-clause-known
+returns-clause-known c =
+    all_read (IsEdgeIn c.args.modules.now (map position_of c.args.body.now)) c.args.parts.now c.loop-part.part-index c.loop-part.invariant.all c.loop-part-test.false
+
+pub returns-clause-edges : goal.returns-clause-edges
+returns-clause-edges c =
+    c.loop-part.invariant.numbered ∙ ap (map (edge_in c.args.modules.now (map position_of c.args.body.now))) (take_all c.loop-part.part-index c.args.parts.now c.loop-part-test.false)

@@ -1,4 +1,5 @@
-use Rattle.std.proofs.Common.{map}
+use Rattle.std.proofs.lemmas.List.{take_all}
+use Rattle.std.proofs.Common.{map, ◌∙◌, ap}
 use Rattle.wf_model.specs.Meaning.{position_of}
 use Rattle.wf_form.specs.Wiring.{entry_of, entry_link, IsEntryIn}
 use Rattle.wf_spec.proofs.Listing.{made_more, all_take_more, read_in}
@@ -19,3 +20,10 @@ loop-part-preserved c = record {
 pub returns-clause-known : goal.returns-clause-known
 returns-clause-known c =
     all_read (IsEntryIn c.args.modules.now (map position_of c.args.body.now) c.args.head.now) c.args.parts.now c.loop-part.part-index c.loop-part.invariant.all c.loop-part-test.false
+
+pub returns-clause-unknown : goal.returns-clause-unknown
+returns-clause-unknown c = tt
+
+pub returns-clause-entries : goal.returns-clause-entries
+returns-clause-entries c =
+    c.loop-part.invariant.numbered ∙ ap (map (entry_link c.args.modules.now (map position_of c.args.body.now) c.args.head.now)) (take_all c.loop-part.part-index c.args.parts.now c.loop-part-test.false)

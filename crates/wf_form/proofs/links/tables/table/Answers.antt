@@ -1,4 +1,6 @@
-use Rattle.std.proofs.Common.{◌+◌, ◌<◌, map, get_or, set, sym, subst, ◌∙◌, false, true}
+use Rattle.std.proofs.lemmas.List.{take_all}
+use Rattle.wf_model.specs.declared.body.Inner.{Inner as InnerHeld}
+use Rattle.std.proofs.Common.{List, ◌+◌, ◌<◌, map, get_or, set, sym, subst, ◌∙◌, false, true}
 use Rattle.std.proofs.lemmas.List.{get_or_read}
 use Rattle.wf_model.specs.Meaning.{inner_of}
 use Rattle.wf_form.specs.Ends.{IsTable, place_of}
@@ -40,3 +42,6 @@ loop-i-preserved c =
     let low = subst (λ n. place_of i < n) (sym c.loop-i.invariant.count) (place_small c.args.positions i (c.requires.small i h)) in
     let e = get_or_read c.loop-i.marks.items (place_of i) c.index.result.now low c.index.ensures false in
     subst (IsTable c.args.positions (set c.loop-i.marks.items (place_of i) true)) (sym (one_more xs k no_inner c.loop-i-test.true).0) (table_more c.args.positions c.loop-i.marks.items _ i c.loop-i.invariant low (sym e ∙ c.if-index.false))
+
+pub returns : goal.returns
+returns c = subst (λ (l : List InnerHeld). IsTable c.args.positions c.loop-i.marks.items (map inner_of l)) (take_all c.loop-i.i-index c.args.ends.now c.loop-i-test.false) c.loop-i.invariant
