@@ -11,10 +11,18 @@ cd "$(dirname "${BASH_SOURCE[0]}")/.."
 top=$PWD
 numbers=("${@:2}")
 
-# The calls: the example, the words, the status where no growth is refused, the file of the example that has the text then, and the line on the standard error.
+# The events of the line in the other order: the last line lets both go.
+tac examples/line/events >"$work/exchanged"
+
+# The calls: their names, the example, the words, the status where no growth is refused, the file of the example that has the text then, or `own` where it is what the call writes when nothing is refused, and the line on the standard error.
 calls='ingest|line|ingest spec events|0|labels|
+ingest of held reports|line|ingest spec '$work/exchanged'|0|labels|
 ask|line|ask spec view labels queries|0|answers|
 trace|line|trace spec view events queries|0|answers|
+trace of held reports|line|trace spec view '$work/exchanged' queries|0|answers|
+export|line|export spec view events|0|own|
+gen|twisting|gen spec 6 1|0|own|
+drill|twisting|drill spec view 6 1|0|own|
 check|line|check spec|0|check|
 view|skewed|view spec view|2|none|refused: view: Unsafe module L one 2 other 1 input x1 output y1 joined one choice S=0 L=2'
 
@@ -35,7 +43,11 @@ run_tried() {
     local example=$1 number=$2 status=0 word files=()
     shift 2
     for word in "${@:2}"; do
-        files+=(--data "$word=$top/examples/$example/$word")
+        case $word in
+            /*) files+=(--data "$word=$word") ;;
+            [0-9]*) ;;
+            *) files+=(--data "$word=$top/examples/$example/$word") ;;
+        esac
     done
     (cd crates/wfprov && rt try --fail-alloc "$number" "${files[@]}" -- "$@" >"$work/out" 2>"$work/told" </dev/null) || status=$?
     echo "$status" >"$work/status"
@@ -103,7 +115,12 @@ fi
 while IFS='|' read -r name example words status file message; do
     text=$work/none
     : >"$text"
-    [ "$file" = none ] || text=$top/examples/$example/$file
+    case $file in
+        none) ;;
+        # shellcheck disable=SC2086
+        own) (cd "examples/$example" && "$program" $words) >"$work/own" && text=$work/own ;;
+        *) text=$top/examples/$example/$file ;;
+    esac
     refused=0
     without=0
     check "$name ends as it should wherever memory is wanting" ends_at_each

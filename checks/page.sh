@@ -200,7 +200,7 @@ check "a specification that is refused is told" refuses "wfprov check $work/bad:
 check "a view that is refused is told" refuses "wfprov view $line/spec $work/bad: refused: view: UnknownModule expand 0" $line/spec "$(text bad '{"expand":["T"]}')" $line/events $line/queries
 check "a view that is not safe is told" refuses "wfprov view examples/skewed/spec examples/skewed/view: refused: view: Unsafe module L one 2 other 1 input x1 output y1 joined one choice S=0 L=2" \
     examples/skewed/spec examples/skewed/view $line/events $line/queries
-check "an event that is refused is told" refuses "wfprov export $line/spec $line/view $work/bad: refused: events line 1: NotStarted" $line/spec $line/view "$(text bad '{"expand":"r","production":0,"names":[]}\n')" $line/queries
+check "an event that is refused is told" refuses "wfprov export $line/spec $line/view $work/bad: refused: events line 1: Orphan" $line/spec $line/view "$(text bad '{"expand":"r","production":0,"names":[]}\n')" $line/queries
 check "a query that is refused is told" refuses "wfprov trace $line/spec $line/view $line/events $work/bad: refused: queries line 2: LineWrong" $line/spec $line/view $line/events "$(text bad 'r.a r.b\nr.a\n')"
 check "a label file of another workflow is told" refuses "wfprov ask $line/spec $line/view $once/labels $line/queries: refused: labels: OtherSpec" --labels $once/labels $line/spec $line/view - $line/queries
 check "a label file of another run is told" refuses "$work/bad: byte 37: not the label file of $line/events, nor one that begins it or goes on from it" \

@@ -205,13 +205,17 @@ check "a line that is no JSON is told before later lines" \
 check "a line that is no event is told before later lines" \
     refuses_events 'line 2: WrongShape' "$(text no_event '{"start":"r"}\n{"start":"r","expand":"r"}\nx\n')"
 check "an event is told before a later line that is too long" \
-    refuses_events 'line 1: NotStarted' "$( (echo '{"expand":"r","production":0,"names":[]}'; head -c 65537 /dev/zero) >"$work/early"; echo "$work/early")"
+    refuses_events 'line 1: NameBad' "$( (echo '{"start":"?"}'; head -c 65537 /dev/zero) >"$work/early"; echo "$work/early")"
 check "a line that is too long is told before its form" \
     refuses_events 'line 2: LineTooLong' "$( (echo '{"start":"r"}'; head -c 65537 /dev/zero; echo; echo x) >"$work/long_line"; echo "$work/long_line")"
 check "the longest line is read" \
     refuses_events 'line 1: NotJson' "$( (head -c 65536 /dev/zero; echo) >"$work/longest"; echo "$work/longest")"
-check "an event that does not extend the run is told by its line" \
-    says 2 'refused: events line 2: StartedTwice\n' trace $line/spec $line/view "$(text twice '{"start":"r"}\n{"start":"r"}\n')" $line/queries
+check "a report that contradicts an earlier one is told by its line" \
+    says 2 'refused: events line 2: Conflict with 1\n' trace $line/spec $line/view "$(text twice '{"start":"r"}\n{"start":"s"}\n')" $line/queries
+check "a report that is held is told at the end of the file" \
+    refuses_events 'line 1: Orphan' "$(text early '{"expand":"q","production":0,"names":["x"]}\n{"start":"r"}\n')"
+check "a report that is held is not told before a later line" \
+    refuses_events 'line 2: NotJson' "$(text early_cut '{"expand":"q","production":0,"names":["x"]}\nx\n')"
 
 answered_then_refused() {
     run trace $line/spec $line/view $line/events "$(text some 'r.a r.b\nr.a\nr.b r.a\n')" &&
@@ -243,7 +247,7 @@ check "a run that was only begun is labelled" labels_until 50 "$(text begun_run 
 check "no event has the head of a label file alone" labels_until 36 "$nothing" 0 ''
 check "an absent run leaves the head of its label file" labels_until 36 "$work/absent" 3 'fault: reading events\n'
 check "a refused event leaves the entries of the events before it" \
-    labels_until 50 "$(text begun_twice "$begun$begun")" 2 'refused: events line 2: StartedTwice\n'
+    labels_until 50 "$(text begun_twice "$begun"'{"start":"s"}\n')" 2 'refused: events line 2: Conflict with 1\n'
 check "a line that is no JSON leaves the entries of the events before it" \
     labels_until 50 "$(text begun_cut "$begun\n{\"expand\"\n")" 2 'refused: events line 3: NotJson\n'
 check "a line that is no event leaves the entries of the events before it" \
@@ -530,6 +534,26 @@ for example in mapping-cwl mapping-nextflow; do
     check "it is labelled" labels "$example"
 done
 
+# Whether the events of an example, in this order of lines, have the items of its label file, each with the same label.
+labels_in_order() {
+    shift_lines "$2" "examples/$1/events" >"$work/ordered" && run ingest "examples/$1/spec" "$work/ordered" &&
+        ended 0 "$work/out" "$nothing" && python3 tools/labels.py lines "$work/out" | sort >"$work/ordered_lines" &&
+        python3 tools/labels.py lines "examples/$1/labels" | sort | cmp -s - "$work/ordered_lines"
+}
+# Lines in reverse, exchanged in turn, or with each of them twice.
+shift_lines() {
+    case $1 in
+        reverse) tac "$2" ;;
+        exchanged) awk 'NR % 2 { held = $0; next } { print; print held; held = "" } END { if (held) print held }' "$2" ;;
+        twice) cat "$2" "$2" ;;
+    esac
+}
+for example in line phylogeny-once phylogeny twisting pair; do
+    for order in reverse exchanged twice; do
+        check "the $example example has the same labels, lines $order" labels_in_order $example $order
+    done
+done
+
 # What a run of the line shows, and its run from two numbers.
 exports() {
     run export $line/spec "$1" "$2" && ended 0 "$(text expected_out "$3")" "$nothing"
@@ -540,7 +564,7 @@ check "an instance that waits joins nothing" exports $line/view "$(text begun '{
 check "what a view leaves closed has the pairs that it shows" exports "$(text shut '{"expand":[]}')" $line/events \
     'leaf r S\nitem r.a\nitem r.b\nlink r.a r.b\n'
 check "a refused event leaves nothing of a run that is exported" \
-    says 2 'refused: events line 2: StartedTwice\n' export $line/spec $line/view "$(text twice '{"start":"r"}\n{"start":"r"}\n')"
+    says 2 'refused: events line 2: Conflict with 1\n' export $line/spec $line/view "$(text twice '{"start":"r"}\n{"start":"s"}\n')"
 
 generates() {
     run gen "examples/$1/spec" "$2" "$3" && ended 0 "$(text expected_out "$4")" "$nothing"

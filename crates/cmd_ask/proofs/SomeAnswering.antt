@@ -9,6 +9,7 @@ use Rattle.wf_stage.proofs.SomeStages.{HasOutcome}
 use Rattle.wf_inputs.specs.Inputs.{instance_most}
 use Rattle.wf_inputs.proofs.SomeInputs.{some_spec_stage, some_view_stage, some_labels_stage, told_labels}
 use Rattle.wf_inputs.proofs.SomeRun.{some_events}
+use Rattle.wf_inputs.proofs.OneRun.{events_accepted}
 use Rattle.wf_inputs.proofs.ToldGrammars.{told_formed, told_proper}
 use Rattle.wf_inputs.proofs.ViewComposites.{told_composites}
 use Rattle.cmd_ask.specs.Answers.{IsAnswerOfRun}
@@ -25,7 +26,7 @@ some_trace spec view events queries =
     some_spec_stage spec _ (λ g p.
     some_view_stage spec.bytes g p view _ (λ u q.
     some_events g instance_most (lines_in events) (λ r. []) _ (λ r told.
-    some_queries_stage (IsAnswerOfRun g u r) (some_run_word g u (told_formed spec.bytes g p) (told_proper spec.bytes g p) (told_composites g (told_formed spec.bytes g p) view.bytes u q) q.safe r told.0.accepted.0) queries)))
+    some_queries_stage (IsAnswerOfRun g u r) (some_run_word g u (told_formed spec.bytes g p) (told_proper spec.bytes g p) (told_composites g (told_formed spec.bytes g p) view.bytes u q) q.safe r (events_accepted g instance_most (lines_in events) r told).0) queries)))
 
 some_ask : (spec view labels queries : File) → HasOutcome (Asks spec view labels queries)
 some_ask spec view labels queries =

@@ -1,5 +1,5 @@
 -- How `ingest` ends, where the lines of EVENTS were taken behind the head of the label file.
-use Rattle.std.proofs.Common.{◌≡◌, ◌≤◌, ℕ, Bool, List, [], ◌++◌, Option, Some, refl, sym, ap, ◌∙◌, subst, inr, append-nil}
+use Rattle.std.proofs.Common.{◌≡◌, ℕ, List, [], ◌++◌, Option, Some, refl, ap, ◌∙◌, subst, inl, inr, append-nil}
 use Rattle.std.specs.Prelude.{codes}
 use Rattle.wf_model.specs.Grammar.{Grammar}
 use Rattle.wf_io.specs.Lines.{FileLines}
@@ -11,11 +11,9 @@ use Rattle.wf_stage.specs.LineEnds.{line_ends}
 use Rattle.wf_stage.proofs.LineOutcomes.{stopped_ends, taken_ends}
 use Rattle.wf_inputs.specs.Inputs.{instance_most}
 use Rattle.wf_inputs.specs.RunTold.{EventsStage}
-use Rattle.wf_inputs.specs.RunTaking.{RunSoFar, TakesEvent, RefusesAt, MakesNothing, NeverStops, IsAnyRun}
-use Rattle.wf_inputs.proofs.EventLines.{at_start}
+use Rattle.wf_inputs.specs.RunTaking.{TakenSoFar, none_taken_of, TakesReport, StopsReport, HoldsNone, StopsHolding, IsAnyTaken}
 use Rattle.wf_inputs.proofs.EventStages.{events_forth, events_back, events_one_way, events_closed_one_way, GoesOn}
 use Rattle.cmd_ingest.specs.Ingested.{file_of, file_head, WritesFile}
-use Rattle.cmd_ingest.specs.Labelled.{bytes_by}
 use Rattle.cmd_ingest.proofs.HeadFirst.{file_of_none, file_more, file_first}
 
 module _ (g : Grammar) (file : FileLines) where
@@ -23,37 +21,40 @@ module _ (g : Grammar) (file : FileLines) where
   abbrev pub Made : End → List ℕ → Type 0
   Made = EventsStage g instance_most file (file_of g) (WritesFile g)
 
-  -- behind the last line the label file is whole
-  abbrev Closes : RunSoFar → End → List ℕ → Type 0
-  Closes = GoesOn bytes_by g instance_most (file_of g) (file_more g instance_most) (WritesFile g)
+  -- behind the last line a report is held, or the label file is whole
+  abbrev Closes : TakenSoFar → End → List ℕ → Type 0
+  Closes = GoesOn file_of g instance_most (WritesFile g)
 
-  forth : (e : End) (t : List ℕ) → OfLines (line_ends (codes "events")) (TakesEvent bytes_by) RefusesAt Closes (at_start g) file.lines file.tail e t → Made e (file_head g ++ t)
-  forth e t h = subst (λ x. Made e (x ++ t)) (file_of_none g) (events_forth bytes_by g instance_most (file_of g) (file_more g instance_most) (WritesFile g) file e t h)
+  forth : (e : End) (t : List ℕ) → OfLines (line_ends (codes "events")) (TakesReport file_of) (StopsReport file_of) Closes (none_taken_of g) file.lines file.tail e t → Made e (file_head g ++ t)
+  forth e t h = subst (λ x. Made e (x ++ t)) (file_of_none g) (events_forth file_of g instance_most (WritesFile g) file e t h)
 
-  back : (e : End) (t : List ℕ) → Made e t → (made : List ℕ) × (t ≡ file_head g ++ made) × OfLines (line_ends (codes "events")) (TakesEvent bytes_by) RefusesAt Closes (at_start g) file.lines file.tail e made
+  back : (e : End) (t : List ℕ) → Made e t → (made : List ℕ) × (t ≡ file_head g ++ made) × OfLines (line_ends (codes "events")) (TakesReport file_of) (StopsReport file_of) Closes (none_taken_of g) file.lines file.tail e made
   back e t h =
-      let b = events_back bytes_by g instance_most (file_of g) (file_more g instance_most) (WritesFile g) (file_first g) file e t h in
+      let b = events_back file_of g instance_most (file_more g instance_most) (WritesFile g) (file_first g) file e t h in
       (b.0, b.1 ∙ ap (λ x. x ++ b.0) (file_of_none g), b.2)
 
-  goes : (q : RunSoFar) (e : End) (t : List ℕ) → Closes q e t → ClosesOrGoesOn MakesNothing NeverStops q e t
-  goes q e t h = inr ([], t, refl, refl)
+  goes : (q : TakenSoFar) (e : End) (t : List ℕ) → Closes q e t → ClosesOrGoesOn HoldsNone StopsHolding q e t
+  goes q e t (inl h) = inl h
+  goes q e t (inr h) = inr ([], t, (h.0, refl), refl)
 
   -- the lines of EVENTS were taken
-  abbrev pub AreLabelled : (RunSoFar → Type 0) → Option (List ℕ) → Option (List ℕ) → Type 0
-  AreLabelled IsAt old new = AreTaken (AllTaken (line_ends (codes "events")) (TakesEvent bytes_by) RefusesAt (at_start g) file.lines) MakesNothing IsAt file.tail old new
+  abbrev pub AreLabelled : (TakenSoFar → Type 0) → Option (List ℕ) → Option (List ℕ) → Type 0
+  AreLabelled IsAt old new = AreTaken (AllTaken (line_ends (codes "events")) (TakesReport file_of) (StopsReport file_of) (none_taken_of g) file.lines) HoldsNone IsAt file.tail old new
 
   -- then the label file is written
-  pub labelled_ends : {IsAt : RunSoFar → Type 0} (old new : Option (List ℕ)) → AreLabelled IsAt old new → EndsBehind (file_head g) Made Done old new
+  pub labelled_ends : {IsAt : TakenSoFar → Type 0} (old new : Option (List ℕ)) → AreLabelled IsAt old new → EndsBehind (file_head g) Made Done old new
   labelled_ends old new taken =
-      taken_ends (line_ends (codes "events")) (TakesEvent bytes_by) RefusesAt MakesNothing NeverStops Closes (file_head g) Made (at_start g) file forth back goes
-      IsAnyRun (events_one_way bytes_by) events_closed_one_way tt Done (λ q last none. (refl, ap (λ x. file_of g q.events ++ x) none ∙ append-nil (file_of g q.events))) old new taken
+      taken_ends (line_ends (codes "events")) (TakesReport file_of) (StopsReport file_of) HoldsNone StopsHolding Closes (file_head g) Made (none_taken_of g) file forth back goes
+      IsAnyTaken (events_one_way file_of) events_closed_one_way tt Done (λ q last none. inr (none.0, (refl, ap (λ x. file_of g q.state.run ++ x) none.1 ∙ append-nil (file_of g q.state.run)))) old new taken
 
   -- they were stopped
   abbrev pub AreLabelledTo : Option End → Option (List ℕ) → Option (List ℕ) → Type 0
-  AreLabelledTo end old new = AreStopped (OfLines (line_ends (codes "events")) (TakesEvent bytes_by) RefusesAt NeverStops (at_start g) file.lines file.tail) (OfLines (line_ends (codes "events")) (TakesEvent bytes_by) RefusesAt (ClosesOrGoesOn MakesNothing NeverStops) (at_start g) file.lines file.tail) end old new
+  AreLabelledTo end old new =
+      AreStopped (OfLines (line_ends (codes "events")) (TakesReport file_of) (StopsReport file_of) StopsHolding (none_taken_of g) file.lines file.tail)
+      (OfLines (line_ends (codes "events")) (TakesReport file_of) (StopsReport file_of) (ClosesOrGoesOn HoldsNone StopsHolding) (none_taken_of g) file.lines file.tail) end old new
 
   -- then `ingest` ends so
   pub stopped_at : (end : Option End) (e : End) (old new : Option (List ℕ)) → (IsOfOutcome e → end ≡ Some e) → AreLabelledTo end old new → EndsBehind (file_head g) Made e old new
   stopped_at end e old new is stopped =
-      stopped_ends (line_ends (codes "events")) (TakesEvent bytes_by) RefusesAt MakesNothing NeverStops Closes (file_head g) Made (at_start g) file forth back goes
-      (λ q d t never. absurd never) end e old new is stopped
+      stopped_ends (line_ends (codes "events")) (TakesReport file_of) (StopsReport file_of) HoldsNone StopsHolding Closes (file_head g) Made (none_taken_of g) file forth back goes
+      (λ q d t holds. inl holds) end e old new is stopped

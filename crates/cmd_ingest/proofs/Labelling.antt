@@ -1,52 +1,57 @@
--- One line of events: what is taken and put of it, and why it ends the program.
-use Rattle.std.proofs.Common.{◌≡◌, ℕ, List, [], ◌∷◌, ◌++◌, Some, refl, sym, ap, ◌∙◌, subst}
-use Rattle.std.specs.Prelude.{codes}
+-- A run whose items are labelled: what its text grows by, and where it begins.
+use Rattle.std.proofs.Common.{◌≡◌, ℕ, ◌<◌, List, [], ◌∷◌, ◌++◌, length, Option, None, Some, sym, ap, ◌∙◌, subst}
+use Rattle.std.specs.Prelude.{position, bytes_eq}
+use Rattle.std.proofs.lemmas.Option.{none-some}
+use Rattle.sha2.specs.Sha256.{sha256}
 use Rattle.wf_model.specs.declared.event.Event.{Event}
-use Rattle.wf_model.specs.Grammar.{Grammar}
-use Rattle.wf_model.specs.Run.{IsAccepted}
+use Rattle.wf_model.specs.Run.{IsRun, Expanded, made, names_of, expanded_by}
+use Rattle.wf_json.specs.Canonical.{canonical_of}
 use Rattle.wf_spec.specs.Held.{HeldGrammar}
-use Rattle.wf_run.specs.Runs.{RunSeen, IsRunOf}
-use Rattle.wf_message.specs.Endings.{End}
-use Rattle.wf_stage.specs.LineEnds.{told_end}
-use Rattle.wf_stage.specs.Stages.{AtLine, Declines}
-use Rattle.wf_inputs.specs.RunTold.{IsEventText, RefusesText}
-use Rattle.wf_inputs.specs.RunTaking.{RunSoFar, with_event, TakesEvent, RefusesAt}
+use Rattle.label_model.proofs.FileGrowth.{file_step_law}
+use Rattle.report_model.specs.Kept.{Kept}
+use Rattle.wf_intake.specs.Reported.{ReportedSeen, none_reported}
+use Rattle.wf_intake.specs.Intakes.{IsWrittenOn}
+use Rattle.wf_run.specs.Runs.{RunSeen, node_at, name_at, names_at, IsExpandedAs, IsRunOf}
+use Rattle.wf_run.proofs.NamedInstances.{its_name}
+use Rattle.wf_inputs.proofs.PlainRuns.{names_told}
 use Rattle.wf_inputs.specs.Inputs.{instance_most}
-use Rattle.wf_inputs.proofs.EventLines.{at_start, refused_at}
-use Rattle.cmd_ingest.specs.Labelled.{bytes_by, IsLabelledAs, IsRunHeld}
+use Rattle.wf_inputs.specs.RunTaking.{none_taken_of}
+use Rattle.wf_inputs.specs.Reporting.{IsTakenAs}
+use Rattle.wf_inputs.proofs.ReportLines.{taken_at_start}
+use Rattle.cmd_ingest.specs.Ingested.{file_of}
+use Rattle.cmd_ingest.proofs.HeadFirst.{bytes_by}
 
--- a text tells an event, which a run takes: the run goes on, and the bytes are those of its entries
-pub labelled_as : (r u : RunSeen) → u.grammar ≡ r.grammar → u.most ≡ r.most → (before : List Event) (text : List ℕ) (e : Event) → IsEventText text e → IsRunOf u (before ++ e ∷ []) →
-    (old new : List ℕ) → old ≡ [] → new ≡ old ++ bytes_by r.grammar.core before e → IsLabelledAs r.grammar.core r.most before text u new
-labelled_as r u grammar most before text e told run old new none is = record {
-  event = e;
-  told = told;
-  accepted = subst (λ m. IsAccepted r.grammar.core m (before ++ e ∷ [])) most (subst (λ (h : HeldGrammar). IsAccepted h.core u.most (before ++ e ∷ [])) grammar run.accepted);
-  run = run;
-  bytes_are = is ∙ ap (λ l. l ++ bytes_by r.grammar.core before e) none;
-}
+-- with the entries of an event the text is written on, as the label file is
+pub written_on : (r u : RunSeen) → u.grammar ≡ r.grammar → (before : List Event) (e : Event) → IsRunOf u (before ++ e ∷ []) → (old new : List ℕ) → new ≡ old ++ bytes_by r.grammar.core before e → IsWrittenOn (file_of r.grammar.core) before (before ++ e ∷ []) old new
+written_on r u grammar before e run old new is = (
+  bytes_by r.grammar.core before e,
+  is,
+  file_step_law r.grammar.core (sha256 (canonical_of r.grammar.core)) before e (subst (λ (h : HeldGrammar). IsRun h.core h.core.start (before ++ e ∷ [])) grammar run.accepted.0),
+)
 
--- so a line of events is taken, and leaves the run of one event more
-pub line_taken : (r u : RunSeen) (number : ℕ) (text made : List ℕ) → u.grammar ≡ r.grammar → u.most ≡ r.most → ((before : List Event) → IsRunOf r before → IsLabelledAs r.grammar.core r.most before text u made) → (s : RunSoFar) → IsRunHeld r s → (q : RunSoFar) × TakesEvent bytes_by s number text q made × IsRunHeld u q
-line_taken r u number text made grammar most labelled s at =
-    let l = labelled s.events at.run in (
-      with_event s l.event,
-      (
-        l.event,
-        l.told,
-        subst (λ g. IsAccepted g s.limit (s.events ++ l.event ∷ [])) (sym at.grammar) (subst (λ m. IsAccepted r.grammar.core m (s.events ++ l.event ∷ [])) (sym at.limit) l.accepted),
-        refl,
-        l.bytes_are ∙ ap (λ g. bytes_by g s.events l.event) (sym at.grammar),
-      ),
-      record { run = l.run; grammar = at.grammar ∙ ap (λ (h : HeldGrammar). h.core) (sym grammar); limit = at.limit ∙ sym most },
-    )
+-- the names of an expansion, and none of no expansion
 
--- a line of events that is declined stops what takes it
-pub line_declined : (r : RunSeen) (number : ℕ) (text made : List ℕ) (d e : End) → ((before : List Event) → IsRunOf r before → Declines (codes "events") (AtLine (RefusesText r.grammar.core r.most before) number text) d) → told_end d ≡ Some e → made ≡ [] → (s : RunSoFar) → IsRunHeld r s → RefusesAt s number text e made
-line_declined r number text made d e declines told none s at =
-    refused_at s number text made d e
-    (subst (λ g. Declines (codes "events") (AtLine (RefusesText g s.limit s.events) number text) d) (sym at.grammar) (subst (λ m. Declines (codes "events") (AtLine (RefusesText r.grammar.core m s.events) number text) d) (sym at.limit) (declines s.events at.run))) told none
+-- an instance that the events expand
+module _ (r : RunSeen) (events : List Event) (run : IsRunOf r events) (instance : List ℕ) (x : Expanded) (k : ℕ) (at : position (bytes_eq instance) (names_of (made r.grammar.core r.grammar.core.start events)) ≡ Some k) (is : expanded_by events instance ≡ Some x) where
+  its : (k < length r.nodes) × (instance ≡ name_at r k)
+  its = its_name r events run instance k (ap (position (bytes_eq instance)) run.names ∙ at)
 
--- a labeller of a run of no events is at the start of a file
-pub run_started : (g : HeldGrammar) (r l : RunSeen) → l ≡ r → IsRunOf r [] → r.grammar ≡ g → r.most ≡ instance_most → IsRunHeld l (at_start g.core)
-run_started g r l is run grammar most = subst (λ (z : RunSeen). IsRunHeld z (at_start g.core)) (sym is) (record { run = run; grammar = ap (λ (h : HeldGrammar). h.core) (sym grammar); limit = sym most })
+  -- its number is that of one that is kept
+  pub is_kept : k < length r.nodes
+  is_kept = its.0
+
+  expanded : expanded_by events (name_at r k) ≡ Some x
+  expanded = ap (expanded_by events) (sym its.1) ∙ is
+
+  -- it has children
+  pub has_children : None ≡ (node_at r k).children → ⊥
+  has_children none = none-some x (sym (subst (IsExpandedAs r events (name_at r k)) (sym none) (run.each k its.0).children) ∙ expanded)
+
+  -- and these have the names that the events give them
+  pub children_named : (ks : List ℕ) → Some ks ≡ (node_at r k).children → names_at r ks ≡ x.names
+  children_named ks some = let told = subst (IsExpandedAs r events (name_at r k)) (sym some) (run.each k its.0).children in ap names_told (sym told.1 ∙ expanded)
+
+-- before the first line, where no report is kept and no line noted, and the labeller's run is that of no events
+pub labelled_at_start : (g : HeldGrammar) (kept : List Kept) (seen : ReportedSeen) (r l : RunSeen) → kept ≡ [] → seen ≡ none_reported → l ≡ r → IsRunOf r [] → r.grammar ≡ g → r.most ≡ instance_most → IsTakenAs l.grammar.core l.most kept seen (IsRunOf l) (none_taken_of g.core)
+labelled_at_start g kept seen r l empty none is run grammar most =
+    taken_at_start g.core l.grammar.core l.most kept seen (IsRunOf l) (ap (λ (z : RunSeen). z.grammar.core) is ∙ ap (λ (h : HeldGrammar). h.core) grammar) (ap (λ (z : RunSeen). z.most) is ∙ most) empty none (subst (λ z. IsRunOf z []) (sym is) run)

@@ -1,4 +1,3 @@
 pub mod Words
 pub mod Ingested
-pub mod Labelled
 pub mod Does

@@ -1,115 +1,130 @@
 // Lines of events, whose items are labelled and put line by line.
-ghost use Rattle.std.specs.Prelude.{◌≡◌, [], List, codes, IfErr, OnOk, OnErr};
+ghost use Rattle.std.specs.Prelude.{◌≡◌, [], ℕ, List, Some, map, position, bytes_eq};
+ghost use Rattle.std.specs.Cmp.Lexicographic.{pointwise};
 ghost use Rattle.wf_model.specs.declared.event.Event.{Event};
+ghost use Rattle.wf_model.specs.Run.{Expanded, made, names_of, expanded_by};
 ghost use Rattle.wf_io.specs.Told.{File};
 ghost use Rattle.wf_io.specs.Lines.{lines_in};
-ghost use Rattle.wf_run.specs.Runs.{IsRunOf};
-ghost use Rattle.wf_message.specs.Endings.{End, end_of, end_after};
-ghost use Rattle.wf_stage.specs.LineEnds.{line_ends, told_end};
-ghost use Rattle.wf_stage.specs.Stages.{AtLine, Declines, IsRefusedOrWanting};
+ghost use Rattle.wf_run.specs.Runs.{IsRunOf, name_at, names_at};
+ghost use Rattle.wf_message.specs.Endings.{end_after};
 ghost use Rattle.wf_stage.specs.Promises.{Obeys};
 ghost use Rattle.wf_inputs.specs.Inputs.{instance_most};
-ghost use Rattle.wf_inputs.specs.RunTold.{RefusesText, EventsStage};
-ghost use Rattle.wf_inputs.specs.RunTaking.{RunSoFar, TakesEvent, RefusesAt, MakesNothing, NeverStops, IsAnyRun};
+ghost use Rattle.wf_inputs.specs.RunTold.{EventsStage};
 ghost use Rattle.cmd_ingest.specs.Ingested.{file_head, file_of, WritesFile};
-ghost use Rattle.cmd_ingest.specs.Labelled.{IsLabelledAs, IsRunHeld, bytes_by};
 
 use bumpalo::Bump;
 use std::alloc::Global;
-use wf_inputs::{EVENTS, INSTANCES, Spec, event_of_line, event_stop};
+use wf_inputs::{EVENTS, INSTANCES, Reporting, Spec};
+use wf_intake::Grows;
 use wf_io::{Lines, Shelf, Sink};
 use wf_labeller::Labeller;
-use wf_lines::{Due, Taker, take_lines};
+use wf_lines::{Due, take_lines};
 use wf_message::Stop;
-use wf_run::Run;
+use wf_run::{NodeNo, Run};
+use wf_spec::{Event, Name, RunFault};
 use wf_stage::stop_of;
 
-/// Takes the event of a line, and appends the entries of the items that it makes, as they stand in a label file, wherever the line comes from. After an error the text is as it was.
-fn label_line(
-    alloc: Global,
-    labeller: &mut Labeller<'_>,
-    number: u64,
-    line: &[u8],
-    text: &mut Vec<u8>,
-) -> Result<(), Stop>
-    requires none { text.old.items ≡ [] }
-    ensures labelled { OnOk result ((before : List Event) → IsRunOf labeller.old before → IsLabelledAs labeller.old.grammar.core labeller.old.most before line.now labeller.new text.new.items) }
-    ensures grammar { OnOk result (labeller.new.grammar ≡ labeller.old.grammar) }
-    ensures most { OnOk result (labeller.new.most ≡ labeller.old.most) }
-    ensures declines { IfErr result (λ d. (before : List Event) → IsRunOf labeller.old before → Declines (codes "events") (AtLine (RefusesText labeller.old.grammar.core labeller.old.most before) number line.now) (end_of d)) }
-    ensures same { OnErr result (text.new.items ≡ text.old.items) }
-{
-    let event = event_of_line(alloc, number, line)?;
-    match labeller.write(&event, text) {
-        Ok(()) => Ok(()),
-        Err(fault) => Err(event_stop(number, fault)),
-    }
-}
-
-/// A run whose items are labelled, and the entries of the items of the last line, as they stand in a label file.
+/// A run whose items are labelled, and the entries of the items that the events of the last line made, as they stand in a label file.
 #[derive(Drop)]
 struct Labelling<'r> {
-    alloc: Global,
     labeller: Labeller<'r>,
     text: Vec<u8>,
 }
 
-impl Taker for Labelling<'_> {
-    type Fault = Stop;
+/// The name of the instance of a number, and no bytes where there is none.
+fn name_of<'r>(run: &Run<'r>, n: NodeNo) -> &'r [u8]
+    ensures { (events : List Event) → IsRunOf run.now events → result.now ≡ name_at run.now n.0 }
+{
+    if n.0 < run.instances() {
+        run.name(n)
+    } else {
+        &[]
+    }
+}
 
-    ghost State = { RunSoFar };
+/// Whether instances have these names, one for each.
+fn have_names(run: &Run<'_>, instances: &[NodeNo], names: &[Name]) -> bool
+    ensures { (events : List Event) → IsRunOf run.now events → result ≡ pointwise bytes_eq (names_at run.now (map (λ n. n.0) instances.now)) names.now }
+{
+    let mut left = instances;
+    let mut wanted = names;
+    while let [name, more @ ..] = wanted {
+        let [n, rest @ ..] = left else {
+            return false;
+        };
+        if name_of(run, *n) != name.bytes() {
+            return false;
+        }
+        left = rest;
+        wanted = more;
+    }
+    left.is_empty()
+}
 
-    ghost End = { End };
+/// Whether an instance was expanded into instances of these names.
+fn are_children(run: &Run<'_>, n: NodeNo, names: &[Name]) -> bool
+    ensures { (events : List Event) → IsRunOf run.now events → (instance : List ℕ) (x : Expanded) → position (bytes_eq instance) (names_of (made run.now.grammar.core run.now.grammar.core.start events)) ≡ Some n.0 → expanded_by events instance ≡ Some x → result ≡ pointwise bytes_eq x.names names.now }
+{
+    if n.0 >= run.instances() {
+        return false;
+    }
+    match run.children(n) {
+        Some(children) => have_names(run, children, names),
+        None => false,
+    }
+}
 
-    ghost is_ready = { λ l. (events : List Event) × IsRunOf l.labeller events };
+impl Grows for Labelling<'_> {
+    ghost grammar = { λ l. l.labeller.grammar.core };
 
-    ghost is_at = { λ l. IsRunHeld l.labeller };
+    ghost most = { λ l. l.labeller.most };
 
-    ghost is_sound = { IsAnyRun };
+    ghost is_run = { λ l. IsRunOf l.labeller };
 
-    ghost takes = { TakesEvent bytes_by };
+    ghost written = { file_of };
 
-    ghost stops = { RefusesAt };
-
-    ghost finishes = { MakesNothing };
-
-    ghost stops_at_end = { NeverStops };
-
-    ghost ends = { line_ends (codes "events") };
-
-    ghost end_of = { λ stop. told_end (end_of stop) };
-
-    ghost is_fault = { λ stop. IsRefusedOrWanting (end_of stop) };
-
-    ghost wants_memory = { Unit {0} };
-
-    ghost made = { λ l. l.text.items };
+    ghost text = { λ l. l.text.items };
 
     ghost Known = { Unit {0} };
 
     ghost is_known = { λ l k. Unit {0} };
 
-    fn take(&mut self, number: u64, text: &[u8]) -> Result<(), Stop> {
-        self.text.clear();
-        match label_line(self.alloc, &mut self.labeller, number, text, &mut self.text) {
+    fn is_started(&self) -> bool {
+        self.labeller.run().instances() > 0
+    }
+
+    fn is_root(&self, name: &[u8]) -> bool {
+        name_of(self.labeller.run(), NodeNo(0)) == name
+    }
+
+    fn find(&self, name: &[u8]) -> Option<u32> {
+        let n = self.labeller.run().find(name)?;
+        Some(n.0)
+    }
+
+    fn are_children(&self, number: u32, names: &[Name]) -> bool {
+        are_children(self.labeller.run(), NodeNo(number), names)
+    }
+
+    fn apply(&mut self, event: &Event) -> Result<(), RunFault> {
+        match self.labeller.write(event, &mut self.text) {
             Ok(()) => Ok(()),
-            Err(stop) => Err(stop),
+            Err(fault) => Err(fault),
         }
     }
 
-    fn finish(&mut self) -> Result<(), Stop> {
+    fn clear(&mut self) {
         self.text.clear();
-        Ok(())
     }
 
-    fn made(&self) -> &[u8] {
+    fn text(&self) -> &[u8] {
         &self.text
     }
 }
 
-/// Labels the items that the lines of EVENTS make, and puts their entries behind the head. The first line that is refused ends it, with its number and the fault.
+/// Labels the items that the events of the lines of EVENTS make, and puts their entries behind the head. Lines are taken as reports, in any order; of each line are put the entries of all events that come to be applied when it is taken. The first line that is refused ends it, with its number and the fault, behind the entries of the events that were applied before.
 ///
-/// Cost: linear in the bytes of the lines and of the entries. Takes memory for the run, and for one line and its entries.
+/// Cost: linear in the bytes of the lines and of the entries. Takes memory for the run, for the reports, for one line, and for the entries of the events that one line applies.
 pub fn label_events<H: Shelf, O: Sink>(
     alloc: Global,
     spec: &Spec,
@@ -125,21 +140,16 @@ pub fn label_events<H: Shelf, O: Sink>(
     let Ok(mut due) = Due::new(alloc) else {
         return Err(Stop::NoMemory);
     };
+    let key = shelf.hash_key();
     let arena = Bump::new(alloc);
-    let run = Run::with_key(
-        alloc,
-        shelf.hash_key(),
-        &arena,
-        spec.grammar(),
-        spec.cycles(),
-        INSTANCES,
-    );
-    let mut labelling = Labelling {
-        alloc,
+    let run = Run::with_key(alloc, key, &arena, spec.grammar(), spec.cycles(), INSTANCES);
+    let labelling = Labelling {
         labeller: Labeller::new(alloc, run),
         text: Vec::new(alloc),
     };
-    match take_lines(&mut labelling, &mut lines, &mut due, shelf, out) {
+    let names = Bump::new(alloc);
+    let mut reporting = Reporting::new(alloc, key, &names, labelling);
+    match take_lines(&mut reporting, &mut lines, &mut due, shelf, out) {
         Ok(_) => Ok(()),
         Err(fault) => Err(stop_of(EVENTS, fault)),
     }

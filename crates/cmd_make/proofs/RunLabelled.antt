@@ -13,7 +13,14 @@ use Rattle.label_model.specs.RunLabels.{labelled, labelled_by}
 use Rattle.label_model.proofs.FileGrowth.{labelled-append}
 use Rattle.wf_run.specs.Runs.{RunSeen, Node, IsRunOf}
 use Rattle.wf_labeller.specs.Entries.{labels_in_bytes}
-use Rattle.wf_inputs.proofs.OneRunFault.{takes}
+use Rattle.wf_gen.proofs.GeneratedRuns.{beginning_accepted}
+use Rattle.wf_model.proofs.Taking.{taking_law}
+
+-- a run that is accepted took each of its events
+takes : (g : Grammar) (limit : ℕ) (before : List Event) (e : Event) (es : List Event) → IsAccepted g limit (before ++ e ∷ es) → fault_of g limit before e ≡ None
+takes g limit before e es acc =
+    (taking_law g limit before e (beginning_accepted g limit before (e ∷ es) acc)).1
+    (beginning_accepted g limit (before ++ e ∷ []) es (subst (IsAccepted g limit) (sym (append_assoc before (e ∷ []) es)) acc))
 
 -- the items of an event more are those that were there, and those that it makes
 labelled-push : (g : Grammar) (before : List Event) (e : Event) → IsRun g g.start (before ++ e ∷ []) → labelled g (before ++ e ∷ []) ≡ labelled g before ++ labelled_by g (before ++ e ∷ []) e

@@ -49,7 +49,7 @@ use Rattle.outcome_laws.specs.GoodCalls.{HasGrammar, HasView, HasEntries, IsQuer
 use Rattle.outcome_laws.proofs.OutcomeLaws.{one_outcome_law}
 
 -- the stage of a good SPEC goes on with its grammar
-spec_goes_on : (spec : File) (g : Grammar) → HasGrammar spec g → (Next : Grammar → End → List ℕ → Type 0) (e : End) (t : List ℕ) → SpecStage spec Next e t → Next g e t
+pub spec_goes_on : (spec : File) (g : Grammar) → HasGrammar spec g → (Next : Grammar → End → List ℕ → Type 0) (e : End) (t : List ℕ) → SpecStage spec Next e t → Next g e t
 spec_goes_on spec g has Next =
     stage_goes_on spec_kind [] spec TellsGrammar (OfWhole RefusesSpec) Next g has.short has.whole (λ b told. one_grammar spec.bytes g b has.tells told) (λ l x r. no_refusal spec.bytes x g has.tells r.1)
 

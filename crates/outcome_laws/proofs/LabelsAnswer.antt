@@ -21,7 +21,7 @@ use Rattle.wf_stage.proofs.TwoStages.{stage_goes_on}
 use Rattle.wf_inputs.specs.Inputs.{labels_kind, instance_most}
 use Rattle.wf_inputs.specs.RunTold.{TellsEvents, goes_on as goes_on_with}
 use Rattle.wf_inputs.specs.LabelsTold.{TellsEntries, RefusesLabels}
-use Rattle.wf_inputs.proofs.OneRun.{events_goes_on}
+use Rattle.wf_inputs.proofs.OneRun.{events_accepted, events_goes_on}
 use Rattle.wf_inputs.proofs.OneLabels.{one_entries, no_refusal_of_labels}
 use Rattle.cmd_ask.specs.Answers.{IsAnswerOfRun}
 use Rattle.cmd_ask.specs.Does.{QueriesStage, AnswersRun, AnswersLabels}
@@ -35,7 +35,7 @@ use Rattle.outcome_laws.proofs.LabelsTell.{labels_tell_law}
 module _ (g : Grammar) (u : View) (formed : IsWellFormed g) (proper : IsProper g) (linear : IsLinear g) (composites : ExpandsComposites g u) (safe : IsSafe g u)
     (events labels queries : File) (e : List Event) (run : TellsEvents g instance_most (lines_in events) e) (file : IsTold labels_kind labels Holds (file_of g e)) where
   accepted : IsAccepted g instance_most e
-  accepted = run.0.accepted
+  accepted = events_accepted g instance_most (lines_in events) e run
 
   abbrev entries : List Entry
   entries = entries_of g e

@@ -13,5 +13,10 @@ pub mod OneIngestion
 pub mod OneMaking
 pub mod OneStages
 pub mod OutcomeLaws
+pub mod ReorderedAnswers
+pub mod ReorderedFiles
+pub mod SameEntries
 pub mod SameInstances
+pub mod SameLines
 pub mod SomeOutcomes
+pub mod ToldRuns

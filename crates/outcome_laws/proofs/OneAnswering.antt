@@ -9,7 +9,7 @@ use Rattle.wf_stage.proofs.TwoStages.{same_outcome}
 use Rattle.wf_inputs.specs.Inputs.{labels_kind, instance_most}
 use Rattle.wf_inputs.specs.LabelsTold.{TellsEntries, RefusesLabels}
 use Rattle.wf_inputs.proofs.ToldGrammars.{told_formed, told_proper}
-use Rattle.wf_inputs.proofs.OneRun.{one_events}
+use Rattle.wf_inputs.proofs.OneRun.{one_events, events_accepted}
 use Rattle.wf_inputs.proofs.OneLabels.{one_entries, one_refusal_of_labels, no_refusal_of_labels, told_differ}
 use Rattle.wf_inputs.proofs.ViewComposites.{told_composites}
 use Rattle.cmd_ask.specs.Answers.{IsAnswerOfRun}
@@ -23,7 +23,7 @@ one_trace spec view events queries =
     one_spec_stage spec _ (λ g p.
     one_view_stage spec.bytes g p view _ (λ u q.
     one_events g instance_most (lines_in events) (λ r. []) _ (λ r told.
-    one_queries_stage (IsAnswerOfRun g u r) (one_run_word g u r (told_proper spec.bytes g p) (told_composites g (told_formed spec.bytes g p) view.bytes u q) told.0.accepted.0) queries)))
+    one_queries_stage (IsAnswerOfRun g u r) (one_run_word g u r (told_proper spec.bytes g p) (told_composites g (told_formed spec.bytes g p) view.bytes u q) (events_accepted g instance_most (lines_in events) r told).0) queries)))
 
 one_ask : (spec view labels queries : File) → HasOneOutcome (Asks spec view labels queries)
 one_ask spec view labels queries =

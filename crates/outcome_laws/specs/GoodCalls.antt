@@ -38,7 +38,7 @@ HasView g view u = IsTold view_kind view (TellsView g) u
 abbrev pub HaveView : File → File → Grammar → Type 0
 HaveView spec view g = HasGrammar spec g × ((u : ViewOf) × HasView g view u)
 
--- EVENTS is whole, and its lines tell an accepted run
+-- EVENTS is whole, and its lines report events that are taken whole, in whatever order: no report is refused, and none is held at the end
 abbrev pub HasRun : Grammar → File → Type 0
 HasRun g events = (es : List Event) × TellsEvents g instance_most (lines_in events) es
 
@@ -83,7 +83,7 @@ AreGood files (Some (Ask c)) = CanAnswer files c
 AreGood files (Some (Decide c)) = CanDecide files c
 AreGood files (Some (Make c)) = CanMake files c
 
--- the words are a command, SPEC is accepted, VIEW is well-formed and safe, EVENTS is an accepted run, LABELS a label file of the grammar, QUERIES are queries, and the words that are labels are labels
+-- the words are a command, SPEC is accepted, VIEW is well-formed and safe, the reports of EVENTS are taken whole, LABELS a label file of the grammar, QUERIES are queries, and the words that are labels are labels
 abbrev pub IsGoodCall : (List ℕ → File) → List (List ℕ) → Type 0
 IsGoodCall files words = AreGood files (command_of words)
 

@@ -1,5 +1,6 @@
 -- Laws of the outcome.
 use Rattle.std.specs.Prelude.{◌≡◌, ◌⊎◌, ◌↔◌, ◌≤◌, ℕ, true, false, List, [], ◌∷◌, ◌++◌, length, codes}
+use Rattle.wf_model.specs.Lists.{IsIn, AllDiffer}
 use Rattle.wf_model.specs.declared.event.Event.{Event}
 use Rattle.wf_model.specs.Grammar.{Grammar}
 use Rattle.wf_model.specs.WellFormed.{IsWellFormed}
@@ -10,13 +11,16 @@ use Rattle.wf_model.specs.Safe.{IsSafe}
 use Rattle.wf_model.specs.Run.{IsAccepted}
 use Rattle.wf_model.specs.Finishing.{ExpandsComposites}
 use Rattle.wf_io.specs.Told.{File}
-use Rattle.wf_io.specs.Lines.{lines_in}
+use Rattle.wf_io.specs.Lines.{Line, FileLines, AtEnd, lines_in}
 use Rattle.label_model.specs.Files.{Entry}
+use Rattle.report_model.specs.Reports.{Report, reported}
+use Rattle.report_model.specs.Laws.{AreReordered}
 use Rattle.wf_query.specs.Answers.{IsAnswerText}
 use Rattle.wf_message.specs.Endings.{End, Done}
 use Rattle.wf_stage.specs.Stages.{IsTold, Holds}
-use Rattle.wf_inputs.specs.Inputs.{labels_kind, instance_most}
-use Rattle.wf_inputs.specs.RunTold.{TellsEvents}
+use Rattle.wf_inputs.specs.Inputs.{spec_kind, labels_kind, instance_most}
+use Rattle.wf_inputs.specs.Specification.{TellsGrammar}
+use Rattle.wf_inputs.specs.RunTold.{AreReports, TellsEvents}
 use Rattle.wf_inputs.specs.LabelsTold.{TellsEntries}
 use Rattle.cmd_ask.specs.Answers.{IsAnswerOfRun}
 use Rattle.cmd_ask.specs.Does.{AnswersRun, AnswersLabels}
@@ -63,9 +67,76 @@ EndWithALine bytes = (bytes ≡ []) ⊎ ((front : List ℕ) × (bytes ≡ front 
 abbrev pub IsSealed : File → Type 0
 IsSealed file = (file.broken ≡ true) ⊎ EndWithALine file.bytes
 
--- What `ingest` writes over EVENTS begins what it writes over each EVENTS that goes on from it, however either ends. In the first files EVENTS is broken at its end, or no line is open there; in the later ones it has more bytes
+-- What `ingest` writes over EVENTS begins what it writes over each EVENTS that goes on from it, however either ends. In the first files EVENTS is broken at its end, or no line is open there; in the later ones it has more bytes. A report that is held at the end of the first, and ends that call, may come to be ready in the later one
 abbrev pub IngestGrowsLaw : Type 0
 IngestGrowsLaw =
     (files later : List ℕ → File) (spec events more t s : List ℕ) (d e : End) →
     later spec ≡ files spec → IsSealed (files events) → (later events).bytes ≡ (files events).bytes ++ more →
     IsOutcome files (codes "ingest" ∷ spec ∷ events ∷ []) d t → IsOutcome later (codes "ingest" ∷ spec ∷ events ∷ []) e s → (rest : List ℕ) × (s ≡ t ++ rest)
+
+-- each line of a whole file reports an event, and these are the events that they report, in whatever order and repeated at will
+pub record ReportsThese (file : FileLines) (es : List Event) : Type 0 where
+  pub whole : file.tail ≡ AtEnd
+  pub reports : List Report
+  pub read : AreReports file.lines reports
+  pub same : (x : Event) → IsIn x (reported reports) ↔ IsIn x es
+
+-- a run that a file tells: it is accepted, has each event once, and has the events that the file reports and no others
+pub record IsToldRun (g : Grammar) (file : FileLines) (es : List Event) : Type 0 where
+  pub accepted : IsAccepted g instance_most es
+  pub once : AllDiffer es
+  pub reported : ReportsThese file es
+
+-- where the reports of a file are taken whole, the run of their intake is so
+abbrev pub ToldRunLaw : Type 0
+ToldRunLaw = (g : Grammar) (file : FileLines) (es : List Event) → TellsEvents g instance_most file es → IsToldRun g file es
+
+-- each line of a file stands in another one, with whatever number
+abbrev pub HasLinesOf : FileLines → FileLines → Type 0
+HasLinesOf other file = (l : Line) → IsIn l file.lines → (k : Line) × IsIn k other.lines × (k.raw ≡ l.raw)
+
+-- a whole file reports the events of a run where it has the lines of a file that tells this run and no others, in whatever order and repeated at will
+abbrev pub SameLinesLaw : Type 0
+SameLinesLaw =
+    (g : Grammar) (file other : FileLines) (es : List Event) → TellsEvents g instance_most file es →
+    other.tail ≡ AtEnd → HasLinesOf other file → HasLinesOf file other → ReportsThese other es
+
+-- LABELS is what `ingest` wrote over EVENTS where all was done. It is whole, and not too long
+pub record HoldsIngested (files : List ℕ → File) (spec events labels : List ℕ) : Type 0 where
+  pub text : List ℕ
+  pub ingested : IsOutcome files (codes "ingest" ∷ spec ∷ events ∷ []) Done text
+  pub bytes : (files labels).bytes ≡ text
+  pub short : length text ≤ labels_kind.most
+  pub whole : (files labels).broken ≡ false
+
+-- What another file tells, where it reports the events of the run that EVENTS tells: the same run in another order. `ingest` over the other file ends in Done, and writes the label file of the run in that order, which has the same entries.
+-- `trace` over both files writes the same and ends in the same way, and so does `ask` over both label files
+pub record IsToldAgain (files : List ℕ → File) (spec events other : List ℕ) (g : Grammar) (es : List Event) : Type 0 where
+  pub run : List Event
+  pub told : TellsEvents g instance_most (lines_in (files other)) run
+  pub reordered : AreReordered g es run
+  pub ingested : (d : End) (t : List ℕ) → IsOutcome files (codes "ingest" ∷ spec ∷ other ∷ []) d t → (d ≡ Done) × (t ≡ file_of g run)
+  pub traced : (view queries : List ℕ) (d e : End) (t s : List ℕ) →
+      IsOutcome files (codes "trace" ∷ spec ∷ view ∷ events ∷ queries ∷ []) d t → IsOutcome files (codes "trace" ∷ spec ∷ view ∷ other ∷ queries ∷ []) e s → (d ≡ e) × (t ≡ s)
+  pub asked : (view labels others queries : List ℕ) (d e : End) (t s : List ℕ) → HoldsIngested files spec events labels → HoldsIngested files spec other others →
+      IsOutcome files (codes "ask" ∷ spec ∷ view ∷ labels ∷ queries ∷ []) d t → IsOutcome files (codes "ask" ∷ spec ∷ view ∷ others ∷ queries ∷ []) e s → (d ≡ e) × (t ≡ s)
+
+-- The order of the reports in EVENTS does not matter, nor how often an event is reported. SPEC tells a grammar, EVENTS a run of it, and another file reports the events of this run and nothing else
+abbrev pub ReorderedFilesLaw : Type 0
+ReorderedFilesLaw =
+    (files : List ℕ → File) (spec events other : List ℕ) (g : Grammar) (es : List Event) →
+    IsTold spec_kind (files spec) TellsGrammar g → TellsEvents g instance_most (lines_in (files events)) es → ReportsThese (lines_in (files other)) es →
+    IsToldAgain files spec events other g es
+
+-- queries are answered by the same text, to the same end: over either of two files of events, and over the label files of the runs that they tell
+pub record AreAnsweredAlike (g : Grammar) (u : View) (events other queries : File) (es fs : List Event) : Type 0 where
+  pub traced : (d : End) (t : List ℕ) → AnswersRun g u events queries d t ↔ AnswersRun g u other queries d t
+  pub asked : (labels others : File) → IsTold labels_kind labels Holds (file_of g es) → IsTold labels_kind others Holds (file_of g fs) →
+      (d : End) (t : List ℕ) → AnswersLabels g u labels queries d t ↔ AnswersLabels g u others queries d t
+
+-- Where two files tell runs with the same events, queries are answered alike over them, under a safe view
+abbrev pub ReorderedAnswersLaw : Type 0
+ReorderedAnswersLaw =
+    (g : Grammar) (u : View) → IsWellFormed g → IsProper g → IsLinear g → ExpandsComposites g u → IsSafe g u →
+    (events other queries : File) (es fs : List Event) → TellsEvents g instance_most (lines_in events) es → TellsEvents g instance_most (lines_in other) fs →
+    ((x : Event) → IsIn x es ↔ IsIn x fs) → AreAnsweredAlike g u events other queries es fs

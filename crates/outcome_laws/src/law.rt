@@ -1,6 +1,6 @@
 // Laws of what the program does: the contracts of functions that do nothing.
 ghost use Rattle.outcome_laws.specs.GoodCalls.{GoodCallLaw};
-ghost use Rattle.outcome_laws.specs.Laws.{AskIsTraceLaw, IngestGrowsLaw, LabelsAnswerLaw, LabelsTellLaw, OneOutcomeLaw, SomeOutcomeLaw};
+ghost use Rattle.outcome_laws.specs.Laws.{AskIsTraceLaw, IngestGrowsLaw, LabelsAnswerLaw, LabelsTellLaw, OneOutcomeLaw, ReorderedAnswersLaw, ReorderedFilesLaw, SameLinesLaw, SomeOutcomeLaw, ToldRunLaw};
 ghost use Rattle.outcome_laws.specs.SameInstances.{SameInstancesLaw};
 
 /// The words and the files leave one end and one text at most.
@@ -18,9 +18,29 @@ pub fn good_call_law()
     ensures { GoodCallLaw }
 {}
 
-/// What `ingest` writes over a file of events begins what it writes over each that goes on from it, however either call ends.
+/// What `ingest` writes over a file of events begins what it writes over each that goes on from it, however either call ends: also where a report is held at the end of the first file, and is an orphan there, and comes to be ready in the later one.
 pub fn ingest_grows_law()
     ensures { IngestGrowsLaw }
+{}
+
+/// Where the reports of a file of events are taken whole, they tell an accepted run, which has the events that are reported and no others, each once.
+pub fn told_run_law()
+    ensures { ToldRunLaw }
+{}
+
+/// A file with the lines of a file that tells a run, in whatever order and repeated, reports the events of this run and nothing else.
+pub fn same_lines_law()
+    ensures { SameLinesLaw }
+{}
+
+/// Neither the order of the reports in EVENTS nor their repetition matters: a file that reports the events of a run, and nothing else, tells this run in another order. `ingest` over it ends in Done and writes a label file with the same entries. What `trace` writes over both files is the same, and so is what `ask` writes over both label files.
+pub fn reordered_files_law()
+    ensures { ReorderedFilesLaw }
+{}
+
+/// Under a safe view, lines of queries are answered alike over files that report the same run, and over the label files that `ingest` writes of them: one text, and one end.
+pub fn reordered_answers_law()
+    ensures { ReorderedAnswersLaw }
 {}
 
 /// A query is answered from the label file of a run as it is answered by the run, however the run is finished under a safe view.

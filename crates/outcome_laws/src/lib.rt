@@ -8,6 +8,10 @@
 //! - `labels_answer_law`: so have lines of queries, to the byte and to the end.
 //! - `ask_is_trace_law`: `ask` over the label file that `ingest` wrote writes what `trace` writes over the events.
 //! - `ingest_grows_law`: what `ingest` writes over events begins what it writes over more of them.
+//! - `told_run_law`: a file of events whose reports are taken whole tells an accepted run, with the events that it reports.
+//! - `same_lines_law`: a file with the same lines, in whatever order and repeated, reports the events of this run.
+//! - `reordered_files_law`: a file that reports the events of a run, in whatever order and repeated, tells this run: `ingest` ends in Done and writes the same entries, `trace` writes the same, and so does `ask` over the label files.
+//! - `reordered_answers_law`: queries have the same answers over such files, and over their label files.
 //! - `same_instances_law`: the run of `trace` and that of `ingest` have the same instances.
 #![tactic(auto)]
 
@@ -17,5 +21,6 @@ mod law;
 pub use calls::{call, call_plain};
 pub use law::{
     ask_is_trace_law, good_call_law, ingest_grows_law, labels_answer_law, labels_tell_law,
-    one_outcome_law, same_instances_law, some_outcome_law,
+    one_outcome_law, reordered_answers_law, reordered_files_law, same_instances_law,
+    same_lines_law, some_outcome_law, told_run_law,
 };

@@ -1,4 +1,4 @@
-// Lines of events that are refused, each for the first fault in the order of trial, with a later fault present too.
+// Lines of events that are refused, each for the first fault in the order of trial, with a later fault present too; and reports that are held, repeated or contradicted.
 use crate::called::{Filed, called, filed};
 use std::alloc::{AllocError, Global};
 use std::test::Fail;
@@ -7,56 +7,87 @@ use wf_samples::LOOP;
 /// Two lines that are taken.
 const TAKEN: &str = "{\"start\":\"r\"}\n{\"expand\":\"r\",\"production\":0,\"names\":[\"l0\"]}\n";
 
-/// Each line: the lines before, the line that is refused, and what is told of it.
-const ROWS: [(&str, &str, &str); 12] = [
+/// Each line: the lines before, the line that is refused, the line behind it, and what is told.
+const ROWS: [(&str, &str, &str, &str); 16] = [
     (
         "",
         r#"{"expand":"q","production":9,"names":[]}"#,
-        " line 1: NotStarted",
+        "",
+        " line 1: Orphan",
     ),
-    (TAKEN, r#"{"start":"?"}"#, " line 3: StartedTwice"),
-    ("", r#"{"start":"?"}"#, " line 1: NameBad"),
+    // A report that is held is not refused before a later line.
+    (
+        "",
+        r#"{"expand":"q","production":9,"names":[]}"#,
+        "x",
+        " line 2: NotJson",
+    ),
+    (TAKEN, r#"{"start":"?"}"#, "x", " line 3: Conflict with 1"),
+    (TAKEN, r#"{"start":"r"}"#, "x", " line 4: NotJson"),
+    ("", r#"{"start":"?"}"#, "x", " line 1: NameBad"),
     (
         TAKEN,
         r#"{"expand":"q","production":3,"names":[]}"#,
-        " line 3: UnknownInstance",
+        "",
+        " line 3: Orphan",
     ),
+    // The first report on a subject is told, though it is applied, and though the later one is repeated.
     (
         TAKEN,
         r#"{"expand":"r","production":3,"names":[]}"#,
+        "x",
+        " line 3: Conflict with 2",
+    ),
+    (
+        TAKEN,
+        r#"{"expand":"q","production":0,"names":["a"]}"#,
+        r#"{"expand":"q","production":0,"names":["b"]}"#,
+        " line 4: Conflict with 3",
+    ),
+    (
+        TAKEN,
+        r#"{"expand":"l0","production":3,"names":[]}"#,
+        "x",
         " line 3: UnknownProduction",
     ),
     (
         TAKEN,
-        r#"{"expand":"r","production":1,"names":[]}"#,
+        r#"{"expand":"l0","production":0,"names":[]}"#,
+        "x",
         " line 3: WrongHead",
     ),
     (
         TAKEN,
-        r#"{"expand":"r","production":0,"names":[]}"#,
-        " line 3: AlreadyExpanded",
-    ),
-    (
-        TAKEN,
         r#"{"expand":"l0","production":1,"names":["?"]}"#,
+        "x",
         " line 3: PositionsWrong",
     ),
     (
         TAKEN,
         r#"{"expand":"l0","production":1,"names":["r","?"]}"#,
+        "x",
         " line 3: NameBad",
     ),
     (
         TAKEN,
         r#"{"expand":"l0","production":1,"names":["w0","r"]}"#,
+        "x",
         " line 3: NameTwice",
     ),
     (
         TAKEN,
         r#"{"expand":"q","production":3}"#,
+        "x",
         " line 3: WrongShape",
     ),
-    (TAKEN, r#"{"start":"?","#, " line 3: NotJson"),
+    (TAKEN, r#"{"start":"?","#, "x", " line 3: NotJson"),
+    // Of two that are held to the end, the first is told.
+    (
+        r#"{"expand":"z","production":0,"names":[]}"#,
+        "",
+        r#"{"expand":"q","production":0,"names":[]}"#,
+        " line 1: Orphan",
+    ),
 ];
 
 /// Whether events are refused with this line.
@@ -76,9 +107,15 @@ fn are_refused(alloc: Global, events: &[u8], line: &str) -> Result<bool, AllocEr
     Ok(ended.err.bytes() == line.as_bytes())
 }
 
-/// Whether an event behind others is refused for this fault.
-fn is_refused(alloc: Global, before: &str, event: &str, fault: &str) -> Result<bool, AllocError> {
-    let text = format!(in alloc; "{before}{event}\nx\n")?;
+/// Whether an event between others is refused for this fault.
+fn is_refused(
+    alloc: Global,
+    before: &str,
+    event: &str,
+    behind: &str,
+    fault: &str,
+) -> Result<bool, AllocError> {
+    let text = format!(in alloc; "{before}{event}\n{behind}\n")?;
     let line = format!(in alloc; "refused: events{fault}\n")?;
     are_refused(alloc, text.as_bytes(), &line)
 }
@@ -101,9 +138,9 @@ fn is_long_refused(alloc: Global, size: usize, fault: &str) -> Result<bool, Allo
 
 #[test]
 fn the_first_refused_event_is_told(rt: HostRuntime) -> Result<(), Fail> {
-    for (before, event, fault) in ROWS {
+    for (before, event, behind, fault) in ROWS {
         assert!(rt;
-            is_refused(rt.alloc(), before, event, fault)?,
+            is_refused(rt.alloc(), before, event, behind, fault)?,
             "at {event:?}"
         );
     }

@@ -17,7 +17,29 @@ const EDGE: &[u8] = b"\x03r.a\x00\x01\x20\x03r.b\x00\x01\x60\x04i1.y\x00\x01\xb0
 const ROUNDS: &[u8] =
     b"\x03r.a\x00\x01\x20\x03r.b\x00\x01\x60\x04w0.y\x00\x01\xfb\x04w1.y\x00\x02\xf4\xc0";
 
+/// The entries of a run of `LOOP` that goes round once.
+const ONE_ROUND: &[u8] = b"\x03r.a\x00\x01\x20\x03r.b\x00\x01\x60\x04w0.y\x00\x01\xfb";
+
 const START: &str = "{\"start\":\"r\"}\n";
+
+const EXCHANGED: &str =
+    "{\"expand\":\"r\",\"production\":0,\"names\":[\"i1\",\"i2\"]}\n{\"start\":\"r\"}\n";
+
+const REPEATED: &str =
+    "{\"start\":\"r\"}\n{\"expand\":\"r\",\"production\":0,\"names\":[\"i1\",\"i2\"]}\n{ \"production\": 0, \"names\": [\"i1\",\"i2\"], \"expand\": \"r\" }\n{\"start\":\"r\"}\n";
+
+const HELD: &str = "{\"expand\":\"r\",\"production\":0,\"names\":[\"i1\",\"i2\"]}\n";
+
+const ORPHAN: &str = "{\"start\":\"r\"}\n{\"expand\":\"q\",\"production\":0,\"names\":[\"x\"]}\n";
+
+const SHUFFLED: &str =
+    "{\"expand\":\"l1\",\"production\":1,\"names\":[\"w1\",\"l2\"]}\n{\"start\":\"r\"}\n{\"expand\":\"l0\",\"production\":1,\"names\":[\"w0\",\"l1\"]}\n{\"expand\":\"r\",\"production\":0,\"names\":[\"l0\"]}\n";
+
+const HELD_WRONG: &str =
+    "{\"expand\":\"l0\",\"production\":0,\"names\":[\"k\"]}\n{\"start\":\"r\"}\n{\"expand\":\"r\",\"production\":0,\"names\":[\"l0\"]}\n";
+
+const BURST: &str =
+    "{\"expand\":\"l1\",\"production\":1,\"names\":[\"w1\",\"r\"]}\n{\"expand\":\"l0\",\"production\":1,\"names\":[\"w0\",\"l1\"]}\n{\"expand\":\"r\",\"production\":0,\"names\":[\"l0\"]}\n{\"start\":\"r\"}\n";
 
 const TWICE: &str =
     "{\"start\":\"r\"}\n{\"expand\":\"r\",\"production\":0,\"names\":[\"i1\",\"i2\"]}\n\n{\"expand\":\"r\",\"production\":0,\"names\":[\"i3\",\"i4\"]}\nx\n";
@@ -29,7 +51,7 @@ const ROUND_EVENTS: &str =
     "{\"start\":\"r\"}\n{\"expand\":\"r\",\"production\":0,\"names\":[\"l0\"]}\n{\"expand\":\"l0\",\"production\":1,\"names\":[\"w0\",\"l1\"]}\n{\"expand\":\"l1\",\"production\":1,\"names\":[\"w1\",\"l2\"]}";
 
 /// Each line: the specification, the events, whether reading past them fails, the status, the entries behind the head and the line on err.
-const ROWS: [(&str, &str, bool, Status, &[u8], &str); 9] = [
+const ROWS: [(&str, &str, bool, Status, &[u8], &str); 17] = [
     (LINE, EVENTS, false, Done, EDGE, ""),
     (LINE, START, false, Done, PORTS, ""),
     (LINE, "", false, Done, b"", ""),
@@ -40,7 +62,7 @@ const ROWS: [(&str, &str, bool, Status, &[u8], &str); 9] = [
         false,
         Refused,
         EDGE,
-        "refused: events line 4: AlreadyExpanded\n",
+        "refused: events line 4: Conflict with 2\n",
     ),
     (
         LINE,
@@ -67,6 +89,47 @@ const ROWS: [(&str, &str, bool, Status, &[u8], &str); 9] = [
         "refused: events line 3: NotJson\n",
     ),
     (LOOP, ROUND_EVENTS, false, Done, ROUNDS, ""),
+    // A report may come before that of its instance, and twice.
+    (LINE, EXCHANGED, false, Done, EDGE, ""),
+    (LINE, REPEATED, false, Done, EDGE, ""),
+    (LOOP, SHUFFLED, false, Done, ROUNDS, ""),
+    // An instance is never made.
+    (
+        LINE,
+        ORPHAN,
+        false,
+        Refused,
+        PORTS,
+        "refused: events line 2: Orphan\n",
+    ),
+    (
+        LINE,
+        HELD,
+        false,
+        Refused,
+        b"",
+        "refused: events line 1: Orphan\n",
+    ),
+    // Nothing is applied of a file that breaks while all its reports are held.
+    (LINE, HELD, true, ReadFault, b"", "fault: reading events\n"),
+    // A held report is refused when it is ready, and told by its own line.
+    (
+        LOOP,
+        HELD_WRONG,
+        false,
+        Refused,
+        PORTS,
+        "refused: events line 1: WrongHead\n",
+    ),
+    // The last line lets four reports go: the entries of those before the one that is refused stay.
+    (
+        LOOP,
+        BURST,
+        false,
+        Refused,
+        ONE_ROUND,
+        "refused: events line 1: NameTwice\n",
+    ),
 ];
 
 /// How `ingest` ends.

@@ -84,7 +84,7 @@ const FILES: [(&str, &str, bool); 27] = [
     ("twice", TWICE, false),
     (
         "spaced-out",
-        "\n{\"start\":\"r\"}\n\r\n{\"start\":\"r\"}\nx",
+        "\n{\"start\":\"r\"}\n\r\n{\"start\":\"s\"}\nx",
         false,
     ),
     ("view-of-none", "{\"expand\":[]}", false),
@@ -128,13 +128,13 @@ const ROWS: [(&str, Status, &str, &str); 43] = [
         "trace spec view twice none",
         Refused,
         "",
-        "refused: events line 3: AlreadyExpanded\n",
+        "refused: events line 3: Conflict with 2\n",
     ),
     (
         "trace spec view spaced-out none",
         Refused,
         "",
-        "refused: events line 4: StartedTwice\n",
+        "refused: events line 4: Conflict with 2\n",
     ),
     (
         "trace spec view loop-events queries",
@@ -232,7 +232,7 @@ const ROWS: [(&str, Status, &str, &str); 43] = [
         "trace spec view twice-cut queries",
         Refused,
         "",
-        "refused: events line 3: AlreadyExpanded\n",
+        "refused: events line 3: Conflict with 2\n",
     ),
     (
         "trace inside-itself none events queries",

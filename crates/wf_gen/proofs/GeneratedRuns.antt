@@ -42,7 +42,7 @@ module _ (g : Grammar) (limit : ℕ) (formed : IsWellFormed g) (small : limit < 
   generated_follows n seed room = turns_follow n (Start (numbered_name 0) ∷ []) (first_state g (seeded seed)) (first_follows g limit formed small (seeded seed) room)
 
 -- a beginning of an accepted run is accepted
-beginning_accepted : (g : Grammar) (limit : ℕ) (a b : List Event) → IsAccepted g limit (a ++ b) → IsAccepted g limit a
+pub beginning_accepted : (g : Grammar) (limit : ℕ) (a b : List Event) → IsAccepted g limit (a ++ b) → IsAccepted g limit a
 beginning_accepted g limit a b x =
     let m = made-append g g.start a b in
     let l : length (made g g.start (a ++ b)) ≡ length (made g g.start a) + length (made g g.start b) = ap length m ∙ length-append (made g g.start a) (made g g.start b) in

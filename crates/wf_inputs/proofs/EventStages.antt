@@ -1,180 +1,286 @@
 -- A file of events, taken line by line: what its lines make one by one is what the file makes.
-use Rattle.std.proofs.Common.{◌≡◌, ℕ, List, [], ◌∷◌, ◌++◌, Option, Some, refl, sym, ap, ◌∙◌, subst, inl, inr, append_assoc, append-nil}
-use Rattle.std.specs.Prelude.{codes}
+use Rattle.std.proofs.Common.{◌≡◌, ℕ, zero, suc, Bool, true, false, cond, List, [], ◌∷◌, ◌++◌, length, Option, Some, None, refl, sym, ap, ◌∙◌, subst, inl, inr, append_assoc, append-nil}
+use Rattle.std.specs.Prelude.{codes, ◌⊎◌}
+use Rattle.std.specs.List.{find}
+use Rattle.std.proofs.lemmas.List.{append_cancel_left}
 use Rattle.wf_model.specs.declared.event.Event.{Event}
+use Rattle.wf_model.specs.declared.event.RunFault.{RunFault}
 use Rattle.wf_model.specs.Grammar.{Grammar}
 use Rattle.wf_model.specs.Run.{IsAccepted}
+use Rattle.wf_model.specs.Faults.{fault_of}
 use Rattle.wf_model.proofs.Taking.{taking_law}
 use Rattle.wf_laws.proofs.Accepted.{none_taken}
-use Rattle.wf_io.specs.Lines.{Line, FileLines, Tail, AtEnd, Broken, LongFile, text_of}
+use Rattle.report_model.specs.Reports.{Report, same_event, about}
+use Rattle.report_model.specs.Intake.{Intake, nothing_taken, ReportFault, Conflict, Orphan, Taking, GoesOn as GoesOnFrom, Stops, state_after, and_then, ready_in, hold_beside, hold, apply_unless, without_ready, apply_one, apply_ready, take_report, take_reports, end_with, intake}
+use Rattle.report_model.proofs.Growing.{in_parts}
+use Rattle.report_model.proofs.TakenReports.{ends_on}
+use Rattle.wf_io.specs.Lines.{Line, FileLines, Tail, AtEnd, Broken, LongFile}
 use Rattle.wf_lines.specs.LineStages.{StopsLine, AllTaken, OfLines, IsOneWay, IsClosedOneWay}
 use Rattle.wf_lines.proofs.LineStages.{lines_on}
-use Rattle.wf_message.specs.Endings.{End, Refused, ReadFault}
+use Rattle.wf_message.specs.Endings.{End, Refused}
 use Rattle.wf_stage.specs.LineEnds.{line_ends}
-use Rattle.wf_inputs.specs.RunTold.{IsEventText, IsEventLine, AreEvents, RefusesText, RefusesLine, TellsRun, IsRefusedAt, StopsAfter, refused, long_file, broken, EventsStage, stops, goes_on}
-use Rattle.wf_inputs.specs.RunTaking.{RunSoFar, with_event, TakesEvent, RefusesAt, MakesNothing, NeverStops, IsAnyRun}
+use Rattle.wf_inputs.specs.RunTold.{IsEventLine, report_on, AreReports, AreTakenTo, RefusesLine, report_end, refused, stopped, held, long_file, broken, EventsStage, stops, goes_on}
+use Rattle.wf_inputs.specs.RunTaking.{TakenSoFar, with_state, IsWrittenBehind, TakesReport, StopsReport, HoldsNone, StopsHolding, IsAnyTaken}
 use Rattle.wf_inputs.proofs.OneValue.{one_event}
-use Rattle.wf_inputs.proofs.OneRunFault.{takes, one_text_fault, text_not_taken}
+use Rattle.wf_inputs.proofs.OneForm.{no_event, one_form_fault}
 
--- a line of events is taken or refused in one way
-pub events_one_way : (piece : Grammar → List Event → Event → List ℕ) → IsOneWay IsAnyRun (TakesEvent piece) RefusesAt
-events_one_way piece = record {
-  sound = λ s n x q p ok h. tt;
-  taken = λ s n x q r p t ok h k.
-      let same = one_event x h.0 k.0 h.1 k.1 in
-      (h.3 ∙ (ap (with_event s) same ∙ sym k.3), h.4 ∙ (ap (piece s.grammar s.events) same ∙ sym k.4));
-  apart = λ s n x q p e t ok h k. text_not_taken s.grammar s.limit s.events x k.0 h.0 k.1 h.1 (takes s.grammar s.limit s.events h.0 [] h.2);
-  stopped = λ s n x d e t u ok h k.
-      (h.2 ∙ (ap (Refused (codes "events") (Some n)) (one_text_fault s.grammar s.limit s.events x h.0 k.0 h.1 k.1) ∙ sym k.2), h.3 ∙ sym k.3);
-}
+-- reports are taken in one way
+one_state : (u : Taking) (s q : Intake) → u ≡ GoesOnFrom s → u ≡ GoesOnFrom q → s ≡ q
+one_state u s q p r = ap state_after (sym p ∙ r)
 
--- so is the end of the file, of which nothing is made
-pub events_closed_one_way : IsClosedOneWay IsAnyRun MakesNothing NeverStops
+not_both : (u : Taking) (s q : Intake) (f : ReportFault) → u ≡ GoesOnFrom s → u ≡ Stops q f → ⊥
+not_both u s q f p r = let e = sym p ∙ r in absurd (cc)
+
+one_stop : (u : Taking) (s q : Intake) (f k : ReportFault) → u ≡ Stops s f → u ≡ Stops q k → (s ≡ q) × (f ≡ k)
+one_stop u s q f k p r = let e = sym p ∙ r in (cc, cc)
+
+module _ (written : Grammar → List Event → List ℕ) where
+  -- what is written of the events of one state behind those of another is one text
+  one_text : (s : TakenSoFar) (q r : Intake) (p t : List ℕ) → q ≡ r → IsWrittenBehind (written s.grammar) s.state.run q.run p → IsWrittenBehind (written s.grammar) s.state.run r.run t → p ≡ t
+  one_text s q r p t same h k = append_cancel_left (written s.grammar s.state.run) p t (sym h ∙ (ap (λ (z : Intake). written s.grammar z.run) same ∙ k))
+
+  module _ (s : TakenSoFar) (n : ℕ) (x : List ℕ) where
+    one_taken : (q r : TakenSoFar) (p t : List ℕ) → TakesReport written s n x q p → TakesReport written s n x r t → (q ≡ r) × (p ≡ t)
+    one_taken q r p t h k =
+        let same = ap (λ e. take_report s.grammar s.limit s.state (report_on n e)) (one_event x h.event k.event h.told k.told) in
+        let state = one_state _ h.state k.state h.taken (same ∙ k.taken) in
+        (h.leaves ∙ (ap (with_state s) state ∙ sym k.leaves), one_text s h.state k.state p t state h.made_is k.made_is)
+
+    taken_apart : (q : TakenSoFar) (p : List ℕ) (e : End) (t : List ℕ) → TakesReport written s n x q p → StopsReport written s n x e t → ⊥
+    taken_apart q p e t h (inl k) = no_event x k.0 h.event k.1 h.told
+    taken_apart q p e t h (inr k) = not_both _ h.state k.state k.fault h.taken (ap (λ z. take_report s.grammar s.limit s.state (report_on n z)) (one_event x h.event k.event h.told k.told) ∙ k.refused)
+
+    one_stopped : (d e : End) (t u : List ℕ) → StopsReport written s n x d t → StopsReport written s n x e u → (d ≡ e) × (t ≡ u)
+    one_stopped d e t u (inl h) (inl k) = (h.2 ∙ (ap (Refused (codes "events") (Some n)) (one_form_fault x h.0 k.0 h.1 k.1) ∙ sym k.2), h.3 ∙ sym k.3)
+    one_stopped d e t u (inl h) (inr k) = absurd (no_event x h.0 k.event h.1 k.told)
+    one_stopped d e t u (inr h) (inl k) = absurd (no_event x k.0 h.event k.1 h.told)
+    one_stopped d e t u (inr h) (inr k) =
+        let same = ap (λ z. take_report s.grammar s.limit s.state (report_on n z)) (one_event x h.event k.event h.told k.told) in
+        let one = one_stop _ h.state k.state h.fault k.fault h.refused (same ∙ k.refused) in
+        (h.ending_is ∙ (ap report_end one.1 ∙ sym k.ending_is), one_text s h.state k.state t u one.0 h.made_is k.made_is)
+
+  -- a line of events is taken or refused in one way
+  pub events_one_way : IsOneWay IsAnyTaken (TakesReport written) (StopsReport written)
+  events_one_way = record {
+    sound = λ s n x q p ok h. tt;
+    taken = λ s n x q r p t ok h k. one_taken s n x q r p t h k;
+    apart = λ s n x q p e t ok h k. taken_apart s n x q p e t h k;
+    stopped = λ s n x d e t u ok h k. one_stopped s n x d e t u h k;
+  }
+
+-- some reports have one first
+one_first : (hs : List Report) (r k : Report) (rs ks : List Report) → hs ≡ r ∷ rs → hs ≡ k ∷ ks → r ≡ k
+one_first hs r k rs ks p q = let e = sym p ∙ q in (cc)
+
+none_first : (hs : List Report) (r : Report) (rs : List Report) → hs ≡ [] → hs ≡ r ∷ rs → ⊥
+none_first hs r rs p q = let e = sym p ∙ q in absurd (cc)
+
+-- the end of the file is passed or refused in one way, and nothing is made of it
+pub events_closed_one_way : IsClosedOneWay IsAnyTaken HoldsNone StopsHolding
 events_closed_one_way = record {
-  finished = λ s p t ok h k. h ∙ sym k;
-  apart = λ s p e t ok h k. k;
-  stopped = λ s d e t u ok h k. absurd h;
+  finished = λ s p t ok h k. h.1 ∙ sym k.1;
+  apart = λ s p e t ok h k. none_first s.state.held k.0 k.1 h.0 k.2;
+  stopped = λ s d e t u ok h k. (h.3 ∙ (ap (λ (r : Report). report_end (Orphan r.line)) (one_first s.state.held h.0 k.0 h.1 k.1 h.2 k.2) ∙ sym k.3), h.4 ∙ sym k.4);
 }
 
-module _ (piece : Grammar → List Event → Event → List ℕ) (g : Grammar) (limit : ℕ) where
-  -- so far these events are taken
-  abbrev pub after : List Event → RunSoFar
-  after es = record { grammar = g; limit = limit; events = es }
+-- so far reports are taken, and this is the state of their intake
+abbrev pub after : Grammar → ℕ → Intake → TakenSoFar
+after g limit s = record { grammar = g; limit = limit; state = s }
 
-  -- an accepted run with its first event put to what comes before
-  moved : (before : List Event) (e : Event) (es : List Event) → IsAccepted g limit (before ++ e ∷ es) → IsAccepted g limit ((before ++ e ∷ []) ++ es)
-  moved before e es acc = subst (IsAccepted g limit) (sym (append_assoc before (e ∷ []) es)) acc
+-- one line more is read
+one_more_read : (ls : List Line) (reports : List Report) (l : Line) (e : Event) → AreReports ls reports → IsEventLine l e → AreReports (ls ++ l ∷ []) (reports ++ report_on l.number e ∷ [])
+one_more_read [] [] l e read is = (refl, is, tt)
+one_more_read [] (r ∷ rs) l e read is = absurd read
+one_more_read (k ∷ ls) [] l e read is = absurd read
+one_more_read (k ∷ ls) (r ∷ rs) l e read is = (read.0, read.1, one_more_read ls rs l e read.2 is)
 
-  -- its first event is taken
-  first_taken : (before : List Event) (e : Event) (es : List Event) → IsAccepted g limit before → IsAccepted g limit (before ++ e ∷ es) → IsAccepted g limit (before ++ e ∷ [])
-  first_taken before e es acc all = (taking_law g limit before e acc).0 (takes g limit before e es all)
+module _ (g : Grammar) (limit : ℕ) where
+  -- reports are taken whole, where all are taken and none is held
+  pub taken_whole : (reports : List Report) (s : Intake) → take_reports g limit nothing_taken reports ≡ GoesOnFrom s → s.held ≡ [] → intake g limit reports ≡ GoesOnFrom s
+  taken_whole reports s taken none = ap (λ u. and_then u (λ t. end_with t t.held)) taken ∙ ap (end_with s) none
 
-  -- all lines of events are taken
-  abbrev pub Taken : List Event → List Line → List Event → List ℕ → Type 0
-  Taken before ls es text = AllTaken (line_ends (codes "events")) (TakesEvent piece) RefusesAt (after before) ls (after es) text
+  -- and only there
+  pub of_taken_whole : (reports : List Report) (s : Intake) → intake g limit reports ≡ GoesOnFrom s → (take_reports g limit nothing_taken reports ≡ GoesOnFrom s) × (s.held ≡ [])
+  of_taken_whole reports s e = ends_on (take_reports g limit nothing_taken reports) s e
 
-  -- lines that are taken tell the events that they leave, and the run is accepted
-  pub taken_told : (ls : List Line) (s q : RunSoFar) (text : List ℕ) → IsAccepted s.grammar s.limit s.events → AllTaken (line_ends (codes "events")) (TakesEvent piece) RefusesAt s ls q text →
-      (es : List Event) × (q ≡ record { grammar = s.grammar; limit = s.limit; events = s.events ++ es }) × AreEvents ls es × IsAccepted s.grammar s.limit (s.events ++ es)
-  taken_told [] s q text acc h = ([], h.0 ∙ ap (λ z. record { grammar = s.grammar; limit = s.limit; events = z }) (sym (append-nil s.events)), tt, subst (IsAccepted s.grammar s.limit) (sym (append-nil s.events)) acc)
-  taken_told (l ∷ ls) s q text acc h =
-      let e = h.3.1.0 in
-      let r = taken_told ls (with_event s e) q h.2 h.3.1.2 (subst (λ z. AllTaken (line_ends (codes "events")) (TakesEvent piece) RefusesAt z ls q h.2) h.3.1.3 h.4) in
-      let same = append_assoc s.events (e ∷ []) r.0 in (
-        e ∷ r.0,
-        r.1 ∙ ap (λ z. record { grammar = s.grammar; limit = s.limit; events = z }) same,
-        ((h.3.0, h.3.1.1), r.2),
-        subst (IsAccepted s.grammar s.limit) same r.3,
+  -- one report more is taken
+  one_more : (ls : List Line) (s q : Intake) (l : Line) (e : Event) → AreTakenTo g limit ls s → IsEventLine l e → take_report g limit s (report_on l.number e) ≡ GoesOnFrom q → AreTakenTo g limit (ls ++ l ∷ []) q
+  one_more ls s q l e told is taken = record {
+    reports = told.reports ++ report_on l.number e ∷ [];
+    read = one_more_read ls told.reports l e told.read is;
+    taken =
+        in_parts g limit told.reports (report_on l.number e ∷ []) nothing_taken ∙
+        (ap (λ u. and_then u (λ t. take_reports g limit t (report_on l.number e ∷ []))) told.taken ∙ ap (λ u. and_then u (λ t. GoesOnFrom t)) taken);
+  }
+
+module _ (written : Grammar → List Event → List ℕ) where
+  -- lines that are taken tell reports that are taken, and what they make is what is written of the events that were applied
+  pub taken_told : (ls : List Line) (s q : TakenSoFar) (text : List ℕ) → AllTaken (line_ends (codes "events")) (TakesReport written) (StopsReport written) s ls q text →
+      (reports : List Report) × (state : Intake) × AreReports ls reports × (take_reports s.grammar s.limit s.state reports ≡ GoesOnFrom state) × (q ≡ with_state s state) × IsWrittenBehind (written s.grammar) s.state.run state.run text
+  taken_told [] s q text h = ([], s.state, tt, refl, h.0, sym (ap (λ x. written s.grammar s.state.run ++ x) h.1 ∙ append-nil (written s.grammar s.state.run)))
+  taken_told (l ∷ ls) s q text h =
+      let k = h.3.1 in
+      let r = taken_told ls (with_state s k.state) q h.2 (subst (λ z. AllTaken (line_ends (codes "events")) (TakesReport written) (StopsReport written) z ls q h.2) k.leaves h.4) in (
+        report_on l.number k.event ∷ r.0,
+        r.1,
+        (refl, (h.3.0, k.told), r.2),
+        ap (λ u. and_then u (λ t. take_reports s.grammar s.limit t r.0)) k.taken ∙ r.3,
+        r.4,
+        r.5 ∙ (ap (λ x. x ++ h.2) k.made_is ∙ (append_assoc (written s.grammar s.state.run) h.1 h.2 ∙ ap (λ x. written s.grammar s.state.run ++ x) (sym h.5))),
       )
 
-  module _ (written : List Event → List ℕ) (grows : (before : List Event) (e : Event) → IsAccepted g limit (before ++ e ∷ []) → written (before ++ e ∷ []) ≡ written before ++ piece g before e) where
-    module _ (before : List Event) where
-      here : IsAccepted g limit before → IsAccepted g limit (before ++ [])
-      here acc = subst (IsAccepted g limit) (sym (append-nil before)) acc
-
-      written_here : written before ++ [] ≡ written (before ++ [])
-      written_here = append-nil (written before) ∙ ap written (sym (append-nil before))
-
-    -- where the first of some events is taken, the text of the others makes that of all
-    first_text : (before : List Event) (e : Event) (t rest : List ℕ) → IsAccepted g limit (before ++ e ∷ []) → t ≡ written (before ++ e ∷ []) ++ rest → t ≡ written before ++ (piece g before e ++ rest)
-    first_text before e t rest acc is = is ∙ (ap (λ x. x ++ rest) (grows before e acc) ∙ append_assoc (written before) (piece g before e) rest)
-
-    -- lines that tell an accepted run are taken, and what they make is what is written of its events
-    pub taken_all : (ls : List Line) (before es : List Event) → IsAccepted g limit before → AreEvents ls es → IsAccepted g limit (before ++ es) → (text : List ℕ) × (written (before ++ es) ≡ written before ++ text) × Taken before ls (before ++ es) text
-    taken_all [] before [] acc read all = ([], sym (written_here before), (ap after (append-nil before), refl))
-    taken_all [] before (e ∷ es) acc read all = absurd read
-    taken_all (l ∷ ls) before [] acc read all = absurd read
-    taken_all (l ∷ ls) before (e ∷ es) acc read all =
-        let next = first_taken before e es acc all in
-        let same = append_assoc before (e ∷ []) es in
-        let r = taken_all ls (before ++ e ∷ []) es next read.1 (moved before e es all) in (
-          piece g before e ++ r.0,
-          ap written (sym same) ∙ first_text before e (written ((before ++ e ∷ []) ++ es)) r.0 next r.1,
-          (after (before ++ e ∷ []), piece g before e, r.0, (read.0.0, (e, read.0.1, next, refl, refl)), subst (λ z. Taken (before ++ e ∷ []) ls z r.0) same r.2, refl),
-        )
+  module _ (g : Grammar) (limit : ℕ) where
+    -- all lines of events are taken
+    abbrev pub Taken : Intake → List Line → Intake → List ℕ → Type 0
+    Taken s ls q text = AllTaken (line_ends (codes "events")) (TakesReport written) (StopsReport written) (after g limit s) ls (after g limit q) text
 
     module _ (Next : List Event → End → List ℕ → Type 0) where
-      -- behind the last line the program goes on, with what is written of all events before its text
-      abbrev pub GoesOn : RunSoFar → End → List ℕ → Type 0
-      GoesOn s ending text = Next s.events ending (written s.events ++ text)
+      -- behind the last line a report is held, and ends the program; or none is, and the program goes on, with what is written of all events before its text
+      abbrev pub GoesOn : TakenSoFar → End → List ℕ → Type 0
+      GoesOn s ending text = StopsHolding s ending text ⊎ ((s.state.held ≡ []) × Next s.state.run ending (written g s.state.run ++ text))
 
-      -- what lines make behind the events of a run
-      abbrev pub Makes : List Event → List Line → Tail → End → List ℕ → Type 0
-      Makes before ls tail d t = OfLines (line_ends (codes "events")) (TakesEvent piece) RefusesAt GoesOn (after before) ls tail d t
+      -- what lines make where the intake of the reports before is in this state
+      abbrev pub Makes : Intake → List Line → Tail → End → List ℕ → Type 0
+      Makes s ls tail d t = OfLines (line_ends (codes "events")) (TakesReport written) (StopsReport written) GoesOn (after g limit s) ls tail d t
 
-      -- What lines of events make behind the events of a run, told as a whole
-      data MakesBehind (before : List Event) (ls : List Line) (tail : Tail) (ending : End) (text : List ℕ) : Type 0 where
-        at_line : (es : List Event) (line : Option ℕ) (fault : List ℕ) (ts : List Line) (l : Line) (later : List Line) → ls ≡ ts ++ l ∷ later → AreEvents ts es → IsAccepted g limit (before ++ es) → RefusesLine g limit (before ++ es) l line fault → ending ≡ Refused (codes "events") line fault → text ≡ written (before ++ es) → MakesBehind before ls tail ending text
-        past_most : (es : List Event) (n : ℕ) → AreEvents ls es → IsAccepted g limit (before ++ es) → tail ≡ LongFile n → ending ≡ Refused (codes "events") (Some n) (codes "FileTooLong") → text ≡ written (before ++ es) → MakesBehind before ls tail ending text
-        at_break : (es : List Event) → AreEvents ls es → IsAccepted g limit (before ++ es) → tail ≡ Broken → ending ≡ ReadFault (codes "events") → text ≡ written (before ++ es) → MakesBehind before ls tail ending text
-        at_end : (es : List Event) → AreEvents ls es → IsAccepted g limit (before ++ es) → tail ≡ AtEnd → Next (before ++ es) ending text → MakesBehind before ls tail ending text
+      -- the file of some lines that are taken, and of the lines behind them
+      abbrev whole_of : List Line → List Line → Tail → FileLines
+      whole_of done ls tail = record { lines = done ++ ls; tail = tail }
 
-      -- one line more is taken first
-      with_first : (before : List Event) (l : Line) (e : Event) (ls : List Line) (tail : Tail) (d : End) (t : List ℕ) → IsEventLine l e → MakesBehind (before ++ e ∷ []) ls tail d t → MakesBehind before (l ∷ ls) tail d t
-      with_first before l e ls tail d t told (at_line es line fault ts k later split read acc r x is) =
-          let same = append_assoc before (e ∷ []) es in
-          at_line (e ∷ es) line fault (l ∷ ts) k later (ap (λ z. l ∷ z) split) (told, read) (subst (IsAccepted g limit) same acc) (subst (λ z. RefusesLine g limit z k line fault) same r) x (is ∙ ap written same)
-      with_first before l e ls tail d t told (past_most es n read acc long x is) =
-          let same = append_assoc before (e ∷ []) es in past_most (e ∷ es) n (told, read) (subst (IsAccepted g limit) same acc) long x (is ∙ ap written same)
-      with_first before l e ls tail d t told (at_break es read acc breaks x is) =
-          let same = append_assoc before (e ∷ []) es in at_break (e ∷ es) (told, read) (subst (IsAccepted g limit) same acc) breaks x (is ∙ ap written same)
-      with_first before l e ls tail d t told (at_end es read acc ends next) =
-          let same = append_assoc before (e ∷ []) es in at_end (e ∷ es) (told, read) (subst (IsAccepted g limit) same acc) ends (subst (λ z. Next z d t) same next)
+      nothing_behind : (s : Intake) (t : List ℕ) → t ≡ [] → written g s.run ++ t ≡ written g s.run
+      nothing_behind s t none = ap (λ x. written g s.run ++ x) none ∙ append-nil (written g s.run)
 
-      -- what lines make one by one is what they make as a whole
-      forth : (tail : Tail) (ls : List Line) (before : List Event) (d : End) (t : List ℕ) → IsAccepted g limit before → Makes before ls tail d t → MakesBehind before ls tail d (written before ++ t)
-      forth AtEnd [] before d t acc h = at_end [] tt (here before acc) refl (subst (λ z. Next z d (written before ++ t)) (sym (append-nil before)) h)
-      forth Broken [] before d t acc h = at_break [] tt (here before acc) refl h.0 (ap (λ x. written before ++ x) h.1 ∙ written_here before)
-      forth (LongFile n) [] before d t acc h = past_most [] n tt (here before acc) refl h.0 (ap (λ x. written before ++ x) h.1 ∙ written_here before)
-      forth tail (l ∷ ls) before d t acc (inl (inl h)) =
-          at_line [] (Some l.number) (codes "LineTooLong") [] l ls refl tt (here before acc) (refl, inl (h.0, refl)) h.1 (ap (λ x. written before ++ x) h.2 ∙ written_here before)
-      forth tail (l ∷ ls) before d t acc (inl (inr h)) =
-          at_line [] (Some l.number) h.1.0 [] l ls refl tt (here before acc) (refl, inr (h.0, subst (λ z. RefusesText g limit z (text_of l.raw) h.1.0) (sym (append-nil before)) h.1.1)) h.1.2 (ap (λ x. written before ++ x) h.1.3 ∙ written_here before)
-      forth tail (l ∷ ls) before d t acc (inr h) =
-          let e = h.3.1.0 in
-          let later = forth tail ls (before ++ e ∷ []) d h.2 h.3.1.2 (subst (λ z. OfLines (line_ends (codes "events")) (TakesEvent piece) RefusesAt GoesOn z ls tail d h.2) h.3.1.3 h.4) in
-          let same : written before ++ t ≡ written (before ++ e ∷ []) ++ h.2 = ap (λ x. written before ++ x) (h.5 ∙ ap (λ x. x ++ h.2) h.3.1.4) ∙ sym (first_text before e (written (before ++ e ∷ []) ++ h.2) h.2 h.3.1.2 refl) in
-          subst (MakesBehind before (l ∷ ls) tail d) (sym same) (with_first before l e ls tail d _ (h.3.0, h.3.1.1) later)
+      all_taken : (done : List Line) (s : Intake) → AreTakenTo g limit done s → AreTakenTo g limit (done ++ []) s
+      all_taken done s told = subst (λ ls. AreTakenTo g limit ls s) (sym (append-nil done)) told
+
+      -- what lines make behind those that are taken, the file of all makes
+      forth : (tail : Tail) (ls done : List Line) (s : Intake) → AreTakenTo g limit done s → (d : End) (t : List ℕ) → Makes s ls tail d t → EventsStage g limit (whole_of done ls tail) (written g) Next d (written g s.run ++ t)
+      forth AtEnd [] done s told d t (inl h) =
+          stops s (held refl (record { told = all_taken done s told; first = h.0; later = h.1; held = h.2; ending_is = h.3 })) (nothing_behind s t h.4)
+      forth AtEnd [] done s told d t (inr h) =
+          let all = all_taken done s told in
+          goes_on s.run (record { whole = refl; reports = all.reports; read = all.read; state = s; taken = taken_whole g limit all.reports s all.taken h.0; run = refl }) h.1
+      forth Broken [] done s told d t h = stops s (broken (all_taken done s told) refl h.0) (nothing_behind s t h.1)
+      forth (LongFile n) [] done s told d t h = stops s (long_file n (all_taken done s told) refl h.0) (nothing_behind s t h.1)
+      forth tail (l ∷ ls) done s told d t (inl (inl h)) =
+          stops s (refused (record { taken = done; first = l; later = ls; split = refl; told = told; fault = codes "LineTooLong"; refused = inl (h.0, refl); ending_is = h.1 })) (nothing_behind s t h.2)
+      forth tail (l ∷ ls) done s told d t (inl (inr (short, inl h))) =
+          stops s (refused (record { taken = done; first = l; later = ls; split = refl; told = told; fault = h.0; refused = inr (short, h.1); ending_is = h.2 })) (nothing_behind s t h.3)
+      forth tail (l ∷ ls) done s told d t (inl (inr (short, inr h))) =
+          stops h.state (stopped (record { taken = done; first = l; later = ls; split = refl; before = s; told = told; event = h.event; read = (short, h.told); fault = h.fault; stops = h.refused; ending_is = h.ending_is })) (sym h.made_is)
+      forth tail (l ∷ ls) done s told d t (inr h) =
+          let k = h.3.1 in
+          let more = one_more g limit done s k.state l k.event told (h.3.0, k.told) k.taken in
+          let later = forth tail ls (done ++ l ∷ []) k.state more d h.2 (subst (λ z. OfLines (line_ends (codes "events")) (TakesReport written) (StopsReport written) GoesOn z ls tail d h.2) k.leaves h.4) in
+          let text : written g k.state.run ++ h.2 ≡ written g s.run ++ t = ap (λ x. x ++ h.2) k.made_is ∙ (append_assoc (written g s.run) h.1 h.2 ∙ ap (λ x. written g s.run ++ x) (sym h.5)) in
+          subst (EventsStage g limit (whole_of done (l ∷ ls) tail) (written g) Next d) text
+          (subst (λ z. EventsStage g limit (record { lines = z; tail = tail }) (written g) Next d (written g k.state.run ++ h.2)) (append_assoc done (l ∷ []) ls) later)
+
+      no_lines : AreTakenTo g limit [] nothing_taken
+      no_lines = record { reports = []; read = tt; taken = refl }
 
       -- what the lines of a file make one by one, behind what is written of no events, is what the file makes
-      pub events_forth : (file : FileLines) (d : End) (t : List ℕ) → Makes [] file.lines file.tail d t → EventsStage g limit file written Next d (written [] ++ t)
-      events_forth file d t h = go (written [] ++ t) (forth file.tail file.lines [] d t (none_taken g limit) h)
+      pub events_forth : (file : FileLines) (d : End) (t : List ℕ) → Makes nothing_taken file.lines file.tail d t → EventsStage g limit file (written g) Next d (written g [] ++ t)
+      events_forth file d t h = forth file.tail file.lines [] nothing_taken no_lines d t h
+
+    module _ (grows : (before : List Event) (e : Event) → IsAccepted g limit (before ++ e ∷ []) → (piece : List ℕ) × (written g (before ++ e ∷ []) ≡ written g before ++ piece)) where
+      -- reports are taken from an accepted run into one, of whose events a text is written behind that of the events before
+      abbrev Adds : List Event → Taking → Type 0
+      Adds run u = IsAccepted g limit (state_after u).run × (piece : List ℕ) × IsWrittenBehind (written g) run (state_after u).run piece
+
+      adds_nothing : (run : List Event) → IsAccepted g limit run → IsAccepted g limit run × (piece : List ℕ) × IsWrittenBehind (written g) run run piece
+      adds_nothing run acc = (acc, [], sym (append-nil (written g run)))
+
+      then_adds : (run : List Event) (u : Taking) (next : Intake → Taking) → Adds run u → ((s : Intake) → IsAccepted g limit s.run → Adds s.run (next s)) → Adds run (and_then u next)
+      then_adds run (GoesOnFrom s) next h k = let a = k s h.0 in (a.0, h.1 ++ a.1, a.2 ∙ (ap (λ x. x ++ a.1) h.2 ∙ append_assoc (written g run) h.1 a.1))
+      then_adds run (Stops s f) next h k = h
+
+      hold_adds : (s : Intake) (r : Report) → IsAccepted g limit s.run → Adds s.run (hold s r)
+      hold_adds s r acc = go (find (about r.event) s.known)
         where
-          go : (u : List ℕ) → MakesBehind [] file.lines file.tail d u → EventsStage g limit file written Next d u
-          go u (at_line es line fault ts l later split read acc r x is) = stops es (refused line fault (record { taken = ts; first = l; later = later; split = split; told = record { read = read; accepted = acc }; refused = r }) x) is
-          go u (past_most es n read acc long x is) = stops es (long_file n (record { read = read; accepted = acc }) long x) is
-          go u (at_break es read acc breaks x is) = stops es (broken (record { read = read; accepted = acc }) breaks x) is
-          go u (at_end es read acc ends next) = goes_on es (record { read = read; accepted = acc }, ends) next
+          beside : (k : Report) (b : Bool) → Adds s.run (cond b (GoesOnFrom s) (Stops s (Conflict r.line k.line)))
+          beside k true = adds_nothing s.run acc
+          beside k false = adds_nothing s.run acc
 
-      module _ (begins : (es : List Event) (d : End) (t : List ℕ) → Next es d t → (rest : List ℕ) × (t ≡ written es ++ rest)) where
-        -- the lines before the one that is refused are taken
-        told_taken : (ls : List Line) (es : List Event) → TellsRun g limit ls es → (text : List ℕ) × (written es ≡ written [] ++ text) × Taken [] ls es text
-        told_taken ls es told = taken_all ls [] es (none_taken g limit) told.read told.accepted
+          go : (o : Option Report) → Adds s.run (hold_beside s r o)
+          go None = adds_nothing s.run acc
+          go (Some k) = beside k (same_event k.event r.event)
 
-        -- all lines are taken, and what follows is what the tail makes
-        behind_all : (file : FileLines) (es : List Event) (d : End) (t rest : List ℕ) → TellsRun g limit file.lines es → t ≡ written es ++ rest → OfLines (line_ends (codes "events")) (TakesEvent piece) RefusesAt GoesOn (after es) [] file.tail d rest → (made : List ℕ) × (t ≡ written [] ++ made) × Makes [] file.lines file.tail d made
-        behind_all file es d t rest told is tail =
-            let k = told_taken file.lines es told in (
-              k.0 ++ rest,
-              is ∙ (ap (λ x. x ++ rest) k.1 ∙ append_assoc (written []) k.0 rest),
-              subst (λ ls. Makes [] ls file.tail d (k.0 ++ rest)) (append-nil file.lines) (lines_on (line_ends (codes "events")) (TakesEvent piece) RefusesAt GoesOn file.tail file.lines [] (after []) (after es) k.0 k.2 d rest tail),
+      apply_adds : (n : ℕ) (s : Intake) → IsAccepted g limit s.run → Adds s.run (apply_ready g limit n s)
+      apply_adds zero s acc = adds_nothing s.run acc
+      apply_adds (suc n) s acc = go (apply_adds n) (find (ready_in g s.run) s.held)
+        where
+          by_fault : ((t : Intake) → IsAccepted g limit t.run → Adds t.run (apply_ready g limit n t)) → (r : Report) (f : Option RunFault) → fault_of g limit s.run r.event ≡ f → Adds s.run (apply_unless (apply_ready g limit n) (without_ready g s) r f)
+          by_fault ih r None q =
+              let more = (taking_law g limit s.run r.event acc).0 q in
+              let first = grows s.run r.event more in
+              let a = ih (record { run = s.run ++ r.event ∷ []; held = (without_ready g s).held; known = s.known }) more in
+              (a.0, first.0 ++ a.1, a.2 ∙ (ap (λ x. x ++ a.1) first.1 ∙ append_assoc (written g s.run) first.0 a.1))
+          by_fault ih r (Some f) q = adds_nothing s.run acc
+
+          go : ((t : Intake) → IsAccepted g limit t.run → Adds t.run (apply_ready g limit n t)) → (o : Option Report) → Adds s.run (apply_one g limit (apply_ready g limit n) s o)
+          go ih None = adds_nothing s.run acc
+          go ih (Some r) = by_fault ih r (fault_of g limit s.run r.event) refl
+
+      report_adds : (s : Intake) (r : Report) → IsAccepted g limit s.run → Adds s.run (take_report g limit s r)
+      report_adds s r acc = then_adds s.run (hold s r) _ (hold_adds s r acc) (λ t ok. apply_adds (length t.held) t ok)
+
+      -- lines that tell reports that are taken are taken, and what they make is what is written of the events that were applied
+      pub taken_all : (ls : List Line) (s q : Intake) (reports : List Report) → IsAccepted g limit s.run → AreReports ls reports → take_reports g limit s reports ≡ GoesOnFrom q →
+          IsAccepted g limit q.run × (text : List ℕ) × IsWrittenBehind (written g) s.run q.run text × Taken s ls q text
+      taken_all [] s q [] acc read e =
+          subst (λ (z : Intake). IsAccepted g limit z.run × (text : List ℕ) × IsWrittenBehind (written g) s.run z.run text × Taken s [] z text) (ap state_after e) (acc, [], sym (append-nil (written g s.run)), (refl, refl))
+      taken_all [] s q (r ∷ rs) acc read e = absurd read
+      taken_all (l ∷ ls) s q [] acc read e = absurd read
+      taken_all (l ∷ ls) s q (r ∷ rs) acc read e = go (taken_all ls) (take_report g limit s r) refl (report_adds s r acc) e
+        where
+          go : ((t q : Intake) (rs : List Report) → IsAccepted g limit t.run → AreReports ls rs → take_reports g limit t rs ≡ GoesOnFrom q → IsAccepted g limit q.run × (text : List ℕ) × IsWrittenBehind (written g) t.run q.run text × Taken t ls q text) →
+              (u : Taking) → take_report g limit s r ≡ u → Adds s.run u → and_then u (λ t. take_reports g limit t rs) ≡ GoesOnFrom q → IsAccepted g limit q.run × (text : List ℕ) × IsWrittenBehind (written g) s.run q.run text × Taken s (l ∷ ls) q text
+          go ih (Stops t f) p adds e = absurd (cc)
+          go ih (GoesOnFrom t) p adds e =
+              let k = ih t q rs adds.0 read.2 e in
+              let first : TakesReport written (after g limit s) l.number _ (after g limit t) adds.1 = record { event = r.event; state = t; told = read.1.1; taken = ap (λ n. take_report g limit s (report_on n r.event)) (sym read.0) ∙ p; leaves = refl; made_is = adds.2 } in
+              (k.0, adds.1 ++ k.1, k.2 ∙ (ap (λ x. x ++ k.1) adds.2 ∙ append_assoc (written g s.run) adds.1 k.1), (after g limit t, adds.1, k.1, (read.1.0, first), k.3, refl))
+
+      module _ (Next : List Event → End → List ℕ → Type 0) (begins : (es : List Event) (d : End) (t : List ℕ) → Next es d t → (rest : List ℕ) × (t ≡ written g es ++ rest)) where
+        -- what follows lines that are taken is what the file makes behind what is written of their events
+        behind : (file : FileLines) (ls more : List Line) (s : Intake) (d : End) (t rest : List ℕ) → file.lines ≡ ls ++ more → AreTakenTo g limit ls s → t ≡ written g s.run ++ rest → Makes Next s more file.tail d rest →
+            (made : List ℕ) × (t ≡ written g [] ++ made) × Makes Next nothing_taken file.lines file.tail d made
+        behind file ls more s d t rest split told is makes =
+            let k = taken_all ls nothing_taken s told.reports (none_taken g limit) told.read told.taken in (
+              k.1 ++ rest,
+              is ∙ (ap (λ x. x ++ rest) k.2 ∙ append_assoc (written g []) k.1 rest),
+              subst (λ z. Makes Next nothing_taken z file.tail d (k.1 ++ rest)) (sym split)
+                  (lines_on (line_ends (codes "events")) (TakesReport written) (StopsReport written) (GoesOn Next) file.tail ls more (after g limit nothing_taken) (after g limit s) k.1 k.3 d rest makes),
             )
 
+        -- so where all lines are taken
+        behind_all : (file : FileLines) (tail : Tail) (s : Intake) (d : End) (t rest : List ℕ) → file.tail ≡ tail → AreTakenTo g limit file.lines s → t ≡ written g s.run ++ rest → Makes Next s [] tail d rest →
+            (made : List ℕ) × (t ≡ written g [] ++ made) × Makes Next nothing_taken file.lines file.tail d made
+        behind_all file tail s d t rest tail_is told is makes =
+            behind file file.lines [] s d t rest (sym (append-nil file.lines)) told is (subst (λ z. Makes Next s [] z d rest) (sym tail_is) makes)
+
+        here : (s : Intake) (t : List ℕ) → t ≡ written g s.run → t ≡ written g s.run ++ []
+        here s t is = is ∙ sym (append-nil (written g s.run))
+
         -- and what the file makes is what its lines make one by one
-        pub events_back : (file : FileLines) (d : End) (t : List ℕ) → EventsStage g limit file written Next d t → (made : List ℕ) × (t ≡ written [] ++ made) × Makes [] file.lines file.tail d made
-        events_back file d t (stops es (refused line fault at x) is) =
-            let k = told_taken at.taken es at.told in
-            let here : Makes es (at.first ∷ at.later) file.tail d [] = inl (stop at.first line fault at.refused x) in
-            let all = lines_on (line_ends (codes "events")) (TakesEvent piece) RefusesAt GoesOn file.tail at.taken (at.first ∷ at.later) (after []) (after es) k.0 k.2 d [] here in
-            (k.0 ++ [], is ∙ (k.1 ∙ ap (λ x. written [] ++ x) (sym (append-nil k.0))), subst (λ ls. Makes [] ls file.tail d (k.0 ++ [])) (sym at.split) all)
+        pub events_back : (file : FileLines) (d : End) (t : List ℕ) → EventsStage g limit file (written g) Next d t → (made : List ℕ) × (t ≡ written g [] ++ made) × Makes Next nothing_taken file.lines file.tail d made
+        events_back file d t (stops s (refused at) is) = behind file at.taken (at.first ∷ at.later) s d t [] at.split at.told (here s t is) (inl (stop at.first at.fault at.refused at.ending_is))
           where
-            stop : (l : Line) (line : Option ℕ) (fault : List ℕ) → RefusesLine g limit es l line fault → d ≡ Refused (codes "events") line fault → StopsLine (line_ends (codes "events")) (TakesEvent piece) RefusesAt (after es) l d []
-            stop l line fault (n, inl long) x = inl (long.0, x ∙ (ap (λ z. Refused (codes "events") z fault) n ∙ ap (Refused (codes "events") (Some l.number)) long.1), refl)
-            stop l line fault (n, inr h) x = inr (h.0, (fault, h.1, x ∙ ap (λ z. Refused (codes "events") z fault) n, refl))
-        events_back file d t (stops es (long_file n told long x) is) =
-            behind_all file es d t [] told (is ∙ sym (append-nil (written es))) (subst (λ z. OfLines (line_ends (codes "events")) (TakesEvent piece) RefusesAt GoesOn (after es) [] z d []) (sym long) (x, refl))
-        events_back file d t (stops es (broken told breaks x) is) =
-            behind_all file es d t [] told (is ∙ sym (append-nil (written es))) (subst (λ z. OfLines (line_ends (codes "events")) (TakesEvent piece) RefusesAt GoesOn (after es) [] z d []) (sym breaks) (x, refl))
-        events_back file d t (goes_on es (told, ends) next) =
-            let b = begins es d t next in
-            behind_all file es d t b.0 told b.1 (subst (λ z. OfLines (line_ends (codes "events")) (TakesEvent piece) RefusesAt GoesOn (after es) [] z d b.0) (sym ends) (subst (Next es d) b.1 next))
+            stop : (l : Line) (fault : List ℕ) → RefusesLine l fault → d ≡ Refused (codes "events") (Some l.number) fault → StopsLine (line_ends (codes "events")) (TakesReport written) (StopsReport written) (after g limit s) l d []
+            stop l fault (inl long) x = inl (long.0, x ∙ ap (Refused (codes "events") (Some l.number)) long.1, refl)
+            stop l fault (inr h) x = inr (h.0, inl (fault, h.1, x, refl))
+        events_back file d t (stops s (stopped at) is) =
+            let all = taken_all at.taken nothing_taken at.before at.told.reports (none_taken g limit) at.told.read at.told.taken in
+            let adds : Adds at.before.run (Stops s at.fault) = subst (Adds at.before.run) at.stops (report_adds at.before (report_on at.first.number at.event) all.0) in
+            behind file at.taken (at.first ∷ at.later) at.before d t adds.1 at.split at.told (is ∙ adds.2)
+            (inl (inr (at.read.0, inr (record { event = at.event; state = s; fault = at.fault; told = at.read.1; refused = at.stops; ending_is = at.ending_is; made_is = adds.2 }))))
+        events_back file d t (stops s (held ends at) is) =
+            behind_all file AtEnd s d t [] ends at.told (here s t is) (inl (at.first, at.later, at.held, at.ending_is, refl))
+        events_back file d t (stops s (long_file n told long x) is) = behind_all file (LongFile n) s d t [] long told (here s t is) (x, refl)
+        events_back file d t (stops s (broken told breaks x) is) = behind_all file Broken s d t [] breaks told (here s t is) (x, refl)
+        events_back file d t (goes_on es told next) =
+            let w = of_taken_whole g limit told.reports told.state told.taken in
+            let after_all : Next told.state.run d t = subst (λ z. Next z d t) (sym told.run) next in
+            let b = begins told.state.run d t after_all in
+            behind_all file AtEnd told.state d t b.0 told.whole (record { reports = told.reports; read = told.read; taken = w.0 }) b.1 (inr (w.1, subst (Next told.state.run d) b.1 after_all))

@@ -1,7 +1,10 @@
 pub mod EventLines
+pub mod ReportLines
 pub mod EventStages
 pub mod LoopsText
+pub mod PlainRuns
 pub mod OneFault
+pub mod OneForm
 pub mod OneLabels
 pub mod OneRefusal
 pub mod OneRun

@@ -4,9 +4,8 @@ use Rattle.std.specs.Prelude.{codes, map}
 use Rattle.std.proofs.lemmas.Bool.{cases_lt}
 use Rattle.wf_model.specs.declared.parts.Parts.{Parts}
 use Rattle.wf_model.specs.declared.numbers.ProdNo.{ProdNo}
-use Rattle.wf_model.specs.Lists.{IsIn, Walk, here, onward}
 use Rattle.wf_model.specs.Grammar.{Grammar, body_of, module_at}
-use Rattle.wf_model.specs.Proper.{Becomes, IsProper}
+use Rattle.wf_model.specs.Proper.{IsProper}
 use Rattle.wf_json.specs.SpecForm.{spec_of}
 use Rattle.wf_form.specs.declared.fault.FormFault.{FormFault}
 use Rattle.wf_form.specs.Forming.{grammar_of, IsFormed}
@@ -17,7 +16,7 @@ use Rattle.wf_form.proofs.Lawful.{law}
 use Rattle.wf_check.proofs.Loops.{only_first, walk_of}
 use Rattle.wf_check.specs.declared.fault.CheckFault.{CheckFault}
 use Rattle.wf_check.specs.declared.fault.CheckFault.TheVariants.{Unreachable, Unproductive, UnitCycle, NoMemory}
-use Rattle.wf_check.specs.Improper.{IsLeastWithout, UnitPath, IsUnitCycle, IsFirstOf, IsToldCycle, IsFaultOf as IsFaultOfGrammar}
+use Rattle.wf_check.specs.Improper.{IsLeastWithout, IsUnitCycle, IsFirstOf, IsToldCycle, IsFaultOf as IsFaultOfGrammar}
 use Rattle.wf_message.specs.Refusals.{numbers_text, check_text}
 use Rattle.wf_inputs.specs.Faults.{form_text}
 use Rattle.wf_inputs.specs.Specification.{TellsGrammar, RefusesGrammar, RefusesParts, RefusesSpec}

@@ -1,11 +1,13 @@
 -- What bytes tell, they tell of one value alone.
-use Rattle.std.proofs.Common.{◌≡◌, ℕ, List, [], ◌∷◌, Some, unwrap_or, refl, sym, ap, ◌∙◌}
+use Rattle.std.proofs.Common.{◌≡◌, ℕ, List, [], ◌∷◌, refl, sym, ap, ◌∙◌}
 use Rattle.std.specs.Prelude.{Result, Ok, Err}
 use Rattle.serde_json.specs.Data.{Data}
 use Rattle.wf_model.specs.declared.event.Event.{Event}
 use Rattle.wf_model.specs.Grammar.{Grammar}
 use Rattle.wf_model.specs.View.{View}
-use Rattle.wf_io.specs.Lines.{Line, text_of}
+use Rattle.report_model.specs.Reports.{Report}
+use Rattle.report_model.specs.Intake.{GoesOn, state_after, intake}
+use Rattle.wf_io.specs.Lines.{Line, FileLines, text_of}
 use Rattle.wf_json.specs.declared.fault.Member.{Member}
 use Rattle.wf_json.specs.Reading.{IsReading}
 use Rattle.wf_json.specs.SpecForm.{spec_of}
@@ -15,7 +17,7 @@ use Rattle.wf_form.specs.Forming.{grammar_of}
 use Rattle.wf_view.specs.Viewing.{view_of}
 use Rattle.wf_inputs.specs.Specification.{TellsGrammar}
 use Rattle.wf_inputs.specs.ViewTold.{TellsView}
-use Rattle.wf_inputs.specs.RunTold.{IsEventText, AreEvents, TellsRun}
+use Rattle.wf_inputs.specs.RunTold.{IsEventText, AreReports, report_on, TellsEvents}
 use Rattle.std.proofs.lemmas.Option.{same_Some}
 
 abbrev ok_or : {A E : Type 0} → A → Result A E → A
@@ -54,14 +56,19 @@ pub one_event : (text : List ℕ) (e f : Event) → IsEventText text e → IsEve
 one_event text e f p q =
     same_Some e f (sym p.2 ∙ (ap event_of (one_reading text p.0 q.0 p.1 q.1) ∙ q.2))
 
-pub one_list : (ls : List Line) (es fs : List Event) → AreEvents ls es → AreEvents ls fs → es ≡ fs
+-- lines tell one list of reports: the number of a line is that of its report, and its text tells one event
+pub one_list : (ls : List Line) (rs ss : List Report) → AreReports ls rs → AreReports ls ss → rs ≡ ss
 one_list [] [] [] p q = refl
-one_list [] [] (f ∷ fs) p q = absurd q
-one_list [] (e ∷ es) fs p q = absurd p
-one_list (l ∷ ls) [] fs p q = absurd p
-one_list (l ∷ ls) (e ∷ es) [] p q = absurd q
-one_list (l ∷ ls) (e ∷ es) (f ∷ fs) p q =
-    ap (λ x. x ∷ es) (one_event (text_of l.raw) e f p.0.1 q.0.1) ∙ ap (λ xs. f ∷ xs) (one_list ls es fs p.1 q.1)
+one_list [] [] (s ∷ ss) p q = absurd q
+one_list [] (r ∷ rs) ss p q = absurd p
+one_list (l ∷ ls) [] ss p q = absurd p
+one_list (l ∷ ls) (r ∷ rs) [] p q = absurd q
+one_list (l ∷ ls) (r ∷ rs) (s ∷ ss) p q =
+    ap (λ x. x ∷ rs) (ap (λ n. report_on n r.event) (p.0 ∙ sym q.0) ∙ ap (report_on s.line) (one_event (text_of l.raw) r.event s.event p.1.1 q.1.1)) ∙ ap (λ xs. s ∷ xs) (one_list ls rs ss p.2 q.2)
 
-pub one_run : (g : Grammar) (limit : ℕ) (lines : List Line) (es fs : List Event) → TellsRun g limit lines es → TellsRun g limit lines fs → fs ≡ es
-one_run g limit lines es fs p q = one_list lines fs es q.read p.read
+-- and a whole file tells one run
+pub one_run : (g : Grammar) (limit : ℕ) (file : FileLines) (es fs : List Event) → TellsEvents g limit file es → TellsEvents g limit file fs → fs ≡ es
+one_run g limit file es fs p q =
+    let same = ap (intake g limit) (one_list file.lines q.reports p.reports q.read p.read) in
+    let state : GoesOn q.state ≡ GoesOn p.state = sym q.taken ∙ (same ∙ p.taken) in
+    sym q.run ∙ (ap (λ u. (state_after u).run) state ∙ p.run)

@@ -3,6 +3,7 @@ pub mod ViewTold
 pub mod Viewed
 pub mod RunTold
 pub mod RunTaking
+pub mod Reporting
 pub mod LabelsTold
 pub mod Faults
 pub mod Inputs

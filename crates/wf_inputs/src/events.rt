@@ -1,150 +1,166 @@
 // EVENTS: from the lines of a file to a run.
-ghost use Rattle.std.specs.Prelude.{◌≡◌, ◌⊎◌, ◌++◌, ◌∷◌, [], Some, None, IfOk, IfErr, OnOk, codes};
-ghost use Rattle.wf_model.specs.Faults.{fault_of};
-ghost use Rattle.wf_model.specs.Grammar.{Grammar};
-ghost use Rattle.wf_model.specs.declared.event.Event.{Event};
-ghost use Rattle.wf_flat.specs.Table.{IsTableOf, events_of};
-ghost use Rattle.wf_message.specs.Endings.{End, end_of, Refused, NoMemory};
-ghost use Rattle.wf_message.specs.Refusals.{refusal_text};
-ghost use Rattle.wf_stage.specs.LineEnds.{line_ends, told_end};
-ghost use Rattle.wf_stage.specs.Stages.{AtLine, Declines, IsRefusedOrWanting};
+ghost use Rattle.std.specs.Prelude.{◌≡◌, [], ℕ, List, Some, IfOk, length, take, position, bytes_eq};
+ghost use Rattle.std.specs.Cmp.Lexicographic.{pointwise};
+ghost use Rattle.wf_model.specs.Grammar.{Grammar, body_of};
+ghost use Rattle.wf_model.specs.Run.{Expanded, expanded_by};
+ghost use Rattle.wf_flat.specs.Table.{IsTableOf, events_of, names_in};
 ghost use Rattle.wf_stage.specs.Promises.{ReadsLines};
-ghost use Rattle.wf_inputs.specs.Faults.{run_name};
 ghost use Rattle.wf_inputs.specs.Inputs.{instance_most};
-ghost use Rattle.wf_inputs.specs.RunTold.{IsEventText, TellsEvents, StopsEvents, RefusesForm, RefusesText};
-ghost use Rattle.wf_inputs.specs.RunTaking.{RunSoFar, TakesEvent, RefusesAt, MakesNothing, NeverStops, IsAnyRun, IsRunSoFar, no_piece};
+ghost use Rattle.wf_inputs.specs.RunTold.{TellsEvents, StopsEvents};
+ghost use Rattle.wf_inputs.specs.RunTaking.{nothing_written};
+ghost use Rattle.wf_inputs.specs.Reporting.{IsGrownBy};
 
-use crate::faults::{named, run_refusal};
 use crate::kinds::EVENTS;
+use crate::reports::Reporting;
+use bumpalo::Bump;
 use std::alloc::Global;
-use wf_events::{EventFault, read_event};
-use wf_flat::PlainRun;
+use std::marker::Model;
+use wf_flat::{Inst, PlainRun};
+use wf_intake::Grows;
 use wf_io::{Lines, PlainSink, Shelf};
-use wf_lines::{Due, Taker, take_lines};
-use wf_message::{Refusal, Stop, refused_line};
-use wf_spec::{Event, Grammar, RunFault};
+use wf_lines::{Due, take_lines};
+use wf_message::Stop;
+use wf_spec::{Event, Grammar, Name, ProdNo, RunFault};
 use wf_stage::stop_of;
 
 /// The greatest number of instances of a run.
 pub const INSTANCES: u32 = 16777216;
 
-/// The stop at a line of events that is refused, by its number.
-pub fn refused_event(number: u64, refusal: Refusal) -> Stop
-    ensures { end_of result ≡ Refused (codes "events") (Some number) (refusal_text refusal) }
-{
-    refused_line(EVENTS, number, refusal)
-}
-
-/// The stop at a fault of the event of a line.
-pub fn event_stop(number: u64, fault: RunFault) -> Stop
-    ensures memory { fault ≡ RunFault.NoMemory → end_of result ≡ NoMemory }
-    ensures refused { (fault ≡ RunFault.NoMemory) ⊎ (end_of result ≡ Refused (codes "events") (Some number) (run_name fault)) }
-{
-    match fault {
-        RunFault::NoMemory => Stop::NoMemory,
-        _ => refused_event(number, run_refusal(fault)),
-    }
-}
-
-/// The event of a line.
-pub fn event_of_line(alloc: Global, number: u64, line: &[u8]) -> Result<Event, Stop>
-    ensures ok { IfOk result (λ e. IsEventText line.now e) }
-    ensures declines { IfErr result (λ d. Declines (codes "events") (AtLine RefusesForm number line.now) (end_of d)) }
-{
-    match read_event(alloc, line) {
-        Ok(event) => Ok(event),
-        Err(EventFault::NotJson) => Err(refused_event(number, named(b"NotJson"))),
-        Err(EventFault::WrongShape) => Err(refused_event(number, named(b"WrongShape"))),
-        Err(EventFault::NoMemory) => Err(Stop::NoMemory),
-    }
-}
-
-/// Takes the event of a line into a run.
-fn take_line(
-    alloc: Global,
-    g: &Grammar,
-    run: &mut PlainRun,
-    number: u64,
-    line: &[u8],
-) -> Result<(), Stop>
-    requires run { IsTableOf g.now.core run.old }
-    requires most { run.old.most ≡ instance_most }
-    ensures run { IsTableOf g.now.core run.new }
-    ensures most { run.new.most ≡ instance_most }
-    ensures ok { OnOk result ((e : Event) × IsEventText line.now e × (fault_of g.now.core instance_most (events_of run.old) e ≡ None) × (events_of run.new ≡ events_of run.old ++ e ∷ [])) }
-    ensures declines { IfErr result (λ d. Declines (codes "events") (AtLine (RefusesText g.now.core instance_most (events_of run.old)) number line.now) (end_of d)) }
-{
-    let event = event_of_line(alloc, number, line)?;
-    match run.take(g, &event) {
-        Ok(()) => Ok(()),
-        Err(fault) => Err(event_stop(number, fault)),
-    }
-}
-
-/// A run into which the events of a file are taken.
+/// A run of a grammar, of whose events nothing is written.
 #[derive(Drop)]
-struct Growing<'g> {
-    alloc: Global,
+struct PlainGrowing<'g> {
     grammar: &'g Grammar,
     run: PlainRun,
 }
 
-impl Taker for Growing<'_> {
-    type Fault = Stop;
+impl<'g> Model for PlainGrowing<'g> {
+    ghost use Rattle.wf_flat.specs.Table.{IsTableOf};
+    ghost use Rattle.wf_inputs.specs.Reporting.{GrowingSeen};
 
-    ghost State = { RunSoFar };
+    ghost Value = { GrowingSeen };
 
-    ghost End = { End };
+    ghost view = { λ r. record { grammar = r.grammar.now.core; run = r.run } };
 
-    ghost is_ready = { λ r. IsTableOf r.grammar.now.core r.run × (r.run.most ≡ instance_most) };
+    ghost invariant = { λ r. IsTableOf r.grammar.now.core r.run };
+}
 
-    ghost is_at = { λ r s. IsRunSoFar r.grammar.now.core (events_of r.run) s };
-
-    ghost is_sound = { IsAnyRun };
-
-    ghost takes = { TakesEvent no_piece };
-
-    ghost stops = { RefusesAt };
-
-    ghost finishes = { MakesNothing };
-
-    ghost stops_at_end = { NeverStops };
-
-    ghost ends = { line_ends (codes "events") };
-
-    ghost end_of = { λ stop. told_end (end_of stop) };
-
-    ghost wants_memory = { Unit {0} };
-
-    ghost made = { λ r. [] };
-
-    ghost is_fault = { λ stop. IsRefusedOrWanting (end_of stop) };
-
-    ghost Known = { Grammar };
-
-    ghost is_known = { λ r g. (r.grammar.now.core ≡ g) × IsTableOf g r.run };
-
-    fn take(&mut self, number: u64, text: &[u8]) -> Result<(), Stop> {
-        match take_line(self.alloc, self.grammar, &mut self.run, number, text) {
-            Ok(()) => Ok(()),
-            Err(stop) => Err(stop),
+impl<'g> PlainGrowing<'g> {
+    /// A run before its start, whose names are hashed with this key. Takes no memory.
+    fn with_key(alloc: Global, key: u64, grammar: &'g Grammar) -> PlainGrowing<'g>
+        ensures grammar { result.grammar ≡ grammar.now.core }
+        ensures run { result.run ≡ record { most = instance_most; instances = []; order = [] } }
+    {
+        PlainGrowing {
+            grammar,
+            run: PlainRun::with_key(alloc, key, INSTANCES),
         }
     }
 
-    fn finish(&mut self) -> Result<(), Stop> {
-        Ok(())
+    /// The run alone.
+    fn into_run(self) -> PlainRun
+        ensures { result ≡ self.entry.run }
+    {
+        self.run
+    }
+}
+
+/// How many positions a production has.
+fn count_positions(g: &Grammar, p: ProdNo) -> usize
+    ensures { result ≡ length (body_of g.now.core p.0) }
+{
+    match g.productions().get(p.0 as usize) {
+        Some(rule) => rule.positions().len(),
+        None => 0,
+    }
+}
+
+/// Whether the first instances of a list have these names, one for each.
+fn have_names(instances: &[Inst], names: &[Name]) -> bool
+    ensures { result ≡ pointwise bytes_eq (take (length names.now) (names_in instances.now)) names.now }
+{
+    let mut left = instances;
+    let mut wanted = names;
+    while let [name, more @ ..] = wanted {
+        let [x, rest @ ..] = left else {
+            return false;
+        };
+        if x.name.bytes() != name.bytes() {
+            return false;
+        }
+        left = rest;
+        wanted = more;
+    }
+    true
+}
+
+/// Whether the instance of a number was expanded into instances of these names.
+fn are_children(g: &Grammar, run: &PlainRun, number: u32, names: &[Name]) -> bool
+    requires { IsTableOf g.now.core run.now }
+    ensures { (instance : List ℕ) (x : Expanded) → position (bytes_eq instance) (names_in run.now.instances) ≡ Some number → expanded_by (events_of run.now) instance ≡ Some x → result ≡ pointwise bytes_eq x.names names.now }
+{
+    let instances = run.instances();
+    let Some(x) = instances.get(number as usize) else {
+        return false;
+    };
+    let Some(p) = x.production else {
+        return false;
+    };
+    let Some(children) = instances.get(x.first_child as usize..) else {
+        return false;
+    };
+    names.len() == count_positions(g, p) && have_names(children, names)
+}
+
+impl Grows for PlainGrowing<'_> {
+    ghost grammar = { λ r. r.grammar };
+
+    ghost most = { λ r. r.run.most };
+
+    ghost is_run = { IsGrownBy };
+
+    ghost written = { nothing_written };
+
+    ghost text = { λ r. [] };
+
+    ghost Known = { Grammar };
+
+    ghost is_known = { λ r g. (r.grammar ≡ g) × IsTableOf g r.run };
+
+    fn is_started(&self) -> bool {
+        !self.run.instances().is_empty()
     }
 
-    fn made(&self) -> &[u8] {
+    fn is_root(&self, name: &[u8]) -> bool {
+        match self.run.instances() {
+            [root, ..] => root.name.bytes() == name,
+            [] => false,
+        }
+    }
+
+    fn find(&self, name: &[u8]) -> Option<u32> {
+        self.run.find(name)
+    }
+
+    fn are_children(&self, number: u32, names: &[Name]) -> bool {
+        are_children(self.grammar, &self.run, number, names)
+    }
+
+    fn apply(&mut self, event: &Event) -> Result<(), RunFault> {
+        self.run.take(self.grammar, event)
+    }
+
+    fn clear(&mut self) {}
+
+    fn text(&self) -> &[u8] {
         &[]
     }
 }
 
-/// The run of EVENTS, of a grammar, which are taken line by line.
+/// The run of EVENTS, of a grammar, whose lines are taken as reports, in any order.
 ///
-/// Refused at the first line that is too long, has no reading, has not the form of an event, or tells an event that the run refuses, with its number and the fault; or in the line in which the file goes on past the most bytes that are read of it. `NoMemory` may come at any line.
+/// Refused at the first line that is too long, has no reading, has not the form of an event, or reports another event than an earlier line on the same subject; at a line whose event came to be ready, and is refused by the run; where the file ends, at the first line whose event never came to be ready; with the number of the line and the fault; or in the line in which the file goes on past the most bytes that are read of it. `NoMemory` may come at any line.
 ///
-/// Cost: linear in the bytes. Takes memory for the run and one line.
+/// Cost: linear in the bytes. Takes memory for the run, for the reports and for one line.
 pub fn events_stage<H: Shelf>(
     alloc: Global,
     shelf: &mut H,
@@ -160,14 +176,13 @@ pub fn events_stage<H: Shelf>(
     let Ok(mut due) = Due::new(alloc) else {
         return Err(Stop::NoMemory);
     };
-    let mut growing = Growing {
-        alloc,
-        grammar: g,
-        run: PlainRun::with_key(alloc, shelf.hash_key(), INSTANCES),
-    };
+    let key = shelf.hash_key();
+    let arena = Bump::new(alloc);
+    let run = PlainGrowing::with_key(alloc, key, g);
+    let mut reporting = Reporting::new(alloc, key, &arena, run);
     let mut out = PlainSink::new();
-    match take_lines(&mut growing, &mut lines, &mut due, shelf, &mut out) {
-        Ok(_) => Ok(growing.run),
+    match take_lines(&mut reporting, &mut lines, &mut due, shelf, &mut out) {
+        Ok(_) => Ok(reporting.run.into_run()),
         Err(fault) => Err(stop_of(EVENTS, fault)),
     }
 }

@@ -5,15 +5,17 @@ mod events;
 mod faults;
 mod kinds;
 mod labels;
+mod reports;
 mod spec;
 mod specification;
 mod view;
 mod viewed;
 
-pub use events::{INSTANCES, event_of_line, event_stop, events_stage, refused_event};
+pub use events::{INSTANCES, events_stage};
 pub use faults::named;
 pub use kinds::{EVENTS, LABELS, QUERIES, SPEC, VIEW};
 pub use labels::store_of;
+pub use reports::Reporting;
 pub use spec::Spec;
 pub use specification::spec_stage;
 pub use view::view_stage;

@@ -1,22 +1,22 @@
-use Rattle.std.proofs.Common.{◌≡◌, Some, refl, sym, ap, ◌∙◌, subst}
+use Rattle.std.proofs.Common.{sym, ap, ◌∙◌, subst}
 use Rattle.std.specs.Prelude.{codes}
 use Rattle.wf_io.specs.Lines.{FileLines, lines_in}
-use Rattle.wf_spec.specs.Held.{HeldGrammar}
 use Rattle.wf_lines.specs.Taking.{end_at}
 use Rattle.wf_lines.proofs.Openings.{told_opened}
-use Rattle.wf_run.specs.Runs.{RunSeen}
+use Rattle.cmd_ingest.specs.declared.label_lines.Labelling.{Labelling}
+use Rattle.wf_run.specs.Runs.{IsRunOf}
 use Rattle.wf_message.specs.Endings.{end_of}
 use Rattle.wf_stage.specs.Ends.{EndsBehind}
 use Rattle.wf_stage.specs.Causes.{IsCause}
 use Rattle.wf_stage.specs.LineEnds.{line_ends, end_of_fault, told_end}
 use Rattle.wf_stage.proofs.LineEnds.{fault_of_outcome, fault_caused}
 use Rattle.wf_stage.proofs.Obeying.{obeys_wanting}
-use Rattle.wf_inputs.proofs.EventLines.{at_start}
+use Rattle.wf_inputs.specs.RunTaking.{none_taken_of}
+use Rattle.wf_inputs.specs.Reporting.{IsTakenAs}
 use Rattle.wf_inputs.proofs.EventStages.{events_one_way, events_closed_one_way}
-use Rattle.cmd_ingest.specs.Ingested.{file_head}
-use Rattle.cmd_ingest.specs.Labelled.{bytes_by, IsRunHeld}
+use Rattle.cmd_ingest.specs.Ingested.{file_head, file_of}
 use Rattle.cmd_ingest.proofs.HeadFirst.{events_begin_head}
-use Rattle.cmd_ingest.proofs.Labelling.{run_started}
+use Rattle.cmd_ingest.proofs.Labelling.{labelled_at_start}
 use Rattle.cmd_ingest.proofs.Ingesting.{Made, AreLabelled, labelled_ends, AreLabelledTo, stopped_at}
 use Rattle.cmd_ingest.proofs.label_lines.label_events.Goals as goal
 
@@ -33,14 +33,19 @@ returns-in_default-new g c =
 pub returns-in-Ok-take_lines : goal.returns-in-Ok-take_lines
 returns-in-Ok-take_lines g c =
     let h = c.args.spec.now.grammar.core in
-    let at = run_started c.args.spec.now.grammar c.with_key-run.result c.new-2.result c.new-2.ensures c.with_key-run.ensures.run (c.with_key-run.ensures.grammar ∙ c.grammar.ensures.grammar) c.with_key-run.ensures.most in
+    let first = c.new-reporting.result in
+    let at =
+    labelled_at_start c.args.spec.now.grammar first.inbox.kept first.reported c.with_key-run.result first.run.labeller c.new-reporting.ensures.kept c.new-reporting.ensures.reported
+    (ap (λ (l : Labelling). l.labeller) c.new-reporting.ensures.run ∙ c.new-2.ensures) c.with_key-run.ensures.run (c.with_key-run.ensures.grammar ∙ c.grammar.ensures.grammar) c.with_key-run.ensures.most in
+    let last = c.take_lines.new.taker in
+    let IsLast = IsTakenAs last.run.labeller.grammar.core last.run.labeller.most last.inbox.kept last.reported (IsRunOf last.run.labeller) in
     let taken = c.in-Ok-take_lines.ensures in
     record {
       obeys = record {
         ends = λ f told.
             labelled_ends h (lines_in (f c.args.name.now)) _ _
-            (told_opened (λ (file : FileLines). AreLabelled h file (IsRunHeld c.take_lines.new.taker.labeller) (g.O.Sink.put_bytes c.args.out.now) (g.O.Sink.put_bytes c.take_lines.new.out)) f c.args.name.now c.in-Ok.lines c.in-Ok.ensures
-            (λ st. taken.taken f told st (at_start h) at));
+            (told_opened (λ (file : FileLines). AreLabelled h file IsLast (g.O.Sink.put_bytes c.args.out.now) (g.O.Sink.put_bytes c.take_lines.new.out)) f c.args.name.now c.in-Ok.lines c.in-Ok.ensures
+            (λ st. taken.taken f told st (none_taken_of h) at));
         cause = (taken.same, taken.put_same);
         same = c.take_lines.ensures.files;
         later = c.take_lines.ensures.later;
@@ -51,7 +56,10 @@ returns-in-Ok-take_lines g c =
 pub returns : goal.returns
 returns g c =
     let h = c.args.spec.now.grammar.core in
-    let at = run_started c.args.spec.now.grammar c.with_key-run.result c.new-2.result c.new-2.ensures c.with_key-run.ensures.run (c.with_key-run.ensures.grammar ∙ c.grammar.ensures.grammar) c.with_key-run.ensures.most in
+    let first = c.new-reporting.result in
+    let at =
+    labelled_at_start c.args.spec.now.grammar first.inbox.kept first.reported c.with_key-run.result first.run.labeller c.new-reporting.ensures.kept c.new-reporting.ensures.reported
+    (ap (λ (l : Labelling). l.labeller) c.new-reporting.ensures.run ∙ c.new-2.ensures) c.with_key-run.ensures.run (c.with_key-run.ensures.grammar ∙ c.grammar.ensures.grammar) c.with_key-run.ensures.most in
     let word = codes "events" in
     let fault = c.in-Err.fault in
     record {
@@ -60,7 +68,7 @@ returns g c =
             subst (λ e. EndsBehind (file_head h) (Made h (lines_in (f c.args.name.now))) e (g.O.Sink.put_bytes c.args.out.now) (g.O.Sink.put_bytes c.take_lines.new.out)) (sym c.stop_of.ensures)
             (stopped_at h (lines_in (f c.args.name.now)) (end_at (line_ends word) (λ stop. told_end (end_of stop)) fault) (end_of_fault word fault) _ _ (fault_of_outcome word fault)
             (told_opened (λ (file : FileLines). AreLabelledTo h file (end_at (line_ends word) (λ stop. told_end (end_of stop)) fault) (g.O.Sink.put_bytes c.args.out.now) (g.O.Sink.put_bytes c.take_lines.new.out)) f c.args.name.now c.in-Ok.lines c.in-Ok.ensures
-            (λ st. c.in-Err.ensures.stopped f told st (at_start h) at (events_one_way bytes_by) events_closed_one_way tt)));
+            (λ st. c.in-Err.ensures.stopped f told st (none_taken_of h) at (events_one_way file_of) events_closed_one_way tt)));
         cause = subst (IsCause _ _ _ _ _ _) (sym c.stop_of.ensures) (fault_caused word _ _ _ _ _ _ fault c.in-Err.ensures.fault c.in-Err.ensures.cause);
         same = c.take_lines.ensures.files;
         later = c.take_lines.ensures.later;
