@@ -43,10 +43,11 @@ fn ports_differ(
     Ok(differ)
 }
 
-/// Takes the names of positions one by one, and stops at the first that is taken.
-fn take_positions(taken: &mut Names, body: &[PosPart]) -> Result<bool, AllocError>
-    ensures { IfOk result (λ b. b ≡ not (some_twice taken.old (map (λ q. q.name) body.now))) }
+/// Whether the names of the positions of a body differ. A body that is tried has at most 64.
+fn positions_differ(alloc: Global, body: &[PosPart]) -> Result<bool, AllocError>
+    ensures { IfOk result (λ b. b ≡ not (some_twice [] (map (λ q. q.name) body.now))) }
 {
+    let mut taken = Names::new(alloc);
     for q in body {
         if taken.holds(q.name.bytes()) {
             return Ok(false);
@@ -54,14 +55,6 @@ fn take_positions(taken: &mut Names, body: &[PosPart]) -> Result<bool, AllocErro
         taken.add(q.name.bytes())?;
     }
     Ok(true)
-}
-
-/// Whether the names of the positions of a body differ. A body that is tried has at most 64.
-fn positions_differ(alloc: Global, body: &[PosPart]) -> Result<bool, AllocError>
-    ensures { IfOk result (λ b. b ≡ not (some_twice [] (map (λ q. q.name) body.now))) }
-{
-    let mut taken = Names::new(alloc);
-    take_positions(&mut taken, body)
 }
 
 /// The first module of which two ports have one name.

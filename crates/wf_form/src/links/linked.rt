@@ -58,30 +58,6 @@ pub fn is_linked_at_most_once(alloc: Global, one: &Wiring) -> Result<bool, Alloc
     Ok(outside)
 }
 
-/// Whether each input of a position has a link.
-fn inputs_are_met(alloc: Global, modules: &[Module], one: &Wiring) -> Result<bool, AllocError>
-    requires few_ports { HaveFewPorts modules.now }
-    requires within { IsWithin modules.now one.now }
-    requires once { AllDiffer (fed_by one.now) }
-    ensures { IfOk result (λ b. IsTrue b ↔ ((i : InnerSeen) → IsInputIn modules.now (body_of one.now) i → IsIn i (fed_by one.now))) }
-{
-    let inputs = input_counts(alloc, modules, &one.positions)?;
-    let to = targets(alloc, one)?;
-    are_met(alloc, &inputs, &to)
-}
-
-/// Whether each output of a position has a link.
-fn outputs_are_met(alloc: Global, modules: &[Module], one: &Wiring) -> Result<bool, AllocError>
-    requires few_ports { HaveFewPorts modules.now }
-    requires within { IsWithin modules.now one.now }
-    requires once { AllDiffer (used_by one.now) }
-    ensures { IfOk result (λ b. IsTrue b ↔ ((i : InnerSeen) → IsOutputIn modules.now (body_of one.now) i → IsIn i (used_by one.now))) }
-{
-    let outputs = output_counts(alloc, modules, &one.positions)?;
-    let from = sources(alloc, one)?;
-    are_met(alloc, &outputs, &from)
-}
-
 /// Whether each port of a position has a link.
 fn positions_are_met(alloc: Global, modules: &[Module], one: &Wiring) -> Result<bool, AllocError>
     requires few_ports { HaveFewPorts modules.now }
@@ -89,11 +65,16 @@ fn positions_are_met(alloc: Global, modules: &[Module], one: &Wiring) -> Result<
     requires once { IsWiredAtMostOnce one.now }
     ensures { IfOk result (λ b. IsTrue b ↔ (((i : InnerSeen) → IsInputIn modules.now (body_of one.now) i → IsIn i (fed_by one.now)) × ((i : InnerSeen) → IsOutputIn modules.now (body_of one.now) i → IsIn i (used_by one.now)))) }
 {
-    let fed = inputs_are_met(alloc, modules, one)?;
+    let inputs = input_counts(alloc, modules, &one.positions)?;
+    let to = targets(alloc, one)?;
+    let fed = are_met(alloc, &inputs, &to)?;
     if !fed {
         return Ok(false);
     }
-    outputs_are_met(alloc, modules, one)
+    let outputs = output_counts(alloc, modules, &one.positions)?;
+    let from = sources(alloc, one)?;
+    let used = are_met(alloc, &outputs, &from)?;
+    Ok(used)
 }
 
 /// Whether each port of the head has a link.
