@@ -9,7 +9,7 @@ use Rattle.std.proofs.lemmas.List.Sums.{sum_by-set, sum_by-append, sum_by-cons}
 use Rattle.wf_model.proofs.Tests.{and_left, and_right}
 use Rattle.report_model.specs.Reports.{Report}
 use Rattle.report_model.specs.Kept.{Kept, is_held, kept_at, let_go}
-use Rattle.wf_inbox.specs.Keeping.{is_due, subject_kept}
+use Rattle.wf_inbox.specs.Keeping.{is_due, subject_kept, made_ready}
 use Rattle.report_model.proofs.Events.{number_same}
 use Rattle.wf_inbox.proofs.Times.{one_if, other_number}
 
@@ -103,27 +103,24 @@ none_held_at kept j e l = by (kept_at kept j).held refl
         absurd (omega arith)
 
 -- a report that is made ready if it is held
-abbrev pub ready_of : Kept → Kept
-ready_of x = cond x.held (record { report = x.report; held = x.held; ready = true }) x
-
-pub made_subject : (x : Kept) → subject_kept (ready_of x) ≡ subject_kept x
+pub made_subject : (x : Kept) → subject_kept (made_ready x) ≡ subject_kept x
 made_subject x = by x.held
   where
     by : (b : Bool) → subject_kept (cond b (record { report = x.report; held = x.held; ready = true }) x) ≡ subject_kept x
     by true = refl
     by false = refl
 
-pub made_held : (x : Kept) → (ready_of x).held ≡ x.held
+pub made_held : (x : Kept) → (made_ready x).held ≡ x.held
 made_held x = by x.held
   where
     by : (b : Bool) → (cond b (record { report = x.report; held = x.held; ready = true }) x).held ≡ x.held
     by true = refl
     by false = refl
 
-pub made_due : (x : Kept) → one_if (is_due (ready_of x)) ≡ one_if (is_due x) + one_if (x.held && not x.ready)
+pub made_due : (x : Kept) → one_if (is_due (made_ready x)) ≡ one_if (is_due x) + one_if (x.held && not x.ready)
 made_due x = by x.report x.held x.ready
   where
-    by : (p : Report) (h r : Bool) → one_if (is_due (ready_of (record { report = p; held = h; ready = r }))) ≡ one_if (h && r) + one_if (h && not r)
+    by : (p : Report) (h r : Bool) → one_if (is_due (made_ready (record { report = p; held = h; ready = r }))) ≡ one_if (h && r) + one_if (h && not r)
     by p true true = refl
     by p true false = refl
     by p false r = refl

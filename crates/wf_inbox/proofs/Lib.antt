@@ -1,4 +1,4 @@
-pub mod Names
+pub mod PackedNames
 pub mod Least
 pub mod Found
 pub mod Times

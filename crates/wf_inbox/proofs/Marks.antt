@@ -11,10 +11,10 @@ use Rattle.wf_model.proofs.Lists.{bytes_same}
 use Rattle.report_model.specs.Kept.{Kept, is_held, kept_at}
 use Rattle.report_model.proofs.Events.{option_same}
 use Rattle.wf_inbox.specs.Inboxes.{marked, is_about}
-use Rattle.wf_inbox.specs.Keeping.{subject_kept}
+use Rattle.wf_inbox.specs.Keeping.{subject_kept, made_ready}
 use Rattle.wf_inbox.proofs.Found.{at_place, no_place}
 use Rattle.wf_inbox.proofs.Known.{name_flip, same_length}
-use Rattle.wf_inbox.proofs.Due.{none_held_at, ready_of}
+use Rattle.wf_inbox.proofs.Due.{none_held_at}
 
 -- a change that leaves each as it is
 pub unchanged : {A : Type 0} (f : A → A) (xs : List A) (d : A) → ((j : ℕ) → j < length xs → f (get_or xs j d) ≡ get_or xs j d) → map f xs ≡ xs
@@ -42,7 +42,7 @@ not_about name x e = by x.held
     by true = ap (λ b. cond b (record { report = x.report; held = x.held; ready = true }) x) e
     by false = refl
 
-about_it : (name : List ℕ) (x : Kept) → is_about name x ≡ true → ready_of x ≡ marked name x
+about_it : (name : List ℕ) (x : Kept) → is_about name x ≡ true → made_ready x ≡ marked name x
 about_it name x e = by x.held
   where
     by : (b : Bool) → cond b (record { report = x.report; held = x.held; ready = true }) x ≡ cond (b && is_about name x) (record { report = x.report; held = x.held; ready = true }) x
@@ -96,6 +96,6 @@ module _ (name : List ℕ) (kept : List Kept) (names : List (Option (List ℕ)))
             absurd (true≢false (sym (name_itself (get_or names i None)) ∙ (ap (λ z. option_eq bytes_eq (get_or names i None) z) (sym s) ∙ a)))
 
     -- the report about the name is made ready, and no other is marked
-    pub marked_at : (x y : Kept) → x ≡ kept_at kept i → y ≡ ready_of x → slice_set kept i y ≡ map (marked name) kept
+    pub marked_at : (x y : Kept) → x ≡ kept_at kept i → y ≡ made_ready x → slice_set kept i y ≡ map (marked name) kept
     marked_at x y a b =
-        ap (slice_set kept i) (b ∙ (ap ready_of a ∙ about_it name (kept_at kept i) about_place)) ∙ changed_at (marked name) kept i _ within (λ j l n. not_about name (kept_at kept j) (no_other j l n))
+        ap (slice_set kept i) (b ∙ (ap made_ready a ∙ about_it name (kept_at kept i) about_place)) ∙ changed_at (marked name) kept i _ within (λ j l n. not_about name (kept_at kept j) (no_other j l n))

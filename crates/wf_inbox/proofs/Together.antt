@@ -10,10 +10,10 @@ use Rattle.report_model.proofs.Marked.{same_made}
 use Rattle.wf_inbox.specs.Inboxes.{NoneReady, IsNext}
 use Rattle.wf_inbox.specs.Places.{IsFirst}
 use Rattle.wf_model.specs.declared.event.Event.{Event}
-use Rattle.wf_inbox.specs.Keeping.{AreTogether, subject_kept, is_due, times}
+use Rattle.wf_inbox.specs.Keeping.{AreTogether, subject_kept, is_due, made_ready, times}
 use Rattle.report_model.proofs.Events.{number_same}
 use Rattle.wf_inbox.proofs.Times.{one_if, first_times, times_popped, below_all, other_number}
-use Rattle.wf_inbox.proofs.Due.{due_at, due_from, due_within, due_held, due_ready, is_due_from, due_set_same, due_set_other, held_set, due_more, held_more, ready_of, made_subject, made_held, made_due, one_and, one_both}
+use Rattle.wf_inbox.proofs.Due.{due_at, due_from, due_within, due_held, due_ready, is_due_from, due_set_same, due_set_other, held_set, due_more, held_more, made_subject, made_held, made_due, one_and, one_both}
 
 -- where no place is ready, no report is
 pub none_ready : (names : List (Option (List ℕ))) (kept : List Kept) (count : ℕ) (ready : List ℕ) → ready ≡ [] → AreTogether names kept ready count → NoneReady kept
@@ -105,7 +105,7 @@ next_is kept p x y line event e first l m g =
     (p, first, ap (λ z. z.report) (sym e) ∙ r, ap (slice_set kept p) (g ∙ ap let_go e))
 
 -- a report is made ready if it is held, and its place is put to the others if it was not ready
-pub marked_together : (names : List (Option (List ℕ))) (kept : List Kept) (old new : List ℕ) (count i : ℕ) (x y : Kept) (newly : Bool) → AreTogether names kept old count → i < length kept → x ≡ kept_at kept i → y ≡ ready_of x →
+pub marked_together : (names : List (Option (List ℕ))) (kept : List Kept) (old new : List ℕ) (count i : ℕ) (x y : Kept) (newly : Bool) → AreTogether names kept old count → i < length kept → x ≡ kept_at kept i → y ≡ made_ready x →
     newly ≡ (x.held && not x.ready) → ((k : ℕ) → times k new ≡ times k old + one_if (newly && k == i)) → AreTogether names (slice_set kept i y) new count
 marked_together names kept old new count i x y newly t l e f g h = record {
   subjects = t.subjects ∙ sym (same_made subject_kept kept i _ y (ap subject_kept f ∙ (made_subject x ∙ ap subject_kept e)));
@@ -125,7 +125,7 @@ marked_together names kept old new count i x y newly t l e f g h = record {
         let b = t.places k in
         let c : one_if (newly && k == i) ≡ one_if newly = one_both newly (k == i) (ap (λ n. n == i) d ∙ number_same i) in
         let m : due_at kept k ≡ one_if (is_due x) = ap (due_at kept) d ∙ ap (λ z. one_if (is_due z)) (sym e) in
-        let n : due_at (slice_set kept i y) k ≡ one_if (is_due (ready_of x)) = ap (due_at (slice_set kept i y)) d ∙ (due_set_same kept i y l ∙ ap (λ z. one_if (is_due z)) f) in
+        let n : due_at (slice_set kept i y) k ≡ one_if (is_due (made_ready x)) = ap (due_at (slice_set kept i y)) d ∙ (due_set_same kept i y l ∙ ap (λ z. one_if (is_due z)) f) in
         let o = made_due x in
         let p : one_if newly ≡ one_if (x.held && not x.ready) = ap one_if g in
         omega arith

@@ -5,6 +5,11 @@ use Rattle.std.specs.List.{find, slice_set}
 use Rattle.wf_model.specs.declared.event.Event.{Event}
 use Rattle.report_model.specs.Reports.{Report, subject_of, same_event, about}
 use Rattle.report_model.specs.Kept.{Kept, reports_of, kept_at, newly_kept, let_go, IsFirstReady, NoneReadyBefore, NoneHeldBefore}
+use Rattle.wf_inbox.specs.declared.inbox.Offer.{Offer}
+use Rattle.wf_inbox.specs.declared.inbox.Offer.TheVariants.{Kept as IsHeld, Repeat}
+use Rattle.wf_inbox.specs.declared.inbox.InboxFault.{InboxFault}
+use Rattle.wf_inbox.specs.declared.inbox.InboxFault.TheVariants.{Conflict, NoMemory}
+use Rattle.wf_inbox.specs.declared.inbox.Held.{Held}
 
 -- what contracts see of an inbox: the reports that were ever held, in the order in which they came, and how many names it has room for
 pub record InboxSeen : Type 0 where
@@ -36,9 +41,23 @@ IsRepeat old r = (k : Report) × (known_on old r.event ≡ Some k) × (same_even
 abbrev pub Contradicts : List Kept → Report → ℕ → Type 0
 Contradicts old r earlier = (k : Report) × (known_on old r.event ≡ Some k) × (same_event k.event r.event ≡ false) × (k.line ≡ earlier)
 
+-- what becomes of a report by the line of a number that is offered: it is kept; or it is a repetition, and the reports stay
+abbrev pub IsOffered : List Kept → List Kept → ℕ → Event → Bool → Offer → Type 0
+IsOffered old new line e ready IsHeld = IsKept old new (record { line = line; event = e }) ready
+IsOffered old new line e ready Repeat = IsRepeat old (record { line = line; event = e }) × (new ≡ old)
+
+-- why it is not taken: it contradicts the one of an earlier line, if it is not for memory
+abbrev pub IsContradicted : List Kept → ℕ → Event → InboxFault → Type 0
+IsContradicted old line e (Conflict earlier) = Contradicts old (record { line = line; event = e }) earlier
+IsContradicted old line e NoMemory = Unit {0}
+
 -- the first report that is ready is let go
 abbrev pub IsNext : List Kept → List Kept → Report → Type 0
 IsNext old new r = (k : ℕ) × IsFirstReady old k × ((kept_at old k).report ≡ r) × (new ≡ slice_set old k (let_go (kept_at old k)))
+
+-- this report is the one that is let go
+abbrev pub IsHeldNext : List Kept → List Kept → Held → Type 0
+IsHeldNext old new h = IsNext old new (record { line = h.line; event = h.event })
 
 -- no report that is held is ready
 abbrev pub NoneReady : List Kept → Type 0

@@ -1,4 +1,5 @@
 pub mod Inboxes
 pub mod Keeping
+pub mod Packed
 pub mod Places
 pub mod Told

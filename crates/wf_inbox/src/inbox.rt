@@ -1,10 +1,9 @@
 // An inbox of reports.
-ghost use Rattle.std.specs.Prelude.{◌≡◌, ◌≤◌, ◌<◌, ◌+◌, ◌^◌, ◌==◌, ◌&&◌, ◌++◌, ◌∷◌, [], ℕ, List, None, true, false, cond, map, length, position, MatchResult, MatchOption, IfOk, IfErr, OnOk, OnErr, bytes_eq};
+ghost use Rattle.std.specs.Prelude.{◌≡◌, ◌≤◌, ◌<◌, ◌+◌, ◌^◌, ◌++◌, ◌∷◌, [], None, map, length, position, MatchOption, IfOk, IfErr, OnOk, OnErr, bytes_eq};
 ghost use Rattle.std.specs.Option.{option_eq};
-ghost use Rattle.report_model.specs.Reports.{Report, same_event};
 ghost use Rattle.wf_inbox.specs.declared.inbox.InboxFault.TheVariants.{NoMemory};
-ghost use Rattle.wf_inbox.specs.Inboxes.{InboxSeen, IsKept, IsRepeat, Contradicts, IsNext, NoneReady, IsOrphan, NoneHeld, marked};
-ghost use Rattle.wf_inbox.specs.Keeping.{subject_kept, is_due, times};
+ghost use Rattle.wf_inbox.specs.Inboxes.{InboxSeen, IsOffered, IsContradicted, IsHeldNext, NoneReady, IsOrphan, NoneHeld, marked};
+ghost use Rattle.wf_inbox.specs.Keeping.{subject_kept, is_due, IsRepeated, IsOpposed, AddsIf};
 
 use crate::places::Places;
 use crate::report::KeptReport;
@@ -50,8 +49,8 @@ impl From<AllocError> for InboxFault {
 
 // What becomes of an event beside the report on its subject.
 fn beside(report: &KeptReport, event: &Event) -> Result<Offer, InboxFault>
-    ensures same { IfOk result (λ o. (o ≡ Offer.Repeat) × (same_event report.now.report.event event.now ≡ true)) }
-    ensures other { IfErr result (λ f. (f ≡ InboxFault.Conflict report.now.report.line) × (same_event report.now.report.event event.now ≡ false)) }
+    ensures same { IfOk result (IsRepeated report.now event.now) }
+    ensures other { IfErr result (IsOpposed report.now event.now) }
 {
     if report.is_of(event) {
         return Ok(Offer::Repeat);
@@ -64,7 +63,7 @@ fn beside(report: &KeptReport, event: &Event) -> Result<Offer, InboxFault>
 // Adds a place if its report is held and ready.
 fn push_if(places: &mut Places, is_due: bool, place: u32)
     requires { 1 ≤ places.old.spare }
-    ensures times { (k : ℕ) → times k places.new.places ≡ times k places.old.places + cond (is_due && (k == place)) 1 0 }
+    ensures times { AddsIf is_due place places.old.places places.new.places }
     ensures spare { places.old.spare ≤ places.new.spare + 1 }
 {
     if is_due {
@@ -82,7 +81,7 @@ fn keep<'a>(
     requires { position (option_eq bytes_eq (subject_kept report)) subjects.old ≡ None }
     ensures subjects { OnOk result (subjects.new ≡ subjects.old ++ subject_kept report.entry ∷ []) }
     ensures kept { OnOk result (kept.new.items ≡ kept.old.items ++ report.entry ∷ []) }
-    ensures times { OnOk result ((k : ℕ) → times k places.new.places ≡ times k places.old.places + cond (is_due report.entry && (k == length kept.old.items)) 1 0) }
+    ensures times { OnOk result (AddsIf (is_due report.entry) (length kept.old.items) places.old.places places.new.places) }
     ensures few { OnOk result (length kept.old.items < 2 ^ 32) }
     ensures same_subjects { OnErr result (subjects.new ≡ subjects.old) }
     ensures same_kept { OnErr result (kept.new.items ≡ kept.old.items) }
@@ -115,6 +114,7 @@ fn first_held(kept: &[KeptReport]) -> Option<u64>
 pub struct Inbox<'a> {
     alloc: Global,
     arena: &'a Bump,
+    scratch: Vec<u8>,
     subjects: Subjects<'a>,
     kept: Vec<KeptReport<'a>>,
     places: Places,
@@ -140,6 +140,7 @@ impl<'a> Inbox<'a> {
         Inbox {
             alloc,
             arena,
+            scratch: Vec::new(alloc),
             subjects: Subjects::with_key(alloc, key),
             kept: Vec::new(alloc),
             places: Places::new(alloc),
@@ -149,20 +150,18 @@ impl<'a> Inbox<'a> {
 
     /// Takes the report of an event by the line of a number; `stands` tells whether it is ready if it is held. A report on a new subject is held. One of the same event as the report that was held before on its subject is ignored. After an error the reports are as they were.
     ///
-    /// Errors: `Conflict` where the report that was held before on its subject reports another event; `NoMemory`, which comes also past 4,294,967,296 reports.
+    /// Errors: `Conflict` where the report that was held before on its subject reports another event; `NoMemory`, which comes also past 4,294,967,296 reports, and for a line, or the length of a name, past 4,294,967,295.
     ///
     /// Cost: one look-up; and one place in the table of subjects, one in the heap of ready reports, and that of the copy of its names where it is held.
     pub fn offer(&mut self, line: u64, event: &Event, stands: bool) -> Result<Offer, InboxFault>
-        ensures kept { IfOk result (λ o. o ≡ Offer.Kept → IsKept self.old.kept self.new.kept (record { line = line; event = event.now }) stands) }
-        ensures repeat { IfOk result (λ o. o ≡ Offer.Repeat → IsRepeat self.old.kept (record { line = line; event = event.now })) }
-        ensures ignored { IfOk result (λ o. o ≡ Offer.Repeat → self.new.kept ≡ self.old.kept) }
-        ensures conflict { IfErr result (λ f. (earlier : ℕ) → f ≡ InboxFault.Conflict earlier → Contradicts self.old.kept (record { line = line; event = event.now }) earlier) }
+        ensures offered { IfOk result (IsOffered self.old.kept self.new.kept line event.now stands) }
+        ensures conflict { IfErr result (IsContradicted self.old.kept line event.now) }
         ensures unchanged { OnErr result (self.new.kept ≡ self.old.kept) }
     {
         if let Some(place) = self.subjects.find(subject(event)) {
             return beside(&self.kept[place], event);
         }
-        let report = KeptReport::new(self.arena, line, event, stands)?;
+        let report = KeptReport::new(self.arena, &mut self.scratch, line, event, stands)?;
         keep(&mut self.subjects, &mut self.kept, &mut self.places, report)?;
         self.held += 1;
         Ok(Offer::Kept)
@@ -197,7 +196,7 @@ impl<'a> Inbox<'a> {
     ///
     /// Cost: one place out of the heap of ready reports, and that of making its event anew.
     pub fn next(&mut self) -> Result<Option<Held>, AllocError>
-        ensures next { IfOk result (λ o. MatchOption o (NoneReady self.old.kept) (λ h. IsNext self.old.kept self.new.kept (record { line = h.line; event = h.event }))) }
+        ensures next { IfOk result (λ o. MatchOption o (NoneReady self.old.kept) (IsHeldNext self.old.kept self.new.kept)) }
         ensures none { IfOk result (λ o. MatchOption o (self.new.kept ≡ self.old.kept) (λ h. Unit {0})) }
         ensures unchanged { OnErr result (self.new.kept ≡ self.old.kept) }
         ensures spare { self.old.spare ≤ self.new.spare }

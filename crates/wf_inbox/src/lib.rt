@@ -2,6 +2,7 @@
 #![tactic(auto)]
 
 mod inbox;
+mod packed;
 mod places;
 mod report;
 mod subjects;

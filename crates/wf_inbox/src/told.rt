@@ -1,49 +1,53 @@
 // Events whose names lie in an arena.
-ghost use Rattle.std.specs.Prelude.{◌≡◌, map, IfOk, bytes_eq};
+ghost use Rattle.std.specs.Prelude.{◌≡◌, IfOk};
 ghost use Rattle.std.specs.Option.{option_map};
-ghost use Rattle.std.specs.Cmp.Lexicographic.{pointwise};
 ghost use Rattle.report_model.specs.Reports.{same_event, subject_of};
 ghost use Rattle.wf_inbox.specs.Told.{event_told};
 
+use crate::packed::{are_same, names_of, push_name, push_names, split_name};
 use bumpalo::Bump;
-use bumpalo::collections::into_bump_slice;
 use std::alloc::{AllocError, Global};
 use wf_model::{Event, Name, Seq};
 
-/// An event whose names lie in an arena.
+/// An event whose names lie in an arena, in one text.
 #[derive(Clone, Copy)]
-pub(crate) enum Told<'a> {
-    Start {
-        name: &'a [u8],
-    },
-    Expand {
-        instance: &'a [u8],
-        production: u64,
-        names: &'a [&'a [u8]],
-    },
+pub(crate) struct Told<'a> {
+    pub(crate) text: &'a [u8],
+    pub(crate) production: u64,
+    pub(crate) is_start: bool,
 }
 
 impl<'a> Told<'a> {
-    /// A copy of an event.
-    pub(crate) fn copied(arena: &'a Bump, event: &Event) -> Result<Told<'a>, AllocError>
-        ensures { IfOk result (λ t. event_told t ≡ event.now) }
+    /// A copy of an event, which is written into the scratch text first.
+    pub(crate) fn copied(
+        arena: &'a Bump,
+        scratch: &mut Vec<u8>,
+        event: &Event,
+    ) -> Result<Told<'a>, AllocError>
+        ensures { IfOk result (λ t. event_told t.text.now t.production t.is_start ≡ event.now) }
     {
         match event {
             Event::Start { name } => {
-                let name: &'a [u8] = arena.try_alloc_slice_copy(name.bytes())?;
-                Ok(Told::Start { name })
+                let text: &'a [u8] = arena.try_alloc_slice_copy(name.bytes())?;
+                Ok(Told {
+                    text,
+                    production: 0,
+                    is_start: true,
+                })
             }
             Event::Expand {
                 instance,
                 production,
                 names,
             } => {
-                let instance: &'a [u8] = arena.try_alloc_slice_copy(instance.bytes())?;
-                let names = copied_names(arena, names.items())?;
-                Ok(Told::Expand {
-                    instance,
+                scratch.clear();
+                push_name(scratch, instance.bytes())?;
+                push_names(scratch, names.items())?;
+                let text: &'a [u8] = arena.try_alloc_slice_copy(scratch)?;
+                Ok(Told {
+                    text,
                     production: *production,
-                    names,
+                    is_start: false,
                 })
             }
         }
@@ -51,60 +55,50 @@ impl<'a> Told<'a> {
 
     /// The event.
     pub(crate) fn event(&self, alloc: Global) -> Result<Event, AllocError>
-        ensures { IfOk result (λ e. e ≡ event_told self.now) }
+        ensures { IfOk result (λ e. e ≡ event_told self.now.text.now self.now.production self.now.is_start) }
     {
-        match *self {
-            Told::Start { name } => {
-                let name = name_of(alloc, name)?;
-                Ok(Event::Start { name })
-            }
-            Told::Expand {
-                instance,
-                production,
-                names,
-            } => {
-                let instance = name_of(alloc, instance)?;
-                let names = names_of(alloc, names)?;
-                Ok(Event::Expand {
-                    instance,
-                    production,
-                    names: Seq::from_vec(names),
-                })
-            }
+        if self.is_start {
+            let name = Name::copied(alloc, self.text)?;
+            return Ok(Event::Start { name });
         }
+        let (instance, names) = split_name(self.text);
+        let instance = Name::copied(alloc, instance)?;
+        let names = names_of(alloc, names)?;
+        Ok(Event::Expand {
+            instance,
+            production: self.production,
+            names: Seq::from_vec(names),
+        })
     }
 
     /// What the event is about.
     pub(crate) fn subject(&self) -> Option<&'a [u8]>
-        ensures { option_map (λ n. n.now) result ≡ subject_of (event_told self.now) }
+        ensures { option_map (λ n. n.now) result ≡ subject_of (event_told self.now.text.now self.now.production self.now.is_start) }
     {
-        match *self {
-            Told::Start { .. } => None,
-            Told::Expand { instance, .. } => Some(instance),
+        if self.is_start {
+            return None;
         }
+        let (instance, _) = split_name(self.text);
+        Some(instance)
     }
 
     /// Whether it is the same as an event.
     pub(crate) fn is_same(&self, event: &Event) -> bool
-        ensures { result ≡ same_event (event_told self.now) event.now }
+        ensures { result ≡ same_event (event_told self.now.text.now self.now.production self.now.is_start) event.now }
     {
-        match (*self, event) {
-            (Told::Start { name }, Event::Start { name: other }) => name == other.bytes(),
-            (
-                Told::Expand {
-                    instance,
-                    production,
-                    names,
-                },
-                Event::Expand {
-                    instance: other,
-                    production: by,
-                    names: others,
-                },
-            ) => {
-                instance == other.bytes() && production == *by && are_same(names, others.items())
+        match event {
+            Event::Start { name } => self.is_start && self.text == name.bytes(),
+            Event::Expand {
+                instance,
+                production,
+                names,
+            } => {
+                let (own, others) = split_name(self.text);
+                !self.is_start
+                    && own == instance.bytes()
+                    && self.production == *production
+                    && are_same(others, names.items())
             }
-            _ => false,
         }
     }
 }
@@ -117,47 +111,4 @@ pub(crate) fn subject(event: &Event) -> Option<&[u8]>
         Event::Start { .. } => None,
         Event::Expand { instance, .. } => Some(instance.bytes()),
     }
-}
-
-fn copied_names<'a>(arena: &'a Bump, names: &[Name]) -> Result<&'a [&'a [u8]], AllocError>
-    ensures { IfOk result (λ all. map (λ n. n.now) all.now ≡ names.now) }
-{
-    let mut all: Vec<&'a [u8], &'a Bump> = Vec::with_capacity(arena, names.len())?;
-    for name in names {
-        let bytes: &'a [u8] = arena.try_alloc_slice_copy(name.bytes())?;
-        all.push(bytes)?;
-    }
-    Ok(into_bump_slice(all))
-}
-
-fn name_of(alloc: Global, bytes: &[u8]) -> Result<Name, AllocError>
-    ensures { IfOk result (λ n. n ≡ bytes.now) }
-{
-    let bytes = Vec::from_slice(alloc, bytes)?;
-    Ok(Name::from_vec(bytes))
-}
-
-fn names_of(alloc: Global, names: &[&[u8]]) -> Result<Vec<Name>, AllocError>
-    ensures { IfOk result (λ all. all.items ≡ map (λ n. n.now) names.now) }
-{
-    let mut all = Vec::with_capacity(alloc, names.len())?;
-    for bytes in names {
-        let name = name_of(alloc, bytes)?;
-        all.push(name)?;
-    }
-    Ok(all)
-}
-
-fn are_same(names: &[&[u8]], others: &[Name]) -> bool
-    ensures { result ≡ pointwise bytes_eq (map (λ n. n.now) names.now) others.now }
-{
-    if names.len() != others.len() {
-        return false;
-    }
-    for i in 0..names.len() {
-        if names[i] != others[i].bytes() {
-            return false;
-        }
-    }
-    true
 }

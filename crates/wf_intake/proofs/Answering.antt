@@ -9,6 +9,11 @@ pub err_then : {T E : Type 0} {P Q : E → Type 0} (r : Result T E) → IfErr r 
 err_then (Ok v) p h = p
 err_then (Err f) p h = h f p
 
+-- whatever the error is
+pub err_any : {T E : Type 0} {P : E → Type 0} (r : Result T E) → ((f : E) → P f) → IfErr r P
+err_any (Ok v) h = tt
+err_any (Err f) h = h f
+
 -- an error that is passed on
 pub passed : {T E : Type 0} (P : E → Type 0) (r : Result T E) (f : E) → (y : E) × (r ≡ Err y) × (y ≡ f) → P f → IfErr r P
 passed P r f e p = subst (λ z. IfErr z P) (sym e.1) (subst P (sym e.2) p)

@@ -5,6 +5,7 @@ pub mod Marking
 pub mod Noting
 pub mod Stands
 pub mod KnownOn
+pub mod OnTheWay
 pub mod Parts
 pub mod Stepping
 pub mod Offering

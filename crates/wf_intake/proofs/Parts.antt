@@ -12,7 +12,7 @@ use Rattle.wf_model.specs.declared.event.Event.{Event}
 use Rattle.wf_model.specs.declared.event.RunFault.{RunFault}
 use Rattle.wf_model.specs.Faults.{fault_of}
 use Rattle.report_model.specs.Reports.{Report, subject_of, same_subject, about}
-use Rattle.report_model.specs.Intake.{Intake, Refused, GoesOn, Stops, without_first, is_ready, ready_in, hold_beside, without_ready, take_report, apply_all}
+use Rattle.report_model.specs.Intake.{Intake, Refused, GoesOn, Stops, state_after, without_first, is_ready, ready_in, hold_beside, hold, without_ready, take_report, apply_all}
 use Rattle.report_model.specs.Kept.{Kept, report_of, is_held, kept_at, let_go, IsFirstReady}
 use Rattle.report_model.proofs.Events.{subjects_same, same_subjects}
 use Rattle.report_model.proofs.Rounds.{taken_by, one_applied, one_refused}
@@ -21,10 +21,11 @@ use Rattle.wf_intake.specs.declared.standing.Standing.TheVariants.{Ready}
 use Rattle.wf_intake.specs.Reported.{ReportedSeen, noted}
 use Rattle.wf_intake.specs.Applied.{number_of, applied_to, applied_on, IsStanding}
 use Rattle.wf_intake.specs.Intakes.{AreExpansions, AreHeldUntilApplied, IsKeptAs, IsIntakeOf}
-use Rattle.wf_intake.specs.Rounds.{names_given, all_marked}
+use Rattle.wf_intake.specs.Rounds.{names_given, all_marked, IsOnTheWay}
 use Rattle.wf_intake.proofs.Places.{one_place, subjects_left, at_all_marked, report_each, held_each, held_reports, known_reports, subjects_marked, length_marked}
 use Rattle.wf_intake.proofs.Marking.{made_names, marks_with, marks_after}
 use Rattle.wf_intake.proofs.Noting.{IsNoted, event_noted}
+use Rattle.wf_intake.proofs.OnTheWay.{one_way}
 use Rattle.report_model.proofs.Events.{number_same}
 use Rattle.wf_intake.proofs.KnownOn.{known_alike, or_none, known_more, kept_known, none_kept, ready_alike, reports_left, report_left, held_left, held_others, none_found, first_found, others_held, without_last}
 
@@ -78,14 +79,21 @@ module _ (g : Grammar) (most : ℕ) (kept : List Kept) (seen : ReportedSeen) (Is
   unknown : find (about e) s.known ≡ None
   unknown = here.parts.known e ∙ (ap (λ o. option_or o (known_on kept e)) stands.0 ∙ none_kept kept e apart)
 
+  goes_beside : hold s r ≡ GoesOn beside
+  goes_beside = ap (hold_beside s r) unknown
+
   taken : take_report g most s r ≡ apply_all g most beside
-  taken = taken_by g most s r (GoesOn beside) (ap (hold_beside s r) unknown)
+  taken = taken_by g most s r (GoesOn beside) goes_beside
 
   none_before : find (ready_in g s.run) s.held ≡ None
   none_before = ap (find (ready_in g s.run)) here.parts.held ∙ none_found g s.run kept here.parts.marks here.none_ready
 
   found : find (ready_in g s.run) beside.held ≡ Some r
   found = find-append (ready_in g s.run) s.held (r ∷ []) ∙ (ap (λ o. option_or o (cond (is_ready g s.run e) (Some r) None)) none_before ∙ ap (λ b. cond {A = Option Report} b (Some r) None) stands.1)
+
+  -- it is held at first
+  pub ready_held : state_after (hold s r) ≡ beside
+  ready_held = ap state_after goes_beside
 
   -- the run refuses its event
   pub ready_refused : (f : RunFault) → fault_of g most s.run e ≡ Some f → take_report g most s r ≡ Stops (without_ready g beside) (Refused line f)
@@ -103,6 +111,10 @@ module _ (g : Grammar) (most : ℕ) (kept : List Kept) (seen : ReportedSeen) (Is
     ready_applied =
         taken ∙ (one_applied g most beside r found extends ∙
         ap (λ h. apply_all g most (record { run = s.run ++ e ∷ []; held = h; known = s.known ++ r ∷ [] })) (without_last (ready_in g s.run) s.held r none_before stands.1))
+
+    -- which is one round
+    pub ready_way : IsOnTheWay g most beside later
+    ready_way = subst (λ h. IsOnTheWay g most beside (record { run = s.run ++ e ∷ []; held = h; known = s.known ++ r ∷ [] })) (without_last (ready_in g s.run) s.held r none_before stands.1) (one_way g most beside r found extends)
 
     noted_so : IsNoted g s.run seen line e next
     noted_so = event_noted g most s.run seen here.parts.fits number line e stands.2 stands.1 extends
@@ -136,13 +148,14 @@ module _ (g : Grammar) (most : ℕ) (kept : List Kept) (seen : ReportedSeen) (Is
   pub next_refused : (f : RunFault) → fault_of g most s.run report.event ≡ Some f → apply_all g most s ≡ Stops (without_ready g s) (Refused report.line f)
   next_refused f q = one_refused g most s report f first_held q
 
+  -- without it the others are held
+  others : without_first (ready_in g s.run) s.held ≡ map report_of (filter is_held left)
+  others = ap (without_first (ready_in g s.run)) here.held ∙ others_held g s.run kept here.marks k first
+
   not_applied : applied_on g s.run seen report.event ≡ None
   not_applied = here.applied k first.within ∙ ap (λ b. cond {A = Option Report} b None (Some report)) first.held
 
-  module _ (extends : fault_of g most s.run report.event ≡ None) (number : Option ℕ) (numbered : number ≡ number_of g s.run report.event) where
-    abbrev then_seen : ReportedSeen
-    then_seen = noted seen number report.line report.event
-
+  module _ (extends : fault_of g most s.run report.event ≡ None) where
     abbrev then_state : Intake
     then_state = record { run = s.run ++ report.event ∷ []; held = map report_of (filter is_held left); known = s.known }
 
@@ -150,7 +163,15 @@ module _ (g : Grammar) (most : ℕ) (kept : List Kept) (seen : ReportedSeen) (Is
     pub next_applied : apply_all g most s ≡ apply_all g most then_state
     next_applied =
         one_applied g most s report first_held extends ∙
-        ap (λ h. apply_all g most (record { run = s.run ++ report.event ∷ []; held = h; known = s.known })) (ap (without_first (ready_in g s.run)) here.held ∙ others_held g s.run kept here.marks k first)
+        ap (λ h. apply_all g most (record { run = s.run ++ report.event ∷ []; held = h; known = s.known })) others
+
+    -- which is one round
+    pub next_way : IsOnTheWay g most s then_state
+    next_way = subst (λ h. IsOnTheWay g most s (record { run = s.run ++ report.event ∷ []; held = h; known = s.known })) others (one_way g most s report first_held extends)
+
+  module _ (extends : fault_of g most s.run report.event ≡ None) (number : Option ℕ) (numbered : number ≡ number_of g s.run report.event) where
+    abbrev then_seen : ReportedSeen
+    then_seen = noted seen number report.line report.event
 
     then_noted : IsNoted g s.run seen report.line report.event then_seen
     then_noted = event_noted g most s.run seen here.fits number report.line report.event numbered (sym (here.marks k first.within first.held) ∙ first.ready) extends
@@ -176,7 +197,7 @@ module _ (g : Grammar) (most : ℕ) (kept : List Kept) (seen : ReportedSeen) (Is
             ap (λ (z : Report). applied_on g (s.run ++ report.event ∷ []) then_seen z.event) same ∙ (then_noted.others (subject_of (kept_at kept j).report.event) other ∙
             (here.applied j within ∙ (λ t. cond {A = Option Report} (sym still t) None (Some (sym same t)))))
 
-    pub next_parts : (IsLater : List Event → Type 0) → IsLater (s.run ++ report.event ∷ []) → IsKeptAs g (all_marked (names_given report.event) left) then_seen IsLater then_state
+    pub next_parts : (IsLater : List Event → Type 0) → IsLater (s.run ++ report.event ∷ []) → IsKeptAs g (all_marked (names_given report.event) left) then_seen IsLater (then_state extends)
     next_parts IsLater run = record {
       run = run;
       held = sym (held_reports (names_given report.event) left);

@@ -1,5 +1,5 @@
 -- The rounds of the intake, and how they follow one another.
-use Rattle.std.proofs.Common.{◌≡◌, ℕ, List, [], ◌++◌, Option, Some, sym, ap, ◌∙◌, subst, arith, append_assoc, append-nil}
+use Rattle.std.proofs.Common.{◌≡◌, ℕ, List, [], ◌++◌, Option, Some, sym, ap, ◌∙◌, subst, arith, append_assoc, append-nil, inl, inr, refl}
 use Rattle.std.specs.Prelude.{◌<◌, MatchOption}
 use Rattle.std.specs.List.{find, slice_set}
 use Rattle.wf_model.specs.Grammar.{Grammar}
@@ -9,19 +9,21 @@ use Rattle.report_model.specs.Intake.{Intake, ReportFault, GoesOn, Stops, ready_
 use Rattle.report_model.specs.Kept.{Kept, kept_at, let_go, IsFirstReady}
 use Rattle.report_model.proofs.Rounds.{all_done}
 use Rattle.wf_inbox.specs.declared.inbox.Held.{Held}
-use Rattle.wf_inbox.specs.Inboxes.{IsNext, NoneReady}
+use Rattle.wf_inbox.specs.Inboxes.{IsNext, IsHeldNext, NoneReady}
 use Rattle.wf_intake.specs.declared.fault.IntakeFault.{IntakeFault}
+use Rattle.wf_intake.specs.declared.fault.IntakeFault.TheVariants.{NoMemory}
 use Rattle.wf_intake.specs.Reported.{ReportedSeen, noted}
 use Rattle.wf_intake.specs.Applied.{number_of}
 use Rattle.wf_intake.specs.Intakes.{IsKeptAs, IsIntakeOf, IsWrittenOn, fault_told}
-use Rattle.wf_intake.specs.Rounds.{names_given, all_marked, held_count, IsApplied, IsNotApplied, ComesTo, ComesToStop, Round, Stop}
+use Rattle.wf_intake.specs.Rounds.{names_given, all_marked, held_count, IsApplied, IsUntouched, IsNotApplied, IsHalted, ComesTo, GoesOnTo, StopsWith, HaltsAt, Round, Stop, Halt}
 use Rattle.wf_intake.proofs.Places.{one_less, count_marked}
 use Rattle.wf_intake.proofs.KnownOn.{none_found}
-use Rattle.wf_intake.proofs.Parts.{next_refused, next_applied, next_parts}
+use Rattle.wf_intake.proofs.OnTheWay.{way_on, no_way}
+use Rattle.wf_intake.proofs.Parts.{next_refused, next_applied, next_way, next_parts}
 
 -- the report that is let go
-pub next_held : (was left : List Kept) (o : Option Held) (h : Held) → o ≡ Some h → MatchOption o (NoneReady was) (λ x. IsNext was left (record { line = x.line; event = x.event })) → IsNext was left (record { line = h.line; event = h.event })
-next_held was left o h e next = subst (λ z. MatchOption z (NoneReady was) (λ x. IsNext was left (record { line = x.line; event = x.event }))) e next
+pub next_held : (was left : List Kept) (o : Option Held) (h : Held) → o ≡ Some h → MatchOption o (NoneReady was) (IsHeldNext was left) → IsNext was left (record { line = h.line; event = h.event })
+next_held was left o h e next = subst (λ z. MatchOption z (NoneReady was) (IsHeldNext was left)) e next
 
 -- nothing more is written
 pub written_same : (written : List Event → List ℕ) (run : List Event) (old new : List ℕ) → new ≡ old → IsWrittenOn written run run old new
@@ -35,6 +37,14 @@ written_on written a b c x y z p q = (
   q.2 ∙ (ap (λ l. l ++ q.0) p.2 ∙ append_assoc (written a) p.0 q.0),
 )
 
+-- where memory is refused before an event is applied
+pub untouched : (g : Grammar) (most : ℕ) (written : List Event → List ℕ) (IsRun : List Event → Type 0) (old new : List ℕ) (s : Intake) → IsUntouched s.run IsRun old new → HaltsAt g most written IsRun old new s
+untouched g most written IsRun old new s a = record { reached = s; on_the_way = no_way g most s; run = a.run; text = written_same written s.run old new a.text }
+
+-- or before a round
+pub halted_before : (g : Grammar) (most : ℕ) (written : Grammar → List Event → List ℕ) (was : List Kept) (told : ReportedSeen) (IsRun : List Event → Type 0) (old : List ℕ) (f : IntakeFault) → Halt g most written was told IsRun old IsRun old f
+halted_before g most written was told IsRun old f t s here = untouched g most (written g) IsRun old old s (record { run = here.run; text = refl })
+
 module _ (g : Grammar) (most : ℕ) (written : List Event → List ℕ) (was : List Kept) (told : ReportedSeen) (WasRun IsRun : List Event → Type 0) (old new : List ℕ) (s : Intake) (here : IsKeptAs g was told WasRun s) (k : ℕ) (first : IsFirstReady was k) where
   abbrev event : Event
   event = (kept_at was k).report.event
@@ -46,17 +56,23 @@ module _ (g : Grammar) (most : ℕ) (written : List Event → List ℕ) (was : L
       ComesTo g most written (all_marked (names_given event) left) (noted told number (kept_at was k).report.line event) IsRun old new s
   applied number numbered a = record {
     later = _;
-    same = next_applied g most was told WasRun s here k first a.extends number numbered;
+    same = next_applied g most was told WasRun s here k first a.extends;
+    on_the_way = next_way g most was told WasRun s here k first a.extends;
     here = next_parts g most was told WasRun s here k first a.extends number numbered IsRun a.run;
     text = a.text;
   }
 
-  refused : (r : ReportFault) → IsNotApplied g most s.run event (kept_at was k).report.line r → new ≡ old → ComesToStop g most written old new r s
-  refused r a e = record {
-    later = _;
+  refused : (r : ReportFault) → IsNotApplied g most s.run event (kept_at was k).report.line r IsRun old new → StopsWith written IsRun old new s (apply_all g most s) r
+  refused r a = record {
+    left = _;
     stops = next_refused g most was told WasRun s here k first a.fault a.of_run ∙ ap (Stops (without_ready g s)) (sym a.told);
-    text = written_same written s.run old new e;
+    run = a.untouched.run;
+    text = written_same written s.run old new a.untouched.text;
   }
+
+  halted : IsHalted g most written s.run event IsRun old new → HaltsAt g most written IsRun old new s
+  halted (inl a) = untouched g most written IsRun old new s a
+  halted (inr a) = record { reached = _; on_the_way = next_way g most was told WasRun s here k first a.extends; run = a.run; text = a.text }
 
 module _ (g : Grammar) (most : ℕ) (written : Grammar → List Event → List ℕ) (was left : List Kept) (told : ReportedSeen) (WasRun : List Event → Type 0) (line : ℕ) (e : Event) (next : IsNext was left (record { line = line; event = e })) (old new : List ℕ) where
   -- the event of the first report that is ready is applied
@@ -77,12 +93,18 @@ module _ (g : Grammar) (most : ℕ) (written : Grammar → List Event → List �
       let b : held_count kept ≡ held_count (slice_set was next.0 (let_go (kept_at was next.0))) = ap held_count marks ∙ (count_marked (names_given e) left ∙ ap held_count next.3) in
       omega (arith, a, b)
 
-  -- or it is refused
-  pub round_refused : (f : IntakeFault) →
-      ((r : ReportFault) → fault_told f ≡ Some r → (events : List Event) → WasRun events → IsNotApplied g most events e line r) → ((r : ReportFault) → fault_told f ≡ Some r → new ≡ old) → Stop g most written was told WasRun old new f
-  round_refused f a same r t s here =
-      let l : (kept_at was next.0).report ≡ record { line = line; event = e } = next.2 in
-      refused g most (written g) was told WasRun WasRun old new s here next.0 next.1 r (subst (λ (z : Report). IsNotApplied g most s.run z.event z.line r) (sym l) (a r t s.run here.run)) (same r t)
+  module _ (IsRun : List Event → Type 0) (f : IntakeFault) where
+    -- or it is refused
+    pub round_refused : ((r : ReportFault) → fault_told f ≡ Some r → (events : List Event) → WasRun events → IsNotApplied g most events e line r IsRun old new) → Stop g most written was told WasRun old IsRun new f
+    round_refused a r t s here =
+        let l : (kept_at was next.0).report ≡ record { line = line; event = e } = next.2 in
+        refused g most (written g) was told WasRun IsRun old new s here next.0 next.1 r (subst (λ (z : Report). IsNotApplied g most s.run z.event z.line r IsRun old new) (sym l) (a r t s.run here.run))
+
+    -- or memory is refused
+    pub round_halted : (f ≡ NoMemory → (events : List Event) → WasRun events → IsHalted g most (written g) events e IsRun old new) → Halt g most written was told WasRun old IsRun new f
+    round_halted a t s here =
+        let l : (kept_at was next.0).report ≡ record { line = line; event = e } = next.2 in
+        halted g most (written g) was told WasRun IsRun old new s here next.0 next.1 (subst (λ (z : Report). IsHalted g most (written g) s.run z.event IsRun old new) (sym l) (a t s.run here.run))
 
 -- where none is ready, all is done
 pub all_done_there : (g : Grammar) (most : ℕ) (kept : List Kept) (seen : ReportedSeen) (IsRun : List Event → Type 0) → NoneReady kept → (s : Intake) → IsKeptAs g kept seen IsRun s → apply_all g most s ≡ GoesOn s
@@ -90,30 +112,46 @@ all_done_there g most kept seen IsRun none s here = all_done g most s (ap (find 
 
 -- the rounds are over
 pub rounds_over : (g h : Grammar) → h ≡ g → (most : ℕ) (written : Grammar → List Event → List ℕ) (was : List Kept) (told : ReportedSeen) (WasRun : List Event → Type 0) (x : List ℕ) (kept : List Kept) (seen : ReportedSeen) (IsRun : List Event → Type 0) (y : List ℕ) →
-    Round g most written was told WasRun x kept seen IsRun y → NoneReady kept → (s : Intake) → IsKeptAs g was told WasRun s → (q : Intake) × (apply_all g most s ≡ GoesOn q) × IsIntakeOf h kept seen IsRun q × IsWrittenOn (written g) s.run q.run x y
+    Round g most written was told WasRun x kept seen IsRun y → NoneReady kept → (s : Intake) → IsKeptAs g was told WasRun s → GoesOnTo h (written g) kept seen IsRun x y s (apply_all g most s)
 rounds_over g h e most written was told WasRun x kept seen IsRun y round none s here =
-    let a = round s here in (
-      a.later,
-      a.same ∙ all_done_there g most kept seen IsRun none a.later a.here,
-      subst (λ k. IsIntakeOf k kept seen IsRun a.later) (sym e) (record { parts = a.here; none_ready = none }),
-      a.text,
-    )
+    let a = round s here in record {
+      later = a.later;
+      goes_on = a.same ∙ all_done_there g most kept seen IsRun none a.later a.here;
+      here = subst (λ k. IsIntakeOf k kept seen IsRun a.later) (sym e) (record { parts = a.here; none_ready = none });
+      text = a.text;
+    }
 
 module _ (g : Grammar) (most : ℕ) (written : List Event → List ℕ) (kept : List Kept) (seen : ReportedSeen) (IsRun : List Event → Type 0) (x y : List ℕ) (s : Intake) (a : ComesTo g most written kept seen IsRun x y s) where
-  stops_on : (z : List ℕ) (r : ReportFault) → ComesToStop g most written y z r a.later → ComesToStop g most written x z r s
-  stops_on z r b = record { later = b.later; stops = a.same ∙ b.stops; text = written_on written s.run a.later.run b.later.run x y z a.text b.text }
+  stops_on : (LastRun : List Event → Type 0) (z : List ℕ) (r : ReportFault) → StopsWith written LastRun y z a.later (apply_all g most a.later) r → StopsWith written LastRun x z s (apply_all g most s) r
+  stops_on LastRun z r b = record { left = b.left; stops = a.same ∙ b.stops; run = b.run; text = written_on written s.run a.later.run b.left.run x y z a.text b.text }
+
+  halts_on : (LastRun : List Event → Type 0) (z : List ℕ) → HaltsAt g most written LastRun y z a.later → HaltsAt g most written LastRun x z s
+  halts_on LastRun z b = record { reached = b.reached; on_the_way = way_on g most s a.later b.reached a.on_the_way b.on_the_way; run = b.run; text = written_on written s.run a.later.run b.reached.run x y z a.text b.text }
 
   goes_on : (more : List Kept) (lines : ReportedSeen) (MoreRun : List Event → Type 0) (z : List ℕ) → ComesTo g most written more lines MoreRun y z a.later → ComesTo g most written more lines MoreRun x z s
-  goes_on more lines MoreRun z b = record { later = b.later; same = a.same ∙ b.same; here = b.here; text = written_on written s.run a.later.run b.later.run x y z a.text b.text }
+  goes_on more lines MoreRun z b = record {
+    later = b.later;
+    same = a.same ∙ b.same;
+    on_the_way = way_on g most s a.later b.later a.on_the_way b.on_the_way;
+    here = b.here;
+    text = written_on written s.run a.later.run b.later.run x y z a.text b.text;
+  }
 
 module _ (g h : Grammar) (e : h ≡ g) (most most' : ℕ) (d : most' ≡ most) (written : Grammar → List Event → List ℕ) (was : List Kept) (told : ReportedSeen) (WasRun : List Event → Type 0) (x : List ℕ)
     (kept : List Kept) (seen : ReportedSeen) (IsRun : List Event → Type 0) (y : List ℕ) (a : Round g most written was told WasRun x kept seen IsRun y) where
   -- a refusal after others
-  pub stop_on : (z : List ℕ) (f : IntakeFault) → Stop h most' written kept seen IsRun y z f → Stop g most written was told WasRun x z f
-  stop_on z f b r t s here =
-      let c : Stop g most written kept seen IsRun y z f = subst (λ m. Stop g m written kept seen IsRun y z f) d (subst (λ k. Stop k most' written kept seen IsRun y z f) e b) in
+  pub stop_on : (LastRun : List Event → Type 0) (z : List ℕ) (f : IntakeFault) → Stop h most' written kept seen IsRun y LastRun z f → Stop g most written was told WasRun x LastRun z f
+  stop_on LastRun z f b r t s here =
+      let c : Stop g most written kept seen IsRun y LastRun z f = subst (λ m. Stop g m written kept seen IsRun y LastRun z f) d (subst (λ k. Stop k most' written kept seen IsRun y LastRun z f) e b) in
       let k = a s here in
-      stops_on g most (written g) kept seen IsRun x y s k z r (c r t k.later k.here)
+      stops_on g most (written g) kept seen IsRun x y s k LastRun z r (c r t k.later k.here)
+
+  -- want of memory after others
+  pub halt_on : (LastRun : List Event → Type 0) (z : List ℕ) (f : IntakeFault) → Halt h most' written kept seen IsRun y LastRun z f → Halt g most written was told WasRun x LastRun z f
+  halt_on LastRun z f b t s here =
+      let c : Halt g most written kept seen IsRun y LastRun z f = subst (λ m. Halt g m written kept seen IsRun y LastRun z f) d (subst (λ k. Halt k most' written kept seen IsRun y LastRun z f) e b) in
+      let k = a s here in
+      halts_on g most (written g) kept seen IsRun x y s k LastRun z (c t k.later k.here)
 
   -- a round after others
   pub round_on : (more : List Kept) (lines : ReportedSeen) (MoreRun : List Event → Type 0) (z : List ℕ) → Round h most' written kept seen IsRun y more lines MoreRun z → Round g most written was told WasRun x more lines MoreRun z

@@ -17,6 +17,10 @@ none_reported = record { start = 0; expansions = [] }
 abbrev pub expansion_told : ReportedBy → Option ReportedBy
 expansion_told by = cond (by.production == 4294967295) None (Some by)
 
+-- an expansion by this production, which the line of this number reported
+abbrev pub reported_as : ℕ → ℕ → ReportedBy
+reported_as line production = record { line = line; production = production }
+
 -- the expansion of the instance of a number, if there is one
 abbrev pub expansion_at : List (Option ReportedBy) → Option ℕ → Option ReportedBy
 expansion_at slots None = None
@@ -30,4 +34,4 @@ expanded_at slots (Some k) by = slice_set slots k (Some by)
 -- The lines after an event is applied that this line reports. An expansion is that of the instance of the number; the instances that the event makes are not expanded
 abbrev pub noted : ReportedSeen → Option ℕ → ℕ → Event → ReportedSeen
 noted seen number line (Start r) = record { start = line; expansions = seen.expansions ++ replicate 1 None }
-noted seen number line (Expand i p names) = record { start = seen.start; expansions = expanded_at seen.expansions number (record { line = line; production = p }) ++ replicate (length names) None }
+noted seen number line (Expand i p names) = record { start = seen.start; expansions = expanded_at seen.expansions number (reported_as line p) ++ replicate (length names) None }

@@ -1,16 +1,17 @@
 -- The rounds in which the events of held reports are applied.
-use Rattle.std.specs.Prelude.{◌≡◌, ℕ, List, [], ◌∷◌, ◌++◌, map, filter, length, Some, None}
+use Rattle.std.specs.Prelude.{◌≡◌, ◌⊎◌, ℕ, List, [], ◌∷◌, ◌++◌, map, filter, length, Some, None}
 use Rattle.wf_model.specs.declared.event.Event.{Event}
 use Rattle.wf_model.specs.declared.event.Event.TheVariants.{Start, Expand}
 use Rattle.wf_model.specs.declared.event.RunFault.{RunFault}
 use Rattle.wf_model.specs.Grammar.{Grammar}
 use Rattle.wf_model.specs.Faults.{fault_of}
-use Rattle.report_model.specs.Intake.{Intake, ReportFault, Refused, Stops, apply_all}
+use Rattle.report_model.specs.Intake.{Intake, ReportFault, Refused, Taking, GoesOn, Stops, apply_ready, apply_all}
 use Rattle.report_model.specs.Kept.{Kept, is_held}
 use Rattle.wf_inbox.specs.Inboxes.{marked}
 use Rattle.wf_intake.specs.declared.fault.IntakeFault.{IntakeFault}
+use Rattle.wf_intake.specs.declared.fault.IntakeFault.TheVariants.{NoMemory}
 use Rattle.wf_intake.specs.Reported.{ReportedSeen}
-use Rattle.wf_intake.specs.Intakes.{IsKeptAs, IsWrittenOn, fault_told}
+use Rattle.wf_intake.specs.Intakes.{IsKeptAs, IsIntakeOf, IsWrittenOn, fault_told}
 
 -- the names that an event gives to instances
 abbrev pub names_given : Event → List (List ℕ)
@@ -32,30 +33,65 @@ pub record IsApplied (g : Grammar) (most : ℕ) (written : List Event → List �
   pub extends : fault_of g most events e ≡ None
   pub text : IsWrittenOn written events (events ++ e ∷ []) old new
 
--- the run of these events refuses the event of this line, and so its report is refused
-pub record IsNotApplied (g : Grammar) (most : ℕ) (events : List Event) (e : Event) (line : ℕ) (r : ReportFault) : Type 0 where
+-- the run is that of the same events as before, and the text is the same
+pub record IsUntouched (events : List Event) (IsRun : List Event → Type 0) (old new : List ℕ) : Type 0 where
+  pub run : IsRun events
+  pub text : new ≡ old
+
+-- the run of these events refuses the event of this line, and so its report is refused; the run and the text are as before
+pub record IsNotApplied (g : Grammar) (most : ℕ) (events : List Event) (e : Event) (line : ℕ) (r : ReportFault) (IsRun : List Event → Type 0) (old new : List ℕ) : Type 0 where
   pub fault : RunFault
   pub of_run : fault_of g most events e ≡ Some fault
   pub told : r ≡ Refused line fault
+  pub untouched : IsUntouched events IsRun old new
+
+-- where memory is refused the event is not applied, or it is applied whole
+abbrev pub IsHalted : (g : Grammar) (most : ℕ) (written : List Event → List ℕ) (events : List Event) (e : Event) (IsRun : List Event → Type 0) (old new : List ℕ) → Type 0
+IsHalted g most written events e IsRun old new = IsUntouched events IsRun old new ⊎ IsApplied g most written events e IsRun old new
+
+-- A state comes to a later one: so many times the first held report that is ready is taken out and its event applied, and none is refused
+pub record IsOnTheWay (g : Grammar) (most : ℕ) (first reached : Intake) : Type 0 where
+  pub rounds : ℕ
+  pub go_on : apply_ready g most rounds first ≡ GoesOn reached
 
 -- a state comes to the same as this later one, which is that of the reports that are kept, the lines and the run; the text is that of the events between them
 pub record ComesTo (g : Grammar) (most : ℕ) (written : List Event → List ℕ) (kept : List Kept) (seen : ReportedSeen) (IsRun : List Event → Type 0) (old new : List ℕ) (s : Intake) : Type 0 where
   pub later : Intake
   pub same : apply_all g most s ≡ apply_all g most later
+  pub on_the_way : IsOnTheWay g most s later
   pub here : IsKeptAs g kept seen IsRun later
   pub text : IsWrittenOn written s.run later.run old new
 
--- a state comes to a refusal, and the text is that of the events before it
-pub record ComesToStop (g : Grammar) (most : ℕ) (written : List Event → List ℕ) (old new : List ℕ) (r : ReportFault) (s : Intake) : Type 0 where
+-- the taking goes on from a state to a later one, which is that of the reports that are kept, the lines and the run, and in which none is ready; the text is that of the events between them
+pub record GoesOnTo (g : Grammar) (written : List Event → List ℕ) (kept : List Kept) (seen : ReportedSeen) (IsRun : List Event → Type 0) (old new : List ℕ) (s : Intake) (taking : Taking) : Type 0 where
   pub later : Intake
-  pub stops : apply_all g most s ≡ Stops later r
+  pub goes_on : taking ≡ GoesOn later
+  pub here : IsIntakeOf g kept seen IsRun later
   pub text : IsWrittenOn written s.run later.run old new
+
+-- the taking comes from a state to a refusal; the run is that of the state that is left then, and the text is that of the events up to it
+pub record StopsWith (written : List Event → List ℕ) (IsRun : List Event → Type 0) (old new : List ℕ) (s : Intake) (taking : Taking) (r : ReportFault) : Type 0 where
+  pub left : Intake
+  pub stops : taking ≡ Stops left r
+  pub run : IsRun left.run
+  pub text : IsWrittenOn written s.run left.run old new
+
+-- memory is refused on the way from a state; the run is that of a state that was come to, and the text is that of the events up to it
+pub record HaltsAt (g : Grammar) (most : ℕ) (written : List Event → List ℕ) (IsRun : List Event → Type 0) (old new : List ℕ) (first : Intake) : Type 0 where
+  pub reached : Intake
+  pub on_the_way : IsOnTheWay g most first reached
+  pub run : IsRun reached.run
+  pub text : IsWrittenOn written first.run reached.run old new
 
 -- each state that the reports kept before, the lines and the run before are of comes to one that those of now are of
 abbrev pub Round : (g : Grammar) (most : ℕ) (written : Grammar → List Event → List ℕ) (was : List Kept) (told : ReportedSeen) (WasRun : List Event → Type 0) (before : List ℕ)
     (kept : List Kept) (seen : ReportedSeen) (IsRun : List Event → Type 0) (now : List ℕ) → Type 0
 Round g most written was told WasRun before kept seen IsRun now = (s : Intake) → IsKeptAs g was told WasRun s → ComesTo g most (written g) kept seen IsRun before now s
 
--- each state that the reports kept before, the lines and the run before are of comes to the refusal that a fault reports
-abbrev pub Stop : (g : Grammar) (most : ℕ) (written : Grammar → List Event → List ℕ) (was : List Kept) (told : ReportedSeen) (WasRun : List Event → Type 0) (before now : List ℕ) → IntakeFault → Type 0
-Stop g most written was told WasRun before now f = (r : ReportFault) → fault_told f ≡ Some r → (s : Intake) → IsKeptAs g was told WasRun s → ComesToStop g most (written g) before now r s
+-- each such state comes to the refusal that a fault reports
+abbrev pub Stop : (g : Grammar) (most : ℕ) (written : Grammar → List Event → List ℕ) (was : List Kept) (told : ReportedSeen) (WasRun : List Event → Type 0) (before : List ℕ) (IsRun : List Event → Type 0) (now : List ℕ) → IntakeFault → Type 0
+Stop g most written was told WasRun before IsRun now f = (r : ReportFault) → fault_told f ≡ Some r → (s : Intake) → IsKeptAs g was told WasRun s → StopsWith (written g) IsRun before now s (apply_all g most s) r
+
+-- where a fault is want of memory, it comes on the way from each such state
+abbrev pub Halt : (g : Grammar) (most : ℕ) (written : Grammar → List Event → List ℕ) (was : List Kept) (told : ReportedSeen) (WasRun : List Event → Type 0) (before : List ℕ) (IsRun : List Event → Type 0) (now : List ℕ) → IntakeFault → Type 0
+Halt g most written was told WasRun before IsRun now f = f ≡ NoMemory → (s : Intake) → IsKeptAs g was told WasRun s → HaltsAt g most (written g) IsRun before now s

@@ -1,13 +1,10 @@
 // A run that grows by events.
-ghost use Rattle.std.specs.Prelude.{◌≡◌, ◌⊎◌, ℕ, not, List, [], ◌∷◌, ◌++◌, None, Some, IfErr, OnOk, OnErr, position, bytes_eq};
-ghost use Rattle.std.specs.Cmp.Lexicographic.{pointwise};
+ghost use Rattle.std.specs.Prelude.{◌≡◌, ℕ, not, List, [], IfErr, OnOk, OnErr};
 ghost use Rattle.wf_model.specs.declared.event.Event.{Event};
-ghost use Rattle.wf_model.specs.declared.event.RunFault.TheVariants.{NoMemory};
 ghost use Rattle.wf_model.specs.Grammar.{Grammar};
-ghost use Rattle.wf_model.specs.declared.event.Event.TheVariants.{Start};
-ghost use Rattle.wf_model.specs.Run.{Expanded, made, names_of, expanded_by};
-ghost use Rattle.wf_model.specs.Faults.{is_nil, fault_of};
-ghost use Rattle.wf_intake.specs.Intakes.{IsWrittenOn};
+ghost use Rattle.wf_model.specs.Faults.{is_nil};
+ghost use Rattle.wf_intake.specs.Applied.{number_in};
+ghost use Rattle.wf_intake.specs.Growing.{GrowsBy, StaysRun, IsRootTest, IsChildrenTest, HasNoFault, IsFaultOrWant, WritesEvent};
 
 use wf_model::{Event, Name, RunFault};
 
@@ -40,23 +37,23 @@ pub trait Grows {
 
     /// Whether the run was started with this name.
     fn is_root(&self, name: &[u8]) -> bool
-        ensures { (root : List ℕ) (later : List Event) → is_run self.now (Start root ∷ later) → result ≡ bytes_eq root name.now };
+        ensures { IsRootTest is_run self.now name.now result };
 
     /// The number of the instance of a name, in order of making, where one stands in the run.
     fn find(&self, name: &[u8]) -> Option<u32>
-        ensures { (events : List Event) → is_run self.now events → result ≡ position (bytes_eq name.now) (names_of (made (grammar self.now) (grammar self.now).start events)) };
+        ensures { (events : List Event) → is_run self.now events → result ≡ number_in (grammar self.now) events name.now };
 
     /// Whether the instance of a number was expanded into instances of these names.
     fn are_children(&self, number: u32, names: &[Name]) -> bool
-        ensures { (events : List Event) → is_run self.now events → (instance : List ℕ) (x : Expanded) → position (bytes_eq instance) (names_of (made (grammar self.now) (grammar self.now).start events)) ≡ Some number → expanded_by events instance ≡ Some x → result ≡ pointwise bytes_eq x.names names.now };
+        ensures { (events : List Event) → is_run self.now events → IsChildrenTest (grammar self.now) events number names.now result };
 
     /// Applies an event, if it extends the run, and makes its text behind the text so far. After an error the run and the text are as they were.
     fn apply(&mut self, event: &Event) -> Result<(), RunFault>
-        ensures run { OnOk result ((events : List Event) → is_run self.old events → is_run self.new (events ++ event.now ∷ [])) }
-        ensures extends { OnOk result ((events : List Event) → is_run self.old events → fault_of (grammar self.old) (most self.old) events event.now ≡ None) }
-        ensures text { OnOk result ((events : List Event) → is_run self.old events → IsWrittenOn (written (grammar self.old)) events (events ++ event.now ∷ []) (text self.old) (text self.new)) }
-        ensures refused { IfErr result (λ f. (f ≡ NoMemory) ⊎ ((events : List Event) → is_run self.old events → fault_of (grammar self.old) (most self.old) events event.now ≡ Some f)) }
-        ensures unchanged { OnErr result ((events : List Event) → is_run self.old events → is_run self.new events) }
+        ensures run { OnOk result (GrowsBy is_run self.old self.new event.now) }
+        ensures extends { OnOk result (HasNoFault grammar most is_run self.old event.now) }
+        ensures text { OnOk result (WritesEvent grammar is_run written text self.old self.new event.now) }
+        ensures refused { IfErr result (IsFaultOrWant grammar most is_run self.old event.now) }
+        ensures unchanged { OnErr result (StaysRun is_run self.old self.new) }
         ensures same_text { OnErr result (text self.new ≡ text self.old) }
         ensures grammar { grammar self.new ≡ grammar self.old }
         ensures most { most self.new ≡ most self.old }
@@ -65,7 +62,7 @@ pub trait Grows {
     /// Clears the text. The run stays.
     fn clear(&mut self)
         ensures text { text self.new ≡ [] }
-        ensures run { (events : List Event) → is_run self.old events → is_run self.new events }
+        ensures run { StaysRun is_run self.old self.new }
         ensures grammar { grammar self.new ≡ grammar self.old }
         ensures most { most self.new ≡ most self.old }
         ensures known { (k : Known) → is_known self.old k → is_known self.new k };

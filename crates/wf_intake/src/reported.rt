@@ -1,6 +1,6 @@
 // Which lines reported the events that were applied.
 ghost use Rattle.std.specs.Prelude.{◌≡◌, ◌++◌, map, get_or, replicate, Some, None, IfOk, OnOk};
-ghost use Rattle.wf_intake.specs.Reported.{none_reported, expansion_told, expanded_at, noted};
+ghost use Rattle.wf_intake.specs.Reported.{none_reported, reported_as, expansion_told, expanded_at, noted};
 
 use std::alloc::{AllocError, Global};
 use std::marker::Model;
@@ -57,7 +57,7 @@ fn set_expansion(
     line: u64,
     production: u64,
 ) -> Result<(), AllocError>
-    ensures { OnOk result (map expansion_told places.new.items ≡ expanded_at (map expansion_told places.old.items) number (record { line = line; production = production })) }
+    ensures { OnOk result (map expansion_told places.new.items ≡ expanded_at (map expansion_told places.old.items) number (reported_as line production)) }
 {
     let by = reported_by(line, production)?;
     let Some(number) = number else {

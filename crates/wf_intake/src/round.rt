@@ -1,15 +1,15 @@
 // One round of the intake: the first report that is ready is let go, and its event applied.
-ghost use Rattle.std.specs.Prelude.{◌≡◌, ◌≤◌, ◌<◌, ℕ, List, length, true, false, Some, IfOk, IfErr, OnOk, OnErr};
+ghost use Rattle.std.specs.Prelude.{◌≡◌, ◌≤◌, ◌<◌, List, length, true, false, Some, IfOk, IfErr, OnOk, OnErr};
 ghost use Rattle.wf_model.specs.declared.event.Event.{Event};
 ghost use Rattle.wf_model.specs.declared.event.RunFault.TheVariants.{NoMemory};
 ghost use Rattle.report_model.specs.Intake.{ReportFault, Refused};
 ghost use Rattle.wf_inbox.specs.Inboxes.{NoneReady};
-ghost use Rattle.wf_intake.specs.declared.fault.IntakeFault.{IntakeFault};
 ghost use Rattle.wf_intake.specs.declared.fault.IntakeFault.TheVariants.{NoMemory as WantsMemory};
 ghost use Rattle.wf_intake.specs.Reported.{noted};
 ghost use Rattle.wf_intake.specs.Applied.{number_of};
 ghost use Rattle.wf_intake.specs.Intakes.{fault_told};
-ghost use Rattle.wf_intake.specs.Rounds.{names_given, all_marked, held_count, IsApplied, IsNotApplied, Round, Stop};
+ghost use Rattle.wf_intake.specs.Rounds.{names_given, all_marked, held_count};
+ghost use Rattle.wf_intake.specs.Growing.{AppliesEvent, RefusesEvent, HaltsAtEvent, DoesRounds, StopsRounds, HaltsRounds};
 
 use crate::fault::IntakeFault;
 use crate::grows::Grows;
@@ -99,11 +99,11 @@ pub(crate) fn apply_event<R: Grows>(
     number: Option<u32>,
     event: &Event,
 ) -> Result<(), IntakeFault>
-    ensures applied { OnOk result ((events : List Event) → R.is_run run.old events → IsApplied (R.grammar run.old) (R.most run.old) (R.written (R.grammar run.old)) events event.now (R.is_run run.new) (R.text run.old) (R.text run.new)) }
+    ensures applied { OnOk result (AppliesEvent R.grammar R.most R.is_run R.written R.text run.old run.new event.now) }
     ensures noted { OnOk result (reported.new ≡ noted reported.old number line event.now) }
     ensures marks { OnOk result (inbox.new.kept ≡ all_marked (names_given event.now) inbox.old.kept) }
-    ensures refused { IfErr result (λ f. (r : ReportFault) → fault_told f ≡ Some r → (events : List Event) → R.is_run run.old events → IsNotApplied (R.grammar run.old) (R.most run.old) events event.now line r) }
-    ensures same_text { IfErr result (λ f. (r : ReportFault) → fault_told f ≡ Some r → R.text run.new ≡ R.text run.old) }
+    ensures refused { IfErr result (RefusesEvent R.grammar R.most R.is_run R.written R.text run.old run.new line event.now) }
+    ensures halted { IfErr result (HaltsAtEvent R.grammar R.most R.is_run R.written R.text run.old run.new event.now) }
     ensures grammar { R.grammar run.new ≡ R.grammar run.old }
     ensures most { R.most run.new ≡ R.most run.old }
     ensures known { (k : R.Known) → R.is_known run.old k → R.is_known run.new k }
@@ -125,10 +125,11 @@ pub(crate) fn apply_next<R: Grows>(
     reported: &mut Reported,
     run: &mut R,
 ) -> Result<bool, IntakeFault>
-    ensures round { OnOk result (Round (R.grammar run.old) (R.most run.old) R.written inbox.old.kept reported.old (R.is_run run.old) (R.text run.old) inbox.new.kept reported.new (R.is_run run.new) (R.text run.new)) }
+    ensures round { OnOk result (DoesRounds R.grammar R.most R.is_run R.written R.text inbox.old reported.old run.old inbox.new reported.new run.new) }
     ensures last { IfOk result (λ more. more ≡ false → NoneReady inbox.new.kept) }
     ensures fewer { IfOk result (λ more. more ≡ true → held_count inbox.new.kept < held_count inbox.old.kept) }
-    ensures stopped { IfErr result (λ f. Stop (R.grammar run.old) (R.most run.old) R.written inbox.old.kept reported.old (R.is_run run.old) (R.text run.old) (R.text run.new) f) }
+    ensures stopped { IfErr result (StopsRounds R.grammar R.most R.is_run R.written R.text inbox.old reported.old run.old run.new) }
+    ensures halted { IfErr result (HaltsRounds R.grammar R.most R.is_run R.written R.text inbox.old reported.old run.old run.new) }
     ensures grammar { R.grammar run.new ≡ R.grammar run.old }
     ensures most { R.most run.new ≡ R.most run.old }
     ensures known { (k : R.Known) → R.is_known run.old k → R.is_known run.new k }

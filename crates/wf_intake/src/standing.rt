@@ -1,8 +1,6 @@
 // How the event of a report stands to a run.
-ghost use Rattle.std.specs.Prelude.{List};
-ghost use Rattle.wf_model.specs.declared.event.Event.{Event};
 ghost use Rattle.wf_model.specs.declared.event.Event.TheVariants.{Start, Expand};
-ghost use Rattle.wf_intake.specs.Applied.{FitsRun, IsStanding};
+ghost use Rattle.wf_intake.specs.Growing.{StandsAs};
 
 use crate::grows::Grows;
 use crate::reported::Reported;
@@ -23,7 +21,7 @@ pub(crate) enum Standing {
 
 /// How a start event stands to a run.
 fn start_standing<R: Grows>(reported: &Reported, run: &R, name: &[u8]) -> Standing
-    ensures { (events : List Event) → R.is_run run.now events → FitsRun (R.grammar run.now) events reported.now → IsStanding (R.grammar run.now) events reported.now (Start name.now) result }
+    ensures { StandsAs R.grammar R.is_run run.now reported.now (Start name.now) result }
 {
     if !run.is_started() {
         return Standing::Ready { number: None };
@@ -44,7 +42,7 @@ fn expand_standing<R: Grows>(
     production: u64,
     names: &[Name],
 ) -> Standing
-    ensures { (events : List Event) → R.is_run run.now events → FitsRun (R.grammar run.now) events reported.now → IsStanding (R.grammar run.now) events reported.now (Expand instance.now production names.now) result }
+    ensures { StandsAs R.grammar R.is_run run.now reported.now (Expand instance.now production names.now) result }
 {
     let Some(number) = run.find(instance) else {
         return Standing::Early;
@@ -66,7 +64,7 @@ fn expand_standing<R: Grows>(
 ///
 /// Cost: one look-up where its instance stands.
 pub(crate) fn standing_of<R: Grows>(reported: &Reported, run: &R, event: &Event) -> Standing
-    ensures { (events : List Event) → R.is_run run.now events → FitsRun (R.grammar run.now) events reported.now → IsStanding (R.grammar run.now) events reported.now event.now result }
+    ensures { StandsAs R.grammar R.is_run run.now reported.now event.now result }
 {
     match event {
         Event::Start { name } => start_standing(reported, run, name.bytes()),
