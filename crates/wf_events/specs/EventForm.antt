@@ -3,17 +3,13 @@ use Rattle.std.specs.Prelude.{◌≡◌, ℕ, List, Option, Some, None, option_m
 use Rattle.std.specs.declared.result.Result.{Result}
 use Rattle.std.specs.declared.result.Result.TheVariants.{Ok, Err}
 use Rattle.serde_json.specs.Data.{Data}
-use Rattle.serde_json.specs.Find.{as_number, as_u64, get}
+use Rattle.serde_json.specs.Find.{get}
 use Rattle.wf_model.specs.declared.event.Event.{Event}
 use Rattle.wf_model.specs.declared.event.Event.TheVariants.{Start, Expand}
 use Rattle.wf_json.specs.Reading.{IsReading, HasNoReading}
-use Rattle.wf_json.specs.Forms.{text_form, list_form, member_form}
+use Rattle.wf_json.specs.Forms.{text_form, list_form, member_form, whole_form}
 use Rattle.wf_events.specs.declared.fault.EventFault.{EventFault}
 use Rattle.wf_events.specs.declared.fault.EventFault.TheVariants.{NotJson, WrongShape, NoMemory}
-
--- a whole number below 2^64: a JSON number without sign, fraction and exponent
-abbrev pub whole_form : Data → Option ℕ
-whole_form d = option_and_then as_u64 (as_number d)
 
 -- a start event, by what stands in `start`
 abbrev pub start_form : Data → Option Event

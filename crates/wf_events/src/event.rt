@@ -2,9 +2,8 @@
 ghost use Rattle.std.specs.Prelude.{◌≡◌, Some, IfOk, IfErr};
 ghost use Rattle.serde_json.specs.Data.{Data};
 ghost use Rattle.serde_json.specs.View.{view};
-ghost use Rattle.wf_json.specs.Forms.{member_form};
 ghost use Rattle.wf_json.specs.Reading.{IsReading};
-ghost use Rattle.wf_events.specs.EventForm.{event_of, start_form, expand_form, whole_form, IsRefusal, IsToldAs};
+ghost use Rattle.wf_events.specs.EventForm.{event_of, start_form, expand_form, IsRefusal, IsToldAs};
 
 use crate::fault::EventFault;
 use crate::scan::scan_event;
@@ -70,7 +69,7 @@ fn expand(alloc: Global, instance: &Value, value: &Value) -> Result<Event, Event
     let Some(instance) = Name::from_json(alloc, instance)? else {
         return Err(EventFault::WrongShape);
     };
-    let Some(production) = whole(value, "production") else {
+    let Some(production) = member::<u64>(alloc, value, "production")? else {
         return Err(EventFault::WrongShape);
     };
     let Some(names) = member::<Seq<Name>>(alloc, value, "names")? else {
@@ -81,14 +80,4 @@ fn expand(alloc: Global, instance: &Value, value: &Value) -> Result<Event, Event
         production,
         names,
     })
-}
-
-/// A member that is a whole number.
-fn whole(value: &Value, key: &str) -> Option<u64>
-    ensures { result ≡ member_form key.now whole_form (view value.now) }
-{
-    match value.get(key) {
-        Some(number) => number.as_u64(),
-        None => None,
-    }
 }

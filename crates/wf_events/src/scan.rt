@@ -34,7 +34,7 @@ fn scan_start(alloc: Global, bytes: &[u8]) -> Result<Option<Event>, AllocError>
     if rest != b"}".as_slice() {
         return Ok(None);
     }
-    let name = name_of(alloc, name)?;
+    let name = Name::copied(alloc, name)?;
     Ok(Some(Event::Start { name }))
 }
 
@@ -49,7 +49,7 @@ fn scan_expand(alloc: Global, bytes: &[u8]) -> Result<Option<Event>, AllocError>
     if rest != b"]}".as_slice() {
         return Ok(None);
     }
-    let instance = name_of(alloc, front.instance)?;
+    let instance = Name::copied(alloc, front.instance)?;
     Ok(Some(Event::Expand {
         instance,
         production: front.production,
@@ -119,15 +119,7 @@ fn next_text(bytes: &[u8]) -> Option<(&[u8], &[u8])>
 fn add_name(alloc: Global, bytes: &[u8], names: &mut Vec<Name>) -> Result<(), AllocError>
     ensures { OnOk result (names.new.items ≡ names.old.items ++ bytes.now ∷ []) }
 {
-    let name = name_of(alloc, bytes)?;
+    let name = Name::copied(alloc, bytes)?;
     names.push(name)?;
     Ok(())
-}
-
-/// A name of these bytes.
-fn name_of(alloc: Global, bytes: &[u8]) -> Result<Name, AllocError>
-    ensures { IfOk result (λ n. n ≡ bytes.now) }
-{
-    let held = Vec::from_slice(alloc, bytes)?;
-    Ok(Name::from_vec(held))
 }

@@ -4,4 +4,4 @@ use Rattle.wf_flat.specs.declared.held_name.HeldName.{HeldName}
 
 -- the bytes of each name
 abbrev pub held : List HeldName → List (List ℕ)
-held = map (λ k. k.bytes.items)
+held = map (λ k. k.name)

@@ -29,8 +29,8 @@ fn put(
     ensures refused { IfErr result (IsNameRefused (held names.old.keys) name.now) }
     ensures unchanged { OnErr result (names.new.keys ≡ names.old.keys) }
 {
-    let bytes = Vec::from_slice(alloc, name)?;
-    let is_new = names.insert(HeldName { bytes })?;
+    let held = Name::copied(alloc, name)?;
+    let is_new = names.insert(HeldName { name: held })?;
     if !is_new {
         return Err(RunFault::NameTwice);
     }
@@ -49,7 +49,7 @@ impl Model for InstanceNames {
 
     ghost Value = { List (List ℕ) };
 
-    ghost view = { λ t. map (λ k. k.bytes.items) t.numbers.keys };
+    ghost view = { λ t. map (λ k. k.name) t.numbers.keys };
 }
 
 impl InstanceNames {

@@ -68,10 +68,10 @@ fn append_children(
     ensures begins { OnErr result (take (length instances.old.items) instances.new.items ≡ instances.old.items) }
 {
     for k in 0..names.len() {
-        let bytes = Vec::from_slice(alloc, names[k].bytes())?;
+        let name = Name::copied(alloc, names[k].bytes())?;
         let module = body[k].module;
         instances.push(Inst {
-            name: Name::from_vec(bytes),
+            name,
             module,
             parent: Some(parent),
             production: None,
@@ -141,9 +141,9 @@ fn plant(
     ensures same_taken { OnErr result (taken.new ≡ taken.old) }
     ensures same_instances { OnErr result (instances.new.items ≡ instances.old.items) }
 {
-    let bytes = Vec::from_slice(alloc, name)?;
+    let held = Name::copied(alloc, name)?;
     instances.push(Inst {
-        name: Name::from_vec(bytes),
+        name: held,
         module,
         parent: None,
         production: None,

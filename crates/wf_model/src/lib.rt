@@ -13,5 +13,5 @@ pub use name::{Name, Seq};
 pub use numbers::{EdgeNo, ModNo, PortNo, PosNo, ProdNo, Side};
 pub use parts::{
     DepsPart, EdgePart, EntryPart, ExitPart, ModulePart, PairPart, Parts, PortPart, PosPart,
-    ProdPart, ViewParts,
+    ProdPart, VersionPart, ViewParts,
 };

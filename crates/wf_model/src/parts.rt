@@ -8,6 +8,7 @@ pub struct Parts {
     pub modules: Seq<ModulePart>,
     pub productions: Seq<ProdPart>,
     pub deps: Seq<DepsPart>,
+    pub versions: Seq<VersionPart>,
 }
 
 /// A module, as read.
@@ -75,6 +76,13 @@ pub struct DepsPart {
 pub struct PairPart {
     pub input: Name,
     pub output: Name,
+}
+
+/// An earlier version of a specification, as read: its first modules and its first productions, by how many they are.
+#[derive(Clone, Copy, Debug, PartialEq, Eq, Drop)]
+pub struct VersionPart {
+    pub modules: u64,
+    pub productions: u64,
 }
 
 /// A view, as read; without `expand` it expands every composite module.
