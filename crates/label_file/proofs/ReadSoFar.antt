@@ -13,13 +13,13 @@ use Rattle.label_file.specs.declared.fault.StoreFault.{StoreFault}
 use Rattle.label_file.specs.declared.fault.StoreFault.TheVariants.{NotLabels as IsNoLabels, OtherSpec as IsOfOther, Truncated as IsTruncated, BadName as HasBadName, NameTwice as HasNameTwice, BadLabel as HasBadLabel, NoMemory as HasNoMemory}
 
 -- Entries were read, and are held. However the rest is read behind them, so are all the bytes
-pub record AreReadSoFar (g : Grammar) (digest bytes rest : List ℕ) (hs : List EntryHeld) : Type 0 where
+pub record AreReadSoFar (g : Grammar) (digests : List (List ℕ)) (bytes rest : List ℕ) (hs : List EntryHeld) : Type 0 where
   pub before : List Entry
   pub held : AreHeldOf g before hs
   pub offset : ℕ
   pub place : offset + length rest ≡ length bytes
   pub few : 3 * length hs ≤ offset
-  pub goes_on : (a : Answer) → ReadsFrom g offset before rest a → Opens g digest bytes a
+  pub goes_on : (a : Answer) → ReadsFrom g offset before rest a → Opens g digests bytes a
 
 -- what is held has the names of the entries
 pub names_same : (g : Grammar) (es : List Entry) (hs : List EntryHeld) → AreHeldOf g es hs → names_held hs ≡ names_of_entries es
@@ -43,17 +43,17 @@ held_behind g (d ∷ es) [] e k h one = absurd h
 held_behind g (d ∷ es) (j ∷ hs) e k h one = (h.0, held_behind g es hs e k h.1 one)
 
 -- none was read where the head ends
-pub none_read : (g : Grammar) (digest bytes rest : List ℕ) → length digest ≡ 32 → bytes ≡ head_bytes digest ++ rest → AreReadSoFar g digest bytes rest []
-none_read g digest bytes rest l q = record {
+pub none_read : (g : Grammar) (digests : List (List ℕ)) (found bytes rest : List ℕ) → IsIn found digests → length found ≡ 32 → bytes ≡ head_bytes found ++ rest → AreReadSoFar g digests bytes rest []
+none_read g digests found bytes rest i l q = record {
   before = [];
   held = tt;
   offset = 36;
-  place = (let n = ap length q in let m = length-append (head_bytes digest) rest in omega (arith, n, m, length-head digest l));
+  place = (let n = ap length q in let m = length-append (head_bytes found) rest in omega (arith, n, m, length-head found l));
   few = omega arith;
-  goes_on = λ a r. head rest l q r;
+  goes_on = λ a r. head found rest i l q r;
 }
 
-module _ (g : Grammar) (digest bytes rest : List ℕ) (hs : List EntryHeld) (read : AreReadSoFar g digest bytes rest hs) where
+module _ (g : Grammar) (digests : List (List ℕ)) (bytes rest : List ℕ) (hs : List EntryHeld) (read : AreReadSoFar g digests bytes rest hs) where
   -- a number that is told of what is held is that of the entry that follows
   same_number : (entry : ℕ) → entry ≡ length hs → length read.before ≡ entry
   same_number entry q = sym (q ∙ as_many g read.before hs read.held)
@@ -66,7 +66,7 @@ module _ (g : Grammar) (digest bytes rest : List ℕ) (hs : List EntryHeld) (rea
   is_held name i = subst (IsIn name) (sym (names_same g read.before hs read.held)) i
 
   -- one more entry was read
-  pub one_more : (e : Entry) (behind : List ℕ) (new : List EntryHeld) → IsFront e rest behind → IsAdded g hs e new → AreReadSoFar g digest bytes behind new
+  pub one_more : (e : Entry) (behind : List ℕ) (new : List EntryHeld) → IsFront e rest behind → IsAdded g hs e new → AreReadSoFar g digests bytes behind new
   one_more e behind new front added =
       let one : IsHeldOf g e (record { name = e.name; bits = added.bits }) = record { name = refl; label = added.label; bytes = added.bytes } in
       let label : IsLabelBytes g e.label = (added.label.0, added.label.1, subst (Holds e.label) added.label.2 added.bytes) in
@@ -84,7 +84,7 @@ module _ (g : Grammar) (digest bytes rest : List ℕ) (hs : List EntryHeld) (rea
       }
 
   -- nothing is left
-  pub all_read : length rest ≡ 0 → IsStoreOf g digest bytes hs
+  pub all_read : length rest ≡ 0 → IsStoreOf g digests bytes hs
   all_read n = record {
     entries = read.before;
     read = read.goes_on (Accepted read.before) (subst (λ z. ReadsFrom g read.offset read.before z (Accepted read.before)) (sym (nil_from_length rest n)) at_end);
@@ -92,18 +92,18 @@ module _ (g : Grammar) (digest bytes rest : List ℕ) (hs : List EntryHeld) (rea
   }
 
   -- no whole entry is left
-  pub none_whole : length rest ≢ 0 → ((e : Entry) (behind : List ℕ) → IsFront e rest behind → ⊥) → (offset : ℕ) → offset + length rest ≡ length bytes → Opens g digest bytes (Truncated offset)
+  pub none_whole : length rest ≢ 0 → ((e : Entry) (behind : List ℕ) → IsFront e rest behind → ⊥) → (offset : ℕ) → offset + length rest ≡ length bytes → Opens g digests bytes (Truncated offset)
   none_whole some none offset q =
       let same : read.offset ≡ offset = omega (arith, read.place, q) in
-      subst (λ z. Opens g digest bytes (Truncated z)) same (read.goes_on (Truncated read.offset) (cut (λ q. some (ap length q)) none))
+      subst (λ z. Opens g digests bytes (Truncated z)) same (read.goes_on (Truncated read.offset) (cut (λ q. some (ap length q)) none))
 
   -- the entry that follows is refused
-  pub refused : (e : Entry) (behind : List ℕ) (f : StoreFault) → IsFront e rest behind → IsRefused g hs e f → IsStoreFault g digest bytes f
+  pub refused : (e : Entry) (behind : List ℕ) (f : StoreFault) → IsFront e rest behind → IsRefused g hs e f → IsStoreFault g digests bytes f
   refused e behind IsNoLabels front h = absurd h
   refused e behind IsOfOther front h = absurd h
   refused e behind (IsTruncated offset) front h = absurd h
-  refused e behind (HasBadName entry) front h = subst (λ n. Opens g digest bytes (BadName n)) (same_number entry h.0) (read.goes_on _ (bad_name e front h.1))
-  refused e behind (HasNameTwice entry) front h = subst (λ n. Opens g digest bytes (NameTwice n)) (same_number entry h.0) (read.goes_on _ (name_twice e front h.1 (is_before e.name h.2)))
+  refused e behind (HasBadName entry) front h = subst (λ n. Opens g digests bytes (BadName n)) (same_number entry h.0) (read.goes_on _ (bad_name e front h.1))
+  refused e behind (HasNameTwice entry) front h = subst (λ n. Opens g digests bytes (NameTwice n)) (same_number entry h.0) (read.goes_on _ (name_twice e front h.1 (is_before e.name h.2)))
   refused e behind (HasBadLabel entry) front h =
-      subst (λ n. Opens g digest bytes (BadLabel n)) (same_number entry h.0) (read.goes_on _ (bad_label e front h.1 (λ i. h.2 (is_held e.name i)) h.3))
+      subst (λ n. Opens g digests bytes (BadLabel n)) (same_number entry h.0) (read.goes_on _ (bad_label e front h.1 (λ i. h.2 (is_held e.name i)) h.3))
   refused e behind HasNoMemory front h = tt

@@ -1,5 +1,5 @@
 -- Bytes are read as a label file: each has an answer.
-use Rattle.std.proofs.Common.{◌≡◌, ◌≢◌, ◌⊎◌, ℕ, zero, suc, ◌+◌, ◌*◌, ◌/◌, ◌%◌, ◌^◌, ◌<◌, ◌≤◌, List, [], ◌∷◌, ◌++◌, length, take, drop, refl, sym, ap, ◌∙◌, subst, inl, inr, ⊎_elim, arith, length-append, length-drop}
+use Rattle.std.proofs.Common.{◌≡◌, ◌⊎◌, ℕ, zero, suc, ◌+◌, ◌*◌, ◌/◌, ◌%◌, ◌<◌, ◌≤◌, List, [], ◌∷◌, ◌++◌, length, take, drop, refl, sym, ap, ◌∙◌, subst, inl, inr, ⊎_elim, arith, length-append, length-drop}
 use Rattle.std.specs.Prelude.{codes}
 use Rattle.std.proofs.lemmas.Bool.{cases_lt}
 use Rattle.std.proofs.lemmas.List.{length-take-le, take-append-drop, drop_at}
@@ -126,9 +126,9 @@ module _ (g : Grammar) where
       (λ none. (Truncated offset, cut (λ e. absurd (cc)) none))
       (front_or_none (b ∷ bytes))
 
-  -- bytes have an answer, by a digest of 32 bytes
-  pub some_opening : (digest : List ℕ) → length digest ≡ 32 → (bytes : List ℕ) → (a : Answer) × Opens g digest bytes a
-  some_opening digest size bytes = ⊎_elim (λ l. (NotLabels, short l)) (λ l. by_start l (bytes_either (take 4 bytes) (codes "WFL1"))) (cases_lt (length bytes) 36)
+  -- bytes have an answer, whatever the digests
+  pub some_opening : (digests : List (List ℕ)) (bytes : List ℕ) → (a : Answer) × Opens g digests bytes a
+  some_opening digests bytes = ⊎_elim (λ l. (NotLabels, short l)) (λ l. by_start l (bytes_either (take 4 bytes) (codes "WFL1"))) (cases_lt (length bytes) 36)
     where
       found : List ℕ
       found = take 32 (drop 4 bytes)
@@ -139,12 +139,15 @@ module _ (g : Grammar) where
       split : take 4 bytes ≡ codes "WFL1" → bytes ≡ head_bytes found ++ rest
       split e = sym (take-append-drop 4 bytes) ∙ (ap (λ x. x ++ drop 4 bytes) e ∙ ap (λ x. codes "WFL1" ++ x) (sym (take-append-drop 32 (drop 4 bytes))))
 
-      by_digest : 36 ≤ length bytes → take 4 bytes ≡ codes "WFL1" → Either (found ≡ digest) → (a : Answer) × Opens g digest bytes a
-      by_digest l e (inl same) =
-          let r = reads_within (suc (length rest)) 36 [] rest (omega arith) in
-          (r.0, head rest size (split e ∙ ap (λ x. head_bytes x ++ rest) same) r.1)
-      by_digest l e (inr other) = (OtherSpec, other_digest found rest (length-take-le 32 (drop 4 bytes) (let n = length-drop 4 bytes in omega arith)) (split e) other)
+      size : 36 ≤ length bytes → length found ≡ 32
+      size l = length-take-le 32 (drop 4 bytes) (let n = length-drop 4 bytes in omega arith)
 
-      by_start : 36 ≤ length bytes → Either (take 4 bytes ≡ codes "WFL1") → (a : Answer) × Opens g digest bytes a
-      by_start l (inl e) = by_digest l e (bytes_either found digest)
+      by_digest : 36 ≤ length bytes → take 4 bytes ≡ codes "WFL1" → Either (IsIn found digests) → (a : Answer) × Opens g digests bytes a
+      by_digest l e (inl here) =
+          let r = reads_within (suc (length rest)) 36 [] rest (omega arith) in
+          (r.0, head found rest here (size l) (split e) r.1)
+      by_digest l e (inr other) = (OtherSpec, other_digest found rest (size l) (split e) other)
+
+      by_start : 36 ≤ length bytes → Either (take 4 bytes ≡ codes "WFL1") → (a : Answer) × Opens g digests bytes a
+      by_start l (inl e) = by_digest l e (in_either bytes_either found digests)
       by_start l (inr not) = (NotLabels, other_start (λ x e. not (ap (take 4) e)))

@@ -39,18 +39,18 @@ pub record IsStoreFor (g : Grammar) (hs : List EntryHeld) : Type 0 where
   pub labels : (h : EntryHeld) → IsIn h hs → AreLabelBits g h.bits
   pub differ : AllDiffer (names_held hs)
 
--- bytes are a label file of the grammar with this digest, and its entries are held
-pub record IsStoreOf (g : Grammar) (digest bytes : List ℕ) (hs : List EntryHeld) : Type 0 where
+-- bytes are a label file of the grammar with one of these digests, and its entries are held
+pub record IsStoreOf (g : Grammar) (digests : List (List ℕ)) (bytes : List ℕ) (hs : List EntryHeld) : Type 0 where
   pub entries : List Entry
-  pub read : Opens g digest bytes (Accepted entries)
+  pub read : Opens g digests bytes (Accepted entries)
   pub held : AreHeldOf g entries hs
 
 -- what a fault tells of bytes: they are read as a label file with this fault first; want of memory tells nothing
-abbrev pub IsStoreFault : Grammar → List ℕ → List ℕ → StoreFault → Type 0
-IsStoreFault g digest bytes IsNoLabels = Opens g digest bytes NotLabels
-IsStoreFault g digest bytes IsOfOther = Opens g digest bytes OtherSpec
-IsStoreFault g digest bytes (IsTruncated offset) = Opens g digest bytes (Truncated offset)
-IsStoreFault g digest bytes (HasBadName entry) = Opens g digest bytes (BadName entry)
-IsStoreFault g digest bytes (HasNameTwice entry) = Opens g digest bytes (NameTwice entry)
-IsStoreFault g digest bytes (HasBadLabel entry) = Opens g digest bytes (BadLabel entry)
-IsStoreFault g digest bytes HasNoMemory = Unit {0}
+abbrev pub IsStoreFault : Grammar → List (List ℕ) → List ℕ → StoreFault → Type 0
+IsStoreFault g digests bytes IsNoLabels = Opens g digests bytes NotLabels
+IsStoreFault g digests bytes IsOfOther = Opens g digests bytes OtherSpec
+IsStoreFault g digests bytes (IsTruncated offset) = Opens g digests bytes (Truncated offset)
+IsStoreFault g digests bytes (HasBadName entry) = Opens g digests bytes (BadName entry)
+IsStoreFault g digests bytes (HasNameTwice entry) = Opens g digests bytes (NameTwice entry)
+IsStoreFault g digests bytes (HasBadLabel entry) = Opens g digests bytes (BadLabel entry)
+IsStoreFault g digests bytes HasNoMemory = Unit {0}

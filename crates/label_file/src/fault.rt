@@ -9,7 +9,7 @@ use std::alloc::AllocError;
 pub enum StoreFault {
     /// There are fewer than 36 bytes, or they do not begin with `WFL1`.
     NotLabels,
-    /// The digest is not that of the grammar.
+    /// The digest is none of those that were given.
     OtherSpec,
     /// The entry at this offset is not whole.
     Truncated { offset: u64 },

@@ -91,43 +91,43 @@ impl<'a> Model for Store<'a> {
 }
 
 impl<'a> Store<'a> {
-    /// Reads the label file of a grammar with this digest, as `open_with_key` with the key 0.
+    /// Reads the label file of a grammar with one of these digests, as `open_with_key` with the key 0.
     pub fn open(
         alloc: Global,
         g: &Grammar,
         cycles: &Cycles,
-        digest: &[u8; 32],
+        digests: &[[u8; 32]],
         bytes: &'a [u8],
     ) -> Result<Store<'a>, StoreFault>
         requires linear { IsLinear g.now.core }
         requires cycles { AreCyclesOf g.now.core cycles.now }
         requires few { length bytes.now ≤ 2 ^ 30 }
-        ensures store { IfOk result (λ s. IsStoreOf g.now.core digest.now bytes.now s) }
-        ensures fault { IfErr result (λ f. IsStoreFault g.now.core digest.now bytes.now f) }
+        ensures store { IfOk result (λ s. IsStoreOf g.now.core digests.now bytes.now s) }
+        ensures fault { IfErr result (λ f. IsStoreFault g.now.core digests.now bytes.now f) }
     {
-        Store::open_with_key(alloc, 0, g, cycles, digest, bytes)
+        Store::open_with_key(alloc, 0, g, cycles, digests, bytes)
     }
 
-    /// Reads the label file of a grammar with this digest.
+    /// Reads the label file of a grammar with one of these digests: its own, or that of a version of it that keeps its cycles.
     ///
     /// Of each entry it is tried in this order whether it is whole, whether its name is that of an item, whether no entry before has the name, and whether its label is one of the grammar.
     ///
-    /// Cost: linear in the bytes; a name is found by hashing with the key. Takes memory for the table alone, once, for as many entries as stand there whole.
+    /// Cost: linear in the bytes, and one comparison for each digest; a name is found by hashing with the key. Takes memory for the table alone, once, for as many entries as stand there whole.
     pub fn open_with_key(
         alloc: Global,
         key: u64,
         g: &Grammar,
         cycles: &Cycles,
-        digest: &[u8; 32],
+        digests: &[[u8; 32]],
         bytes: &'a [u8],
     ) -> Result<Store<'a>, StoreFault>
         requires linear { IsLinear g.now.core }
         requires cycles { AreCyclesOf g.now.core cycles.now }
         requires few { length bytes.now ≤ 2 ^ 30 }
-        ensures store { IfOk result (λ s. IsStoreOf g.now.core digest.now bytes.now s) }
-        ensures fault { IfErr result (λ f. IsStoreFault g.now.core digest.now bytes.now f) }
+        ensures store { IfOk result (λ s. IsStoreOf g.now.core digests.now bytes.now s) }
+        ensures fault { IfErr result (λ f. IsStoreFault g.now.core digests.now bytes.now f) }
     {
-        let mut rest = behind_head(digest, bytes)?;
+        let mut rest = behind_head(digests, bytes)?;
         let count = count_entries(rest);
         let mut store = Store {
             keyed: KeyedHash::new(key),

@@ -90,14 +90,14 @@ cut_entries_law g digest l es good =
     let hl = length-head digest l in
     record {
       places = each_place digest es l;
-      head = λ k small. short (omega (arith, length-take k (h ++ flat_map entry_bytes es)));
-      entries = λ before later q.
+      head = λ digests k small. short (omega (arith, length-take k (h ++ flat_map entry_bytes es)));
+      entries = λ digests here before later q.
           let b = flat_map entry_bytes before in
           let file : h ++ flat_map entry_bytes es ≡ (h ++ b) ++ flat_map entry_bytes later = ap (λ z. h ++ flat_map entry_bytes z) q ∙ (ap (λ z. h ++ z) (flat_map-append entry_bytes before later) ∙ sym (append_assoc h b (flat_map entry_bytes later))) in
           let t : take (length (h ++ b)) (h ++ flat_map entry_bytes es) ≡ h ++ b = ap (λ z. take (length (h ++ b)) z) file ∙ take_at (h ++ b) (flat_map entry_bytes later) (length (h ++ b)) refl in
-          subst (λ z. Opens g digest z (Accepted before)) (sym t)
-          (head b l refl (subst (λ z. ReadsFrom g 36 [] z (Accepted before)) (append-nil b) (reads_on g es good before [] later 36 [] (Accepted before) q at_end)));
-      within = λ before e later q k some few.
+          subst (λ z. Opens g digests z (Accepted before)) (sym t)
+          (head digest b here l refl (subst (λ z. ReadsFrom g 36 [] z (Accepted before)) (append-nil b) (reads_on g es good before [] later 36 [] (Accepted before) q at_end)));
+      within = λ digests here before e later q k some few.
           let b = flat_map entry_bytes before in
           let x = entry_bytes e in
           let piece = take k x in
@@ -113,5 +113,5 @@ cut_entries_law g digest l es good =
           let end : ReadsFrom g (36 + length b) ([] ++ before) piece (Truncated (length (h ++ b))) =
           subst (λ z. ReadsFrom g (36 + length b) before piece (Truncated z)) o (cut nonempty (no_part e piece (drop k x) (sym both) (omega (arith, pl, few)))) in
           let inside = reads_on g es good before [] (e ∷ later) 36 piece (Truncated (length (h ++ b))) q end in
-          subst (λ z. Opens g digest z (Truncated (length (h ++ b)))) (sym (t ∙ append_assoc h b piece)) (head (b ++ piece) l refl inside);
+          subst (λ z. Opens g digests z (Truncated (length (h ++ b)))) (sym (t ∙ append_assoc h b piece)) (head digest (b ++ piece) here l refl inside);
     }

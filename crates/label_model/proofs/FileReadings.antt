@@ -112,7 +112,7 @@ same_head d e x y ld le q =
     same_front d e x y (ld ∙ sym le) (append_cancel_left (codes "WFL1") (d ++ x) (e ++ y) w)
 
 pub one_reading_law : OneReadingLaw
-one_reading_law g digest bytes a b x y = go x y
+one_reading_law g digests bytes a b x y = go x y
   where
     long : (d rest : List ℕ) → length d ≡ 32 → bytes ≡ head_bytes d ++ rest → length bytes < 36 → ⊥
     long d rest l q h = absurd (omega (arith, ap length q, length-append (head_bytes d) rest, length-head d l))
@@ -120,21 +120,21 @@ one_reading_law g digest bytes a b x y = go x y
     starts : (d rest : List ℕ) → bytes ≡ head_bytes d ++ rest → bytes ≡ codes "WFL1" ++ (d ++ rest)
     starts d rest q = q ∙ append_assoc (codes "WFL1") d rest
 
-    go : {a b : Answer} → Opens g digest bytes a → Opens g digest bytes b → a ≡ b
+    go : {a b : Answer} → Opens g digests bytes a → Opens g digests bytes b → a ≡ b
     go (short h) (short k) = refl
     go (short h) (other_start k) = refl
     go (short h) (other_digest f r l q n) = absurd (long f r l q h)
-    go (short h) (head r l q w) = absurd (long digest r l q h)
+    go (short h) (head f r i l q w) = absurd (long f r l q h)
     go (other_start h) (short k) = refl
     go (other_start h) (other_start k) = refl
     go (other_start h) (other_digest f r l q n) = absurd (h (f ++ r) (starts f r q))
-    go (other_start h) (head r l q w) = absurd (h (digest ++ r) (starts digest r q))
+    go (other_start h) (head f r i l q w) = absurd (h (f ++ r) (starts f r q))
     go (other_digest f r l q n) (short k) = absurd (long f r l q k)
     go (other_digest f r l q n) (other_start k) = absurd (k (f ++ r) (starts f r q))
     go (other_digest f r l q n) (other_digest f' r' l' q' n') = refl
-    go (other_digest f r l q n) (head r' l' q' w') = absurd (n (same_head f digest r r' l l' (sym q ∙ q')).0)
-    go (head r l q w) (short k) = absurd (long digest r l q k)
-    go (head r l q w) (other_start k) = absurd (k (digest ++ r) (starts digest r q))
-    go (head r l q w) (other_digest f r' l' q' n') = absurd (n' (same_head f digest r' r l' l (sym q' ∙ q)).0)
-    go {b = b} (head r l q w) (head r' l' q' w') =
-        let e = (same_head digest digest r r' l l' (sym q ∙ q')).1 in one_read g w b (subst (λ z. ReadsFrom g 36 [] z b) (sym e) w')
+    go (other_digest f r l q n) (head f' r' i' l' q' w') = absurd (n (subst (λ z. IsIn z digests) (sym (same_head f f' r r' l l' (sym q ∙ q')).0) i'))
+    go (head f r i l q w) (short k) = absurd (long f r l q k)
+    go (head f r i l q w) (other_start k) = absurd (k (f ++ r) (starts f r q))
+    go (head f r i l q w) (other_digest f' r' l' q' n') = absurd (n' (subst (λ z. IsIn z digests) (same_head f f' r r' l l' (sym q ∙ q')).0 i))
+    go {b = b} (head f r i l q w) (head f' r' i' l' q' w') =
+        let e = (same_head f f' r r' l l' (sym q ∙ q')).1 in one_read g w b (subst (λ z. ReadsFrom g 36 [] z b) (sym e) w')

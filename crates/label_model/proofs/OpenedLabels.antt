@@ -24,11 +24,11 @@ read_labels g (bad_label e h n t l) all entries q = absurd (cc)
 read_labels g (whole {before = before} e h n t l rest) all entries q = read_labels g rest (one_more g before e all l) entries q
 
 -- bytes that are accepted hold entries with labels of the grammar
-pub opened_labels : (g : Grammar) (digest bytes : List ℕ) (entries : List Entry) → Opens g digest bytes (Accepted entries) → HaveLabels g entries
-opened_labels g digest bytes entries opens = go opens refl
+pub opened_labels : (g : Grammar) (digests : List (List ℕ)) (bytes : List ℕ) (entries : List Entry) → Opens g digests bytes (Accepted entries) → HaveLabels g entries
+opened_labels g digests bytes entries opens = go opens refl
   where
-    go : {a : Answer} → Opens g digest bytes a → a ≡ Accepted entries → HaveLabels g entries
+    go : {a : Answer} → Opens g digests bytes a → a ≡ Accepted entries → HaveLabels g entries
     go (short h) q = absurd (cc)
     go (other_start h) q = absurd (cc)
     go (other_digest f r l is n) q = absurd (cc)
-    go (head r l is reads) q = read_labels g reads (λ e i. absurd i) entries q
+    go (head f r i l is reads) q = read_labels g reads (λ e i. absurd i) entries q

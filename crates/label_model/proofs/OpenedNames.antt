@@ -26,11 +26,11 @@ read_differ g (bad_label e h n t l) differ entries q = absurd (cc)
 read_differ g (whole {before = before} e h n t l rest) differ entries q = read_differ g rest (one_more before e differ t) entries q
 
 -- bytes that are accepted hold entries with names that differ
-pub opened_differ : (g : Grammar) (digest bytes : List ℕ) (entries : List Entry) → Opens g digest bytes (Accepted entries) → AllDiffer (names_of_entries entries)
-opened_differ g digest bytes entries opens = go opens refl
+pub opened_differ : (g : Grammar) (digests : List (List ℕ)) (bytes : List ℕ) (entries : List Entry) → Opens g digests bytes (Accepted entries) → AllDiffer (names_of_entries entries)
+opened_differ g digests bytes entries opens = go opens refl
   where
-    go : {a : Answer} → Opens g digest bytes a → a ≡ Accepted entries → AllDiffer (names_of_entries entries)
+    go : {a : Answer} → Opens g digests bytes a → a ≡ Accepted entries → AllDiffer (names_of_entries entries)
     go (short h) q = absurd (cc)
     go (other_start h) q = absurd (cc)
     go (other_digest f r l is n) q = absurd (cc)
-    go (head r l is reads) q = read_differ g reads tt entries q
+    go (head f r i l is reads) q = read_differ g reads tt entries q

@@ -25,7 +25,7 @@ FileStepLaw =
 
 -- bytes are read as a label file in one way
 abbrev pub OneReadingLaw : Type 0
-OneReadingLaw = (g : Grammar) (digest bytes : List ℕ) (a b : Answer) → Opens g digest bytes a → Opens g digest bytes b → a ≡ b
+OneReadingLaw = (g : Grammar) (digests : List (List ℕ)) (bytes : List ℕ) (a b : Answer) → Opens g digests bytes a → Opens g digests bytes b → a ≡ b
 
 -- entries with room for their lengths, names of items, which differ, and labels of the grammar
 pub record AreGood (g : Grammar) (es : List Entry) : Type 0 where
@@ -45,14 +45,14 @@ pub data IsCutPlace (digest : List ℕ) (es : List Entry) (k : ℕ) : Type 0 whe
   within : (before : List Entry) (e : Entry) (later : List Entry) → es ≡ before ++ e ∷ later →
       (n : ℕ) → 0 < n → n < length (entry_bytes e) → k ≡ offset_behind digest before + n → IsCutPlace digest es k
 
--- What the first bytes of a file of these entries are read as. In the head they are no label file; at the end of the head or of an entry they hold the entries before; within an entry they are refused with the offset of this entry.
+-- What the first bytes of a file of these entries are read as, with its digest among others. In the head they are no label file; at the end of the head or of an entry they hold the entries before; within an entry they are refused with the offset of this entry.
 -- Each length up to that of the file is of one of these three kinds
 pub record IsCut (g : Grammar) (digest file : List ℕ) (es : List Entry) : Type 0 where
   pub places : (k : ℕ) → k ≤ length file → IsCutPlace digest es k
-  pub head : (k : ℕ) → k < 36 → Opens g digest (take k file) NotLabels
-  pub entries : (before later : List Entry) → es ≡ before ++ later → Opens g digest (take (offset_behind digest before) file) (Accepted before)
-  pub within : (before : List Entry) (e : Entry) (later : List Entry) → es ≡ before ++ e ∷ later → (k : ℕ) → 0 < k → k < length (entry_bytes e) →
-      Opens g digest (take (offset_behind digest before + k) file) (Truncated (offset_behind digest before))
+  pub head : (digests : List (List ℕ)) (k : ℕ) → k < 36 → Opens g digests (take k file) NotLabels
+  pub entries : (digests : List (List ℕ)) → IsIn digest digests → (before later : List Entry) → es ≡ before ++ later → Opens g digests (take (offset_behind digest before) file) (Accepted before)
+  pub within : (digests : List (List ℕ)) → IsIn digest digests → (before : List Entry) (e : Entry) (later : List Entry) → es ≡ before ++ e ∷ later → (k : ℕ) → 0 < k → k < length (entry_bytes e) →
+      Opens g digests (take (offset_behind digest before + k) file) (Truncated (offset_behind digest before))
 
 -- so it is for each file of good entries
 abbrev pub CutEntriesLaw : Type 0

@@ -68,9 +68,9 @@ pub data ReadsFrom (g : Grammar) : ℕ → List Entry → List ℕ → Answer �
   whole : {offset : ℕ} {before : List Entry} {bytes rest : List ℕ} {a : Answer} (e : Entry) → IsFront e bytes rest → IsItemName e.name → (IsIn e.name (names_of_entries before) → ⊥) → IsLabelBytes g e.label →
       ReadsFrom g (offset + length (entry_bytes e)) (before ++ e ∷ []) rest a → ReadsFrom g offset before bytes a
 
--- bytes are read as a label file of a grammar with this digest: first the head, which has 36 bytes, and then the entries
-pub data Opens (g : Grammar) (digest bytes : List ℕ) : Answer → Type 0 where
-  short : length bytes < 36 → Opens g digest bytes NotLabels
-  other_start : ((rest : List ℕ) → bytes ≡ codes "WFL1" ++ rest → ⊥) → Opens g digest bytes NotLabels
-  other_digest : (found rest : List ℕ) → length found ≡ 32 → bytes ≡ head_bytes found ++ rest → found ≢ digest → Opens g digest bytes OtherSpec
-  head : {a : Answer} (rest : List ℕ) → length digest ≡ 32 → bytes ≡ head_bytes digest ++ rest → ReadsFrom g 36 [] rest a → Opens g digest bytes a
+-- bytes are read as a label file of a grammar with one of these digests: first the head, which has 36 bytes, and then the entries
+pub data Opens (g : Grammar) (digests : List (List ℕ)) (bytes : List ℕ) : Answer → Type 0 where
+  short : length bytes < 36 → Opens g digests bytes NotLabels
+  other_start : ((rest : List ℕ) → bytes ≡ codes "WFL1" ++ rest → ⊥) → Opens g digests bytes NotLabels
+  other_digest : (found rest : List ℕ) → length found ≡ 32 → bytes ≡ head_bytes found ++ rest → (IsIn found digests → ⊥) → Opens g digests bytes OtherSpec
+  head : {a : Answer} (found rest : List ℕ) → IsIn found digests → length found ≡ 32 → bytes ≡ head_bytes found ++ rest → ReadsFrom g 36 [] rest a → Opens g digests bytes a

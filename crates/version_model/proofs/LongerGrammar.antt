@@ -21,7 +21,8 @@ use Rattle.verdict_model.specs.declared.verdict.Verdict.TheVariants.{Yes}
 use Rattle.verdict_model.specs.Verdicts.{IsVerdict}
 use Rattle.verdict_model.specs.Examples.{VerdictsAreWorked}
 use Rattle.verdict_model.proofs.WorkedVerdicts.{verdicts_are_worked}
-use Rattle.version_model.specs.Versions.{IsVersion, ShowAlike}
+use Rattle.wf_model.specs.Versions.{IsVersion}
+use Rattle.version_model.specs.Versions.{ShowAlike}
 use Rattle.version_model.specs.Examples.{longer, s_alone, edge_of_s}
 use Rattle.version_model.proofs.VersionFormed.{body_back}
 use Rattle.version_model.proofs.VersionVerdicts.{version_verdict_law}

@@ -9,7 +9,7 @@ use Rattle.wf_model.specs.Linear.{IsStepOf, Continues}
 use Rattle.wf_model.specs.Reach.{Step, target_of, module_along}
 use Rattle.wf_model.specs.Routes.{IsRoute}
 use Rattle.wf_laws.proofs.Safe.{walk_same}
-use Rattle.version_model.specs.Versions.{version_of, IsVersion}
+use Rattle.wf_model.specs.Versions.{version_of, IsVersion}
 use Rattle.version_model.specs.Laws.{VersionRouteLaw}
 
 -- what is found in a list of numbers below m, or 0, is below m

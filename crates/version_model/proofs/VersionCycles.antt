@@ -11,7 +11,8 @@ use Rattle.wf_model.proofs.Walks.{walk-append, walk_one}
 use Rattle.label_model.specs.Continuing.{continuing, next_by, after}
 use Rattle.label_model.proofs.Finding.{cases_option}
 use Rattle.label_model.proofs.ContinuingSteps.{continuing_is, continuing_none, continuing_found, continuing_law, target_continues}
-use Rattle.version_model.specs.Versions.{version_of, IsVersion, GoesOnWithin}
+use Rattle.wf_model.specs.Versions.{version_of, IsVersion}
+use Rattle.version_model.specs.Versions.{GoesOnWithin}
 use Rattle.version_model.specs.Laws.{VersionCyclesLaw}
 use Rattle.version_model.proofs.SameParts.{count_productions, in_version, head_same, body_same, target_same, continues_up}
 use Rattle.version_model.proofs.VersionFormed.{formed}

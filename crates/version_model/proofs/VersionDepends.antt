@@ -19,7 +19,8 @@ use Rattle.wf_laws.proofs.Reach.{along_kept, more_started}
 use Rattle.wf_laws.proofs.Depends.{items_law, depends_law}
 use Rattle.wf_laws.proofs.Agreeing.{agree_law, route_law}
 use Rattle.verdict_model.proofs.Hiding.{open_along, along_address}
-use Rattle.version_model.specs.Versions.{version_of, IsVersion, ShowAlike}
+use Rattle.wf_model.specs.Versions.{version_of, IsVersion}
+use Rattle.version_model.specs.Versions.{ShowAlike}
 use Rattle.version_model.specs.Laws.{VersionDependsLaw}
 use Rattle.version_model.proofs.SameParts.{ins_same, outs_same, along_same}
 use Rattle.version_model.proofs.VersionFormed.{formed}

@@ -17,7 +17,7 @@ use Rattle.label_model.specs.RunLabels.{address_in, labels_by, labelled_by, labe
 use Rattle.label_model.specs.Files.{entry_bytes, entry_of, head_bytes}
 use Rattle.label_model.proofs.TakenEvents.{expansion_of}
 use Rattle.label_model.proofs.ItemLabels.{ending}
-use Rattle.version_model.specs.Versions.{version_of, IsVersion, KeepsCycles}
+use Rattle.wf_model.specs.Versions.{version_of, IsVersion, KeepsCycles}
 use Rattle.version_model.specs.Laws.{VersionLabelLaw, VersionEntriesLaw}
 use Rattle.version_model.proofs.SameParts.{in_version, production_same, ins_same, outs_same}
 use Rattle.version_model.proofs.VersionRuns.{items_by_same}

@@ -7,7 +7,7 @@ use Rattle.wf_model.specs.Grammar.{Grammar, Module, Position, Production, Inner,
 use Rattle.wf_model.specs.WellFormed.{IsInnerInput, IsInnerOutput, same_inner, IsFollowedBy, IsWellFormedBody, IsWellFormed}
 use Rattle.wf_model.proofs.Lists.{in_map, in_map_from, in_filter_from, at_in}
 use Rattle.wf_laws.proofs.Safe.{walk_same}
-use Rattle.version_model.specs.Versions.{version_of, IsVersion}
+use Rattle.wf_model.specs.Versions.{version_of, IsVersion}
 use Rattle.version_model.specs.Laws.{VersionFormedLaw}
 use Rattle.version_model.proofs.SameParts.{count_modules, count_productions, in_version, in_grammar, production_same, head_same, body_same, ins_same, outs_same, continues_up}
 

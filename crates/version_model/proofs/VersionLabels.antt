@@ -11,7 +11,7 @@ use Rattle.label_model.specs.Places.{chain_by, count_after, told, steps_from, ch
 use Rattle.label_model.proofs.Finding.{cases_option}
 use Rattle.verdict_model.specs.Telling.{Tells}
 use Rattle.verdict_model.proofs.LabelsTold.{telling_law, input_untold, output_untold}
-use Rattle.version_model.specs.Versions.{version_of, IsVersion, KeepsCycles}
+use Rattle.wf_model.specs.Versions.{version_of, IsVersion, KeepsCycles}
 use Rattle.version_model.proofs.SameParts.{in_version, in_grammar, production_same, head_same, ins_same, outs_same, target_same, step_up, step_composite, route_up, along_same}
 use Rattle.version_model.proofs.VersionFormed.{formed}
 use Rattle.version_model.proofs.VersionSteps.{alternative_same, continuing_same, continuing_composite, after_same}

@@ -4,7 +4,8 @@ use Rattle.wf_model.specs.Grammar.{Grammar}
 use Rattle.wf_model.specs.View.{View, IsSeenModule}
 use Rattle.wf_laws.proofs.Full.{full_law, safe_full_law}
 use Rattle.wf_laws.proofs.Safe.{one_test_suffices}
-use Rattle.version_model.specs.Versions.{version_of, IsVersion, ShowAlike}
+use Rattle.wf_model.specs.Versions.{version_of, IsVersion}
+use Rattle.version_model.specs.Versions.{ShowAlike}
 use Rattle.version_model.specs.Standing.{StandsIn}
 use Rattle.version_model.specs.Laws.{VersionReachLaw, VersionSafeLaw}
 use Rattle.version_model.proofs.SameParts.{in_version, in_grammar, module_in, production_same, ins_same, outs_same, seen_below}

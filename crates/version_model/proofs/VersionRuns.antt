@@ -9,7 +9,7 @@ use Rattle.wf_model.specs.Links.{input, output}
 use Rattle.wf_model.specs.Items.{dotted, input_items, output_items, edge_item, items_by, items}
 use Rattle.wf_model.proofs.Mapping.{map_same}
 use Rattle.wf_model.proofs.Runs.{made-append}
-use Rattle.version_model.specs.Versions.{version_of, IsVersion}
+use Rattle.wf_model.specs.Versions.{version_of, IsVersion}
 use Rattle.version_model.specs.Laws.{VersionRunLaw}
 use Rattle.version_model.proofs.SameParts.{in_version, in_grammar, production_same, head_same, body_same, module_same, place_below}
 

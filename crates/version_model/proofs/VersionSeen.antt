@@ -11,7 +11,8 @@ use Rattle.wf_model.specs.Routes.{IsRoute}
 use Rattle.wf_model.specs.Items.{IsMadeOpen}
 use Rattle.wf_model.proofs.Lists.{in_append_cases, at_in}
 use Rattle.wf_model.proofs.Runs.{at_named, newly-made}
-use Rattle.version_model.specs.Versions.{version_of, IsVersion, ShowAlike}
+use Rattle.wf_model.specs.Versions.{version_of, IsVersion}
+use Rattle.version_model.specs.Versions.{ShowAlike}
 use Rattle.version_model.specs.Laws.{VersionVisibleLaw}
 use Rattle.version_model.proofs.SameParts.{in_version, module_in, head_same, body_same}
 

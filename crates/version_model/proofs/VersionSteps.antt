@@ -7,7 +7,7 @@ use Rattle.wf_model.specs.Reach.{Step, target_of}
 use Rattle.label_model.specs.Continuing.{continuing, next_by, after}
 use Rattle.label_model.proofs.Finding.{cases_option}
 use Rattle.label_model.proofs.ContinuingSteps.{continuing_is, continuing_none, continuing_law, target_continues}
-use Rattle.version_model.specs.Versions.{version_of, IsVersion, KeepsCycles}
+use Rattle.wf_model.specs.Versions.{version_of, IsVersion, KeepsCycles}
 use Rattle.version_model.specs.Laws.{VersionStepLaw}
 use Rattle.version_model.proofs.SameParts.{in_version, head_same, target_same, continues_up, step_composite}
 use Rattle.version_model.proofs.VersionFormed.{formed, version_formed_law}

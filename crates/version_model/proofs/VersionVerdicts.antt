@@ -21,7 +21,8 @@ use Rattle.verdict_model.specs.Verdicts.{IsHidden, AreShown, AreClashing, HasBot
 use Rattle.verdict_model.proofs.Answering.{one_answer_law}
 use Rattle.verdict_model.proofs.BothLabels.{both_law}
 use Rattle.verdict_model.proofs.Keeping.{labelled_item, visible_shown}
-use Rattle.version_model.specs.Versions.{version_of, IsVersion, KeepsCycles, ShowAlike}
+use Rattle.wf_model.specs.Versions.{version_of, IsVersion, KeepsCycles}
+use Rattle.version_model.specs.Versions.{ShowAlike}
 use Rattle.version_model.specs.Laws.{VersionVerdictLaw}
 use Rattle.version_model.proofs.SameParts.{along_same}
 use Rattle.version_model.proofs.VersionRuns.{version_run_law}

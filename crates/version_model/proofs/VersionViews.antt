@@ -8,7 +8,7 @@ use Rattle.wf_model.specs.View.{View, shows, IsShownByDefault}
 use Rattle.wf_model.specs.Composite.{is_composite}
 use Rattle.wf_model.proofs.Lists.{some_gives, some-filter}
 use Rattle.wf_model.proofs.Composites.{composite_gives, composite_is}
-use Rattle.version_model.specs.Versions.{version_of, IsVersion}
+use Rattle.wf_model.specs.Versions.{version_of, IsVersion}
 use Rattle.version_model.specs.Laws.{VersionViewLaw}
 use Rattle.version_model.proofs.SameParts.{count_modules, in_version, in_grammar, head_same, ins_same, outs_same}
 

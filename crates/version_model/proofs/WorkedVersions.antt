@@ -6,7 +6,7 @@ use Rattle.wf_model.specs.Linear.{IsOnCycle}
 use Rattle.wf_laws.specs.LineGrammar.{line}
 use Rattle.label_model.specs.Continuing.{derives_within, derives, continuing}
 use Rattle.label_model.specs.RunLabels.{address_in}
-use Rattle.version_model.specs.Versions.{version_of, IsVersion, GetsOnCycle, KeepsCycles}
+use Rattle.wf_model.specs.Versions.{version_of, IsVersion, GetsOnCycle, KeepsCycles}
 use Rattle.version_model.specs.Examples.{longer, closed, VersionsAreWorked}
 use Rattle.version_model.proofs.LongerGrammar.{Rises, not_on_cycle, longer_rises, p_and_q, longer_version, longer_formed, longer_proper, longer_linear, longer_safe, longer_alike, longer_verdict}
 

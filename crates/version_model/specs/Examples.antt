@@ -14,7 +14,8 @@ use Rattle.label_model.specs.RunLabels.{labelled}
 use Rattle.label_model.specs.Files.{entries_of}
 use Rattle.verdict_model.specs.declared.verdict.Verdict.TheVariants.{Yes}
 use Rattle.verdict_model.specs.Verdicts.{IsVerdict}
-use Rattle.version_model.specs.Versions.{version_of, IsVersion, GetsOnCycle, KeepsCycles, ShowAlike}
+use Rattle.wf_model.specs.Versions.{version_of, IsVersion, GetsOnCycle, KeepsCycles}
+use Rattle.version_model.specs.Versions.{ShowAlike}
 
 -- as the line grammar, with a module R that has input x and output y; Q is expanded to z of R
 abbrev pub longer : Grammar

@@ -15,13 +15,16 @@ use Rattle.wf_model.specs.Reach.{Step, module_along, Reaches}
 use Rattle.wf_model.specs.Routes.{IsRoute, Agree}
 use Rattle.wf_model.specs.OpenRoutes.{IsOpenRoute}
 use Rattle.label_model.specs.Continuing.{continuing}
+use Rattle.report_model.specs.Reports.{Report}
+use Rattle.report_model.specs.Intake.{Intake, GoesOn, intake}
 use Rattle.label_model.specs.Labels.{Label, IsLabel}
 use Rattle.label_model.specs.RunLabels.{HasLabel}
 use Rattle.label_model.specs.Files.{entries_of, label_file}
 use Rattle.verdict_model.specs.declared.verdict.Verdict.{Verdict}
 use Rattle.verdict_model.specs.Telling.{Tells}
 use Rattle.verdict_model.specs.Verdicts.{IsVerdict}
-use Rattle.version_model.specs.Versions.{version_of, IsVersion, GetsOnCycle, KeepsCycles, GoesOnWithin, ShowAlike}
+use Rattle.wf_model.specs.Versions.{version_of, IsVersion, GetsOnCycle, KeepsCycles}
+use Rattle.version_model.specs.Versions.{GoesOnWithin, ShowAlike}
 
 -- a version of a well-formed grammar is well-formed, and that of a strictly linear one is strictly linear
 abbrev pub VersionFormedLaw : Type 0
@@ -41,6 +44,11 @@ VersionRunLaw =
       each : (k : ℕ) → k < m → (events : List Event) → IsRun (version_of g m p) k events → IsRunOfBoth g m p k events;
       accepted : (limit : ℕ) (events : List Event) → IsAccepted (version_of g m p) limit events → IsAccepted g limit events;
     }
+
+-- reports that the intake of a version takes whole, that of the grammar takes whole, to the same state
+abbrev pub VersionReportsLaw : Type 0
+VersionReportsLaw =
+    (g : Grammar) (m p most : ℕ) → IsVersion g m p → (reports : List Report) (s : Intake) → intake (version_of g m p) most reports ≡ GoesOn s → intake g most reports ≡ GoesOn s
 
 -- a route of a version is one of the grammar, and leads to the same module
 abbrev pub VersionRouteLaw : Type 0

@@ -1,5 +1,5 @@
 // Laws of the versions of a grammar: each is the contract of a function that does nothing.
-ghost use Rattle.version_model.specs.Laws.{VersionCyclesLaw, VersionDependsLaw, VersionEntriesLaw, VersionFormedLaw, VersionLabelLaw, VersionReachLaw, VersionRouteLaw, VersionRunLaw, VersionSafeLaw, VersionStepLaw, VersionVerdictLaw, VersionViewLaw, VersionVisibleLaw};
+ghost use Rattle.version_model.specs.Laws.{VersionCyclesLaw, VersionDependsLaw, VersionEntriesLaw, VersionFormedLaw, VersionLabelLaw, VersionReachLaw, VersionReportsLaw, VersionRouteLaw, VersionRunLaw, VersionSafeLaw, VersionStepLaw, VersionVerdictLaw, VersionViewLaw, VersionVisibleLaw};
 ghost use Rattle.version_model.specs.Standing.{StandingLaw, StandingRouteLaw};
 
 /// Where all that one grammar shows under a view stands in another, their productions induce the same pairs, and the same is reached along open routes.
@@ -20,6 +20,11 @@ pub fn version_formed_law()
 /// A run of a version is a run of the grammar, with the same instances and items, and is accepted if it was.
 pub fn version_run_law()
     ensures { VersionRunLaw }
+{}
+
+/// Reports that the intake of a version takes whole, that of the grammar takes whole, to the same state.
+pub fn version_reports_law()
+    ensures { VersionReportsLaw }
 {}
 
 /// A route of a version is a route of the grammar to the same module.

@@ -1,4 +1,4 @@
-use Rattle.std.proofs.Common.{◌≡◌, ◌∙◌, None, is_some, ap, sym, subst}
+use Rattle.std.proofs.Common.{◌∙◌, is_some, ap, sym, subst}
 use Rattle.label_file.specs.Hashed.{AreHashed}
 use Rattle.label_file.specs.Adding.{held}
 use Rattle.label_file.proofs.NamedEntries.{held-insert_entry, hashed-insert_entry, insert_entry-named, lookup-named, none_held, tells_held}
