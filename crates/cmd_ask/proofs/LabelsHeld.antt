@@ -1,7 +1,7 @@
 -- What holds the entries of a label file is a store.
 use Rattle.std.proofs.Common.{ℕ, List, sym, subst}
 use Rattle.wf_model.specs.Lists.{AllDiffer}
-use Rattle.wf_model.specs.Grammar.{Grammar}
+use Rattle.wf_spec.specs.Held.{HeldGrammar}
 use Rattle.label_model.specs.Files.{Entry}
 use Rattle.label_file.specs.Stored.{EntryHeld, AreHeldOf, IsStoreFor}
 use Rattle.label_file.proofs.ReadSoFar.{names_same}
@@ -10,8 +10,8 @@ use Rattle.wf_inputs.specs.LabelsTold.{TellsEntries}
 use Rattle.wf_inputs.proofs.OneLabels.{told_differ}
 
 -- what holds the entries of a label file is a store of the grammar
-pub store_for : (g : Grammar) (bytes : List ℕ) (entries : List Entry) (hs : List EntryHeld) → TellsEntries g bytes entries → AreHeldOf g entries hs → IsStoreFor g hs
-store_for g bytes entries hs told held = record {
-  labels = λ h i. (held_from g entries hs held h i).2.label;
-  differ = subst AllDiffer (sym (names_same g entries hs held)) (told_differ g bytes entries told);
+pub store_for : (h : HeldGrammar) (bytes : List ℕ) (entries : List Entry) (hs : List EntryHeld) → TellsEntries h bytes entries → AreHeldOf h.core entries hs → IsStoreFor h.core hs
+store_for h bytes entries hs told held = record {
+  labels = λ x i. (held_from h.core entries hs held x i).2.label;
+  differ = subst AllDiffer (sym (names_same h.core entries hs held)) (told_differ h bytes entries told);
 }

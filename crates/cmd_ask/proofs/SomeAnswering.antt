@@ -23,17 +23,17 @@ some_queries_stage Answers some queries = let r = some_answers Answers some (lin
 
 some_trace : (spec view events queries : File) → HasOutcome (Traces spec view events queries)
 some_trace spec view events queries =
-    some_spec_stage spec _ (λ g p.
-    some_view_stage spec.bytes g p view _ (λ u q.
-    some_events g instance_most (lines_in events) (λ r. []) _ (λ r told.
-    some_queries_stage (IsAnswerOfRun g u r) (some_run_word g u (told_formed spec.bytes g p) (told_proper spec.bytes g p) (told_composites g (told_formed spec.bytes g p) view.bytes u q) q.safe r (events_accepted g instance_most (lines_in events) r told).0) queries)))
+    some_spec_stage spec _ (λ h p.
+    some_view_stage spec.bytes h p view _ (λ u q.
+    some_events h.core instance_most (lines_in events) (λ r. []) _ (λ r told.
+    some_queries_stage (IsAnswerOfRun h.core u r) (some_run_word h.core u (told_formed spec.bytes h p) (told_proper spec.bytes h p) (told_composites h.core (told_formed spec.bytes h p) view.bytes u q) q.safe r (events_accepted h.core instance_most (lines_in events) r told).0) queries)))
 
 some_ask : (spec view labels queries : File) → HasOutcome (Asks spec view labels queries)
 some_ask spec view labels queries =
-    some_spec_stage spec _ (λ g p.
-    some_view_stage spec.bytes g p view _ (λ u q.
-    some_labels_stage g labels _ (λ es told.
-    some_queries_stage (IsAnswerText g u es) (some_word g u (told_formed spec.bytes g p) (told_proper spec.bytes g p) (told_composites g (told_formed spec.bytes g p) view.bytes u q) q.safe es (told_labels g labels.bytes es told)) queries)))
+    some_spec_stage spec _ (λ h p.
+    some_view_stage spec.bytes h p view _ (λ u q.
+    some_labels_stage h labels _ (λ es told.
+    some_queries_stage (IsAnswerText h.core u es) (some_word h.core u (told_formed spec.bytes h p) (told_proper spec.bytes h p) (told_composites h.core (told_formed spec.bytes h p) view.bytes u q) q.safe es (told_labels h labels.bytes es told)) queries)))
 
 pub some_answering : (files : List ℕ → File) (c : Command) → HasOutcome (Does files c)
 some_answering files (Trace a b c q) = some_trace (files a) (files b) (files c) (files q)

@@ -2,6 +2,7 @@
 use Rattle.std.specs.Prelude.{◌≡◌, ℕ, List, [], Some, codes}
 use Rattle.wf_model.specs.Grammar.{Grammar}
 use Rattle.wf_model.specs.View.{View}
+use Rattle.wf_spec.specs.Held.{HeldGrammar}
 use Rattle.wf_io.specs.Told.{File}
 use Rattle.wf_io.specs.Lines.{lines_in}
 use Rattle.wf_query.specs.Answers.{IsAnswerText}
@@ -38,15 +39,15 @@ AnswersView g view events queries = ViewStage g view (λ u. AnswersRun g u event
 
 -- `trace` over the four files
 abbrev pub Traces : File → File → File → File → End → List ℕ → Type 0
-Traces spec view events queries = SpecStage spec (λ g. AnswersView g view events queries)
+Traces spec view events queries = SpecStage spec (λ h. AnswersView h.core view events queries)
 
 -- LABELS and QUERIES under a view
-abbrev pub AnswersLabels : Grammar → View → File → File → End → List ℕ → Type 0
-AnswersLabels g u labels queries = Stage labels_kind [] labels (TellsEntries g) (OfWhole (RefusesLabels g)) (λ entries. QueriesStage (IsAnswerText g u entries) queries)
+abbrev pub AnswersLabels : HeldGrammar → View → File → File → End → List ℕ → Type 0
+AnswersLabels h u labels queries = Stage labels_kind [] labels (TellsEntries h) (OfWhole (RefusesLabels h)) (λ entries. QueriesStage (IsAnswerText h.core u entries) queries)
 
 -- `ask` over the four files
 abbrev pub Asks : File → File → File → File → End → List ℕ → Type 0
-Asks spec view labels queries = SpecStage spec (λ g. ViewStage g view (λ u. AnswersLabels g u labels queries))
+Asks spec view labels queries = SpecStage spec (λ h. ViewStage h.core view (λ u. AnswersLabels h u labels queries))
 
 -- the command that a value is
 abbrev pub meant : CommandHeld → Command

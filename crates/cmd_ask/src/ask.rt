@@ -65,7 +65,7 @@ fn answer_labels<H: Shelf, O: Sink>(
     out: &mut O,
 ) -> Result<(), Stop>
     ensures obeys { Obeys H.files H.faults H.at_last O.put_bytes O.faults O.at_last []
-        (λ f. AnswersLabels v.now.spec.grammar.core v.now.view.core (f words.now.labels.now) (f words.now.queries.now))
+        (λ f. AnswersLabels v.now.spec.grammar v.now.view.core (f words.now.labels.now) (f words.now.queries.now))
         shelf.old shelf.new out.old out.new (end_after result) }
     ensures untouched { end_after result ≡ NoMemory → (O.put_bytes out.new ≡ O.put_bytes out.old) × (O.faults out.new ≡ O.faults out.old) }
 {

@@ -33,8 +33,8 @@ some_decision g u formed proper composites safe first second = by (label_either 
         (Done, verdict_text v.0 ++ codes "\n", decided x.0 y.0 (x.1, x.2) (y.1, y.2) v.0 v.1 refl refl)
 
 some_decide : (spec view : File) (first second : List ℕ) → HasOutcome (Decides spec view first second)
-some_decide spec view first second = some_spec_stage spec _ (λ g told. some_view_stage spec.bytes g told view _ (λ u shown.
-    some_decision g u (told_formed spec.bytes g told) (told_proper spec.bytes g told) (told_composites g (told_formed spec.bytes g told) view.bytes u shown) shown.safe first second))
+some_decide spec view first second = some_spec_stage spec _ (λ h told. some_view_stage spec.bytes h told view _ (λ u shown.
+    some_decision h.core u (told_formed spec.bytes h told) (told_proper spec.bytes h told) (told_composites h.core (told_formed spec.bytes h told) view.bytes u shown) shown.safe first second))
 
 pub some_deciding : (files : List ℕ → File) (c : Command) → HasOutcome (Does files c)
 some_deciding files (Decide a b x y) = some_decide (files a) (files b) x y

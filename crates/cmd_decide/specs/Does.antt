@@ -11,7 +11,7 @@ use Rattle.cmd_decide.specs.Decided.{DecidesLabels}
 
 -- `decide` over SPEC and VIEW, with the bytes of two labels
 abbrev pub Decides : File → File → List ℕ → List ℕ → End → List ℕ → Type 0
-Decides spec view first second = SpecStage spec (λ g. ViewStage g view (λ u. DecidesLabels g u first second))
+Decides spec view first second = SpecStage spec (λ h. ViewStage h.core view (λ u. DecidesLabels h.core u first second))
 
 -- the command that a value is
 abbrev pub meant : CommandHeld → Command

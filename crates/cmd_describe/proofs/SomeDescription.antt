@@ -44,11 +44,11 @@ some_view_text g u formed proper composites safe =
     (Done, view_text_of g u (seen_test g u) full.0, (refl, (seen_test g u, full.0, seen_told g u, full.1, refl)))
 
 some_check : (spec : File) → HasOutcome (Checks spec)
-some_check spec = some_spec_stage spec IsChecked (λ g told. some_text g (told_formed spec.bytes g told) (told_proper spec.bytes g told) (told_linear spec.bytes g told))
+some_check spec = some_spec_stage spec (λ h. IsChecked h.core) (λ h told. some_text h.core (told_formed spec.bytes h told) (told_proper spec.bytes h told) (told_linear spec.bytes h told))
 
 some_view : (spec view : File) → HasOutcome (Views spec view)
-some_view spec view = some_spec_stage spec _ (λ g told. some_view_stage spec.bytes g told view (IsViewWritten g) (λ u shown.
-    some_view_text g u (told_formed spec.bytes g told) (told_proper spec.bytes g told) (told_composites g (told_formed spec.bytes g told) view.bytes u shown) shown.safe))
+some_view spec view = some_spec_stage spec _ (λ h told. some_view_stage spec.bytes h told view (IsViewWritten h.core) (λ u shown.
+    some_view_text h.core u (told_formed spec.bytes h told) (told_proper spec.bytes h told) (told_composites h.core (told_formed spec.bytes h told) view.bytes u shown) shown.safe))
 
 pub some_description : (files : List ℕ → File) (c : Command) → HasOutcome (Does files c)
 some_description files (Check a) = some_check (files a)

@@ -20,7 +20,7 @@ IsChecked g ending text = (ending ≡ Done) × ((r : Ranking) × (c : CyclesSeen
 
 -- `check` over SPEC: the text of its grammar
 abbrev pub Checks : File → End → List ℕ → Type 0
-Checks spec = SpecStage spec IsChecked
+Checks spec = SpecStage spec (λ h. IsChecked h.core)
 
 -- the seen modules, with the pairs that each of their expansions joins, are written
 abbrev pub IsViewWritten : Grammar → ViewOf → End → List ℕ → Type 0
@@ -29,7 +29,7 @@ IsViewWritten g u ending text =
 
 -- `view` over SPEC and VIEW: the text of the view
 abbrev pub Views : File → File → End → List ℕ → Type 0
-Views spec view = SpecStage spec (λ g. ViewStage g view (IsViewWritten g))
+Views spec view = SpecStage spec (λ h. ViewStage h.core view (IsViewWritten h.core))
 
 -- the command that a value is
 abbrev pub meant : CommandHeld → Command

@@ -13,8 +13,8 @@ use Rattle.cmd_ingest.specs.Does.{Ingests, Does}
 
 some_ingest : (spec events : File) → HasOutcome (Ingests spec events)
 some_ingest spec events =
-    some_spec_stage spec _ (λ g told.
-    some_events g instance_most (lines_in events) (file_of g) (WritesFile g) (λ es run. (Done, file_of g es, (refl, refl))))
+    some_spec_stage spec _ (λ h told.
+    some_events h.core instance_most (lines_in events) (file_of h.core) (WritesFile h.core) (λ es run. (Done, file_of h.core es, (refl, refl))))
 
 pub some_ingestion : (files : List ℕ → File) (c : Command) → HasOutcome (Does files c)
 some_ingestion files (Ingest a b) = some_ingest (files a) (files b)

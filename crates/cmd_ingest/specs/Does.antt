@@ -12,7 +12,7 @@ use Rattle.cmd_ingest.specs.Ingested.{file_of, WritesFile}
 
 -- `ingest` over SPEC and EVENTS: the label file of the events that are taken, up to where EVENTS ends the program
 abbrev pub Ingests : File → File → End → List ℕ → Type 0
-Ingests spec events = SpecStage spec (λ g. EventsStage g instance_most (lines_in events) (file_of g) (WritesFile g))
+Ingests spec events = SpecStage spec (λ h. EventsStage h.core instance_most (lines_in events) (file_of h.core) (WritesFile h.core))
 
 -- the command that a value is
 abbrev pub meant : CommandHeld → Command

@@ -20,15 +20,15 @@ some_written text = (Done, text, (refl, refl))
 
 some_export : (spec view events : File) → HasOutcome (Exports spec view events)
 some_export spec view events =
-    some_spec_stage spec _ (λ g p. some_view_stage spec.bytes g p view _ (λ u q. some_events g instance_most (lines_in events) (λ r. []) _ (λ r told. some_written _)))
+    some_spec_stage spec _ (λ h p. some_view_stage spec.bytes h p view _ (λ u q. some_events h.core instance_most (lines_in events) (λ r. []) _ (λ r told. some_written _)))
 
 some_gen : (spec : File) (n seed : ℕ) → HasOutcome (Generates spec n seed)
-some_gen spec n seed = some_spec_stage spec _ (λ g p. some_written _)
+some_gen spec n seed = some_spec_stage spec _ (λ h p. some_written _)
 
 some_drill : (spec view : File) (n seed : ℕ) → HasOutcome (Drills spec view n seed)
 some_drill spec view n seed =
-    some_spec_stage spec _ (λ g p. some_view_stage spec.bytes g p view _ (λ u q.
-    some_drilled g u (told_formed spec.bytes g p) (told_proper spec.bytes g p) (told_composites g (told_formed spec.bytes g p) view.bytes u q) q.safe n seed))
+    some_spec_stage spec _ (λ h p. some_view_stage spec.bytes h p view _ (λ u q.
+    some_drilled h.core u (told_formed spec.bytes h p) (told_proper spec.bytes h p) (told_composites h.core (told_formed spec.bytes h p) view.bytes u q) q.safe n seed))
 
 pub some_making : (files : List ℕ → File) (c : Command) → HasOutcome (Does files c)
 some_making files (Export s v e) = some_export (files s) (files v) (files e)

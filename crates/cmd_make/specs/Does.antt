@@ -27,7 +27,7 @@ ExportsView g u events = EventsStage g instance_most (lines_in events) (λ es. [
 
 -- `export` over the three files
 abbrev pub Exports : File → File → File → End → List ℕ → Type 0
-Exports spec view events = SpecStage spec (λ g. ViewStage g view (λ u. ExportsView g u events))
+Exports spec view events = SpecStage spec (λ h. ViewStage h.core view (λ u. ExportsView h.core u events))
 
 -- the events of the run of a grammar that a number of expansions and a seed give, as lines
 abbrev pub generated_text : Grammar → ℕ → ℕ → List ℕ
@@ -35,11 +35,11 @@ generated_text g n seed = event_lines (generated g n seed instance_most).events
 
 -- `gen` over SPEC
 abbrev pub Generates : File → ℕ → ℕ → End → List ℕ → Type 0
-Generates spec n seed = SpecStage spec (λ g. IsWritten (generated_text g n seed))
+Generates spec n seed = SpecStage spec (λ h. IsWritten (generated_text h.core n seed))
 
 -- `drill` over SPEC and VIEW
 abbrev pub Drills : File → File → ℕ → ℕ → End → List ℕ → Type 0
-Drills spec view n seed = SpecStage spec (λ g. ViewStage g view (λ u. IsDrilled g u n seed))
+Drills spec view n seed = SpecStage spec (λ h. ViewStage h.core view (λ u. IsDrilled h.core u n seed))
 
 -- the command that a value is
 abbrev pub meant : CommandHeld → Command

@@ -8,8 +8,8 @@ use Rattle.label_file.proofs.ReadSoFar.{names_same}
 use Rattle.wf_query.proofs.Entries.{held_from}
 
 -- what is held of a label file of a grammar is a store of the grammar
-pub opened_fits : (g : Grammar) (digest bytes : List ℕ) (hs : List EntryHeld) → IsStoreOf g digest bytes hs → IsStoreFor g hs
-opened_fits g digest bytes hs s = record {
+pub opened_fits : (g : Grammar) (digests : List (List ℕ)) (bytes : List ℕ) (hs : List EntryHeld) → IsStoreOf g digests bytes hs → IsStoreFor g hs
+opened_fits g digests bytes hs s = record {
   labels = λ h i. (held_from g s.entries hs s.held h i).2.label;
-  differ = subst AllDiffer (sym (names_same g s.entries hs s.held)) (opened_differ g digest bytes s.entries s.read);
+  differ = subst AllDiffer (sym (names_same g s.entries hs s.held)) (opened_differ g digests bytes s.entries s.read);
 }

@@ -1,10 +1,10 @@
 -- What contracts see of a label file that was opened, and what it was opened from.
 use Rattle.std.specs.Prelude.{◌≡◌, ◌≤◌, ℕ, List}
-use Rattle.sha2.specs.Sha256.{sha256}
 use Rattle.wf_model.specs.Grammar.{Grammar}
 use Rattle.wf_model.specs.View.{View}
 use Rattle.label_model.specs.Files.{Entry, Accepted, Opens}
-use Rattle.wf_json.specs.Canonical.{canonical_of}
+use Rattle.wf_spec.specs.Held.{HeldGrammar}
+use Rattle.wf_json.specs.Digests.{digests_of}
 use Rattle.label_file.specs.Stored.{EntryHeld, AreHeldOf, IsStoreFor}
 use Rattle.wf_vlabel.specs.Seen.{ViewLabelSeen, IsLabelOfView}
 use Rattle.wf_decode.specs.Reading.{most_legs}
@@ -25,6 +25,6 @@ pub record IsOpenedFrom (d : DeciderSeen) (g : Grammar) (u : View) (entries : Li
   pub view : IsLabelOfView d.label u
   pub held : AreHeldOf g entries d.held
 
--- the bytes are a label file of the grammar, by the digest of its canonical text, and it was opened with the entries that they tell
-abbrev pub IsOpened : Grammar → View → List ℕ → DeciderSeen → Type 0
-IsOpened g u bytes d = (entries : List Entry) × Opens g (sha256 (canonical_of g)) bytes (Accepted entries) × IsOpenedFrom d g u entries
+-- the bytes are a label file of the grammar or of one of its earlier versions, by the digests of their canonical texts, and it was opened with the entries that they tell
+abbrev pub IsOpened : HeldGrammar → View → List ℕ → DeciderSeen → Type 0
+IsOpened h u bytes d = (entries : List Entry) × Opens h.core (digests_of h) bytes (Accepted entries) × IsOpenedFrom d h.core u entries

@@ -1,12 +1,11 @@
 // A label file that is opened once, and pairs of its items that are decided.
 ghost use Rattle.std.specs.Prelude.{◌≡◌, ◌^◌, ◌<◌, ◌≤◌, List, length, IfOk, IfErr};
-ghost use Rattle.sha2.specs.Sha256.{sha256};
 ghost use Rattle.wf_model.specs.Grammar.{Grammar as GrammarSeen};
 ghost use Rattle.wf_model.specs.Linear.{IsLinear};
 ghost use Rattle.wf_model.specs.Proper.{IsProper};
 ghost use Rattle.wf_model.specs.View.{View as ViewSeen};
 ghost use Rattle.label_model.specs.Files.{Entry};
-ghost use Rattle.wf_json.specs.Canonical.{canonical_of};
+ghost use Rattle.wf_json.specs.Digests.{digests_of};
 ghost use Rattle.wf_recur.specs.Cycles.{AreCyclesOf};
 ghost use Rattle.wf_view.specs.Held.{IsHeldFor};
 ghost use Rattle.wf_safe.specs.Full.{AreFullRows};
@@ -23,7 +22,7 @@ use std::alloc::Global;
 use std::marker::{Brand, Model};
 use std::sync::ledger::{Blank, Ledger};
 use wf_decode::Scratch;
-use wf_json::digest;
+use wf_json::digests;
 use wf_query::{Answer, Query, answer};
 use wf_recur::Cycles;
 use wf_safe::FullDeps;
@@ -71,11 +70,11 @@ fn answer_counted<L: Ledger>(
 }
 
 impl<'a> Decider<'a> {
-    /// Opens a label file of a proper, strictly linear grammar under a safe view of it. `cycles` are the cycles of the grammar, and `full` has the pairs that each expansion of a seen module joins.
+    /// Opens a label file of a proper, strictly linear grammar, or of an earlier version of it that keeps its cycles, under a safe view of the grammar. `cycles` are the cycles of the grammar, and `full` has the pairs that each expansion of a seen module joins.
     ///
     /// Refused with the first fault of the bytes, in the order of `StoreFault`. `NoMemory` may come at any time.
     ///
-    /// Cost: those of `digest`, `Store::open` and `ViewLabel::build`.
+    /// Cost: those of `digests`, `Store::open` and `ViewLabel::build`.
     pub fn open(
         alloc: Global,
         g: &'a Grammar,
@@ -90,10 +89,10 @@ impl<'a> Decider<'a> {
         requires view { IsHeldFor g.now.core view.now }
         requires full { AreFullRows g.now.core view.now.core full.now }
         requires few { length bytes.now ≤ 2 ^ 30 }
-        ensures opened { IfOk result (λ d. IsOpened g.now.core view.now.core bytes.now d) }
-        ensures refused { IfErr result (λ f. IsStoreFault g.now.core (sha256 (canonical_of g.now.core)) bytes.now f) }
+        ensures opened { IfOk result (λ d. IsOpened g.now view.now.core bytes.now d) }
+        ensures refused { IfErr result (λ f. IsStoreFault g.now.core (digests_of g.now) bytes.now f) }
     {
-        let store = Store::open(alloc, g, cycles, &digest(alloc, g)?, bytes)?;
+        let store = Store::open(alloc, g, cycles, &digests(alloc, g)?, bytes)?;
         let label = ViewLabel::build(alloc, g, cycles, view, full)?;
         let scratch = Scratch::for_view(alloc, &label)?;
         Ok(Decider {

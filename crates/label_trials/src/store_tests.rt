@@ -6,8 +6,8 @@ use std::alloc::{AllocError, Global};
 use std::test::Fail;
 use wf_samples::{LINE, sample};
 
-/// A digest of 32 bytes.
-const DIGEST: [u8; 32] = [0xab; 32];
+/// The digests of a grammar and of an earlier version of it: the file has that of the version.
+const DIGESTS: [[u8; 32]; 2] = [[0xcd; 32], [0xab; 32]];
 
 /// Each line: the least and the greatest of some lengths, how many entries a file has that is cut there, and why it is refused.
 const CUT: [(usize, usize, u32, Option<StoreFault>); 7] = [
@@ -34,7 +34,7 @@ fn file(alloc: Global) -> Result<Vec<u8>, AllocError>
     ensures { IfOk result (λ v. length v.items ≡ 58) }
 {
     let mut bytes = Vec::from_slice(alloc, b"WFL1")?;
-    bytes.extend_from_slice(&DIGEST)?;
+    bytes.extend_from_slice(&DIGESTS[1])?;
     bytes.extend_from_slice(b"\x03r.a\x00\x01\x20")?;
     bytes.extend_from_slice(b"\x03r.b\x00\x01\x60")?;
     bytes.extend_from_slice(b"\x04i1.y\x00\x01\xb0")?;
@@ -77,7 +77,7 @@ fn opened(alloc: Global, bytes: &[u8]) -> Result<(u32, bool, Option<StoreFault>)
     requires { length bytes.now ≤ 2 ^ 30 }
 {
     let s = sample(alloc, LINE)?;
-    match Store::open(alloc, &s.grammar, &s.cycles, &DIGEST, bytes) {
+    match Store::open(alloc, &s.grammar, &s.cycles, &DIGESTS, bytes) {
         Ok(store) => Ok((store.length(), are_entries(&store), None)),
         Err(fault) => Ok((0, false, Some(fault))),
     }

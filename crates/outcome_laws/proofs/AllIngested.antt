@@ -3,6 +3,7 @@ use Rattle.std.proofs.Common.{◌≡◌, ℕ, List}
 use Rattle.wf_model.specs.declared.event.Event.{Event}
 use Rattle.wf_model.specs.Grammar.{Grammar}
 use Rattle.report_model.specs.Intake.{Intake, ReportFault, Conflict, Refused as RefusedByRun, Orphan}
+use Rattle.wf_spec.specs.Held.{HeldGrammar}
 use Rattle.wf_io.specs.Told.{File}
 use Rattle.wf_io.specs.Lines.{FileLines, lines_in}
 use Rattle.wf_message.specs.Endings.{Done}
@@ -15,11 +16,11 @@ use Rattle.cmd_ingest.specs.Does.{Ingests}
 
 -- SPEC tells a grammar, all of EVENTS was taken, and what was written is the label file of its events
 pub record IsIngested (spec events : File) (text : List ℕ) : Type 0 where
-  pub grammar : Grammar
+  pub grammar : HeldGrammar
   pub told : IsTold spec_kind spec TellsGrammar grammar
   pub es : List Event
-  pub run : TellsEvents grammar instance_most (lines_in events) es
-  pub is : text ≡ file_of grammar es
+  pub run : TellsEvents grammar.core instance_most (lines_in events) es
+  pub is : text ≡ file_of grammar.core es
 
 -- the events of the run that all lines tell, and its label file
 record AllTaken (g : Grammar) (events : File) (text : List ℕ) : Type 0 where
@@ -49,6 +50,6 @@ pub all_ingested : (spec events : File) (text : List ℕ) → Ingests spec event
 all_ingested spec events text (too_long l x y) = absurd (cc)
 all_ingested spec events text (broken l b x y) = absurd (cc)
 all_ingested spec events text (refused l b line fault r x y) = absurd (cc)
-all_ingested spec events text (goes_on l b g told next) =
-    let taken = events_taken g events text next in
-    record { grammar = g; told = record { short = l; whole = b; tells = told }; es = taken.es; run = taken.run; is = taken.is }
+all_ingested spec events text (goes_on l b h told next) =
+    let taken = events_taken h.core events text next in
+    record { grammar = h; told = record { short = l; whole = b; tells = told }; es = taken.es; run = taken.run; is = taken.is }

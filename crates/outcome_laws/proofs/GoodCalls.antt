@@ -5,6 +5,7 @@ use Rattle.wf_model.specs.declared.event.Event.{Event}
 use Rattle.wf_model.specs.Grammar.{Grammar}
 use Rattle.wf_model.specs.Lists.{IsIn}
 use Rattle.wf_model.specs.View.{View as ViewOf}
+use Rattle.wf_spec.specs.Held.{HeldGrammar}
 use Rattle.wf_io.specs.Told.{File, Appended}
 use Rattle.wf_io.specs.Lines.{Line, FileLines, Tail, AtEnd, Broken, LongFile, lines_in}
 use Rattle.label_model.specs.Files.{Entry}
@@ -49,9 +50,9 @@ use Rattle.outcome_laws.specs.GoodCalls.{HasGrammar, HasView, HasEntries, IsQuer
 use Rattle.outcome_laws.proofs.OutcomeLaws.{one_outcome_law}
 
 -- the stage of a good SPEC goes on with its grammar
-pub spec_goes_on : (spec : File) (g : Grammar) → HasGrammar spec g → (Next : Grammar → End → List ℕ → Type 0) (e : End) (t : List ℕ) → SpecStage spec Next e t → Next g e t
-spec_goes_on spec g has Next =
-    stage_goes_on spec_kind [] spec TellsGrammar (OfWhole RefusesSpec) Next g has.short has.whole (λ b told. one_grammar spec.bytes g b has.tells told) (λ l x r. no_refusal spec.bytes x g has.tells r.1)
+pub spec_goes_on : (spec : File) (h : HeldGrammar) → HasGrammar spec h → (Next : HeldGrammar → End → List ℕ → Type 0) (e : End) (t : List ℕ) → SpecStage spec Next e t → Next h e t
+spec_goes_on spec h has Next =
+    stage_goes_on spec_kind [] spec TellsGrammar (OfWhole RefusesSpec) Next h has.short has.whole (λ b told. one_grammar spec.bytes h b has.tells told) (λ l x r. no_refusal spec.bytes x h has.tells r.1)
 
 -- so does that of a good VIEW
 view_goes_on : (g : Grammar) (view : File) (u : ViewOf) → HasView g view u → (Next : ViewOf → End → List ℕ → Type 0) (e : End) (t : List ℕ) → ViewStage g view Next e t → Next u e t
@@ -59,9 +60,9 @@ view_goes_on g view u has Next =
     stage_goes_on view_kind [] view (TellsView g) (OfWhole (RefusesView g)) Next u has.short has.whole (λ b told. one_view g view.bytes u b has.tells told) (λ l x r. no_refusal_of_view g view.bytes x u has.tells r.1)
 
 -- so does that of good LABELS
-labels_go_on : (g : Grammar) (u : ViewOf) (labels queries : File) (has : HasEntries g labels) (e : End) (t : List ℕ) → AnswersLabels g u labels queries e t → QueriesStage (IsAnswerText g u has.0) queries e t
-labels_go_on g u labels queries has =
-    stage_goes_on labels_kind [] labels (TellsEntries g) (OfWhole (RefusesLabels g)) (λ es. QueriesStage (IsAnswerText g u es) queries) has.0 has.1.short has.1.whole (λ b told. one_entries g labels.bytes has.0 b has.1.tells told) (λ l x r. no_refusal_of_labels g labels.bytes has.0 l x has.1.tells r)
+labels_go_on : (h : HeldGrammar) (u : ViewOf) (labels queries : File) (has : HasEntries h labels) (e : End) (t : List ℕ) → AnswersLabels h u labels queries e t → QueriesStage (IsAnswerText h.core u has.0) queries e t
+labels_go_on h u labels queries has =
+    stage_goes_on labels_kind [] labels (TellsEntries h) (OfWhole (RefusesLabels h)) (λ es. QueriesStage (IsAnswerText h.core u es) queries) has.0 has.1.short has.1.whole (λ b told. one_entries h labels.bytes has.0 b has.1.tells told) (λ l x r. no_refusal_of_labels h labels.bytes has.0 l x has.1.tells r)
 
 module _ (Answers : List ℕ → List ℕ → List ℕ → Type 0) where
   -- lines that all are queries are answered to the end
@@ -85,51 +86,51 @@ labels_decided g u a b first second e t (decided x y hx hy v w p is) = p
 
 module _ (files : List ℕ → File) (e : End) (t : List ℕ) where
   described : (c : DescribeCommand) → CanDescribe files c → Describes files c e t → e ≡ Done
-  described (Check s) good h = (spec_goes_on (files s) good.0 good.1 IsChecked e t h).0
+  described (Check s) good h = (spec_goes_on (files s) good.0 good.1 (λ k. IsChecked k.core) e t h).0
   described (View s v) good h =
-      (view_goes_on good.0 (files v) good.1.1.0 good.1.1.1 (IsViewWritten good.0) e t
-      (spec_goes_on (files s) good.0 good.1.0 (λ g. ViewStage g (files v) (IsViewWritten g)) e t h)).0
+      (view_goes_on good.0.core (files v) good.1.1.0 good.1.1.1 (IsViewWritten good.0.core) e t
+      (spec_goes_on (files s) good.0 good.1.0 (λ k. ViewStage k.core (files v) (IsViewWritten k.core)) e t h)).0
 
   ingested : (c : IngestCommand) → CanIngest files c → Ingests files c e t → e ≡ Done
   ingested (IngestFiles s v) good h =
-      (events_goes_on good.0 instance_most (lines_in (files v)) (file_of good.0) (WritesFile good.0) good.2.0 good.2.1 e t
+      (events_goes_on good.0.core instance_most (lines_in (files v)) (file_of good.0.core) (WritesFile good.0.core) good.2.0 good.2.1 e t
       (spec_goes_on (files s) good.0 good.1 _ e t h)).0
 
   answered : (c : AskCommand) → CanAnswer files c → Asks files c e t → e ≡ Done
   answered (Trace s v x q) good h =
-      let g = good.0 in
+      let g = good.0.core in
       let u = good.1.1.0 in
       queries_done (IsAnswerOfRun g u good.2.0) (files q) good.3 e t
       (events_goes_on g instance_most (lines_in (files x)) (λ es. []) (λ es. QueriesStage (IsAnswerOfRun g u es) (files q)) good.2.0 good.2.1 e t
       (view_goes_on g (files v) u good.1.1.1 (λ w. AnswersRun g w (files x) (files q)) e t
-      (spec_goes_on (files s) g good.1.0 (λ k. AnswersView k (files v) (files x) (files q)) e t h)))
+      (spec_goes_on (files s) good.0 good.1.0 (λ k. AnswersView k.core (files v) (files x) (files q)) e t h)))
   answered (AskFiles s v l q) good h =
       let g = good.0 in
       let u = good.1.1.0 in
-      queries_done (IsAnswerText g u good.2.0) (files q) good.3 e t
+      queries_done (IsAnswerText g.core u good.2.0) (files q) good.3 e t
       (labels_go_on g u (files l) (files q) good.2 e t
-      (view_goes_on g (files v) u good.1.1.1 (λ w. AnswersLabels g w (files l) (files q)) e t
-      (spec_goes_on (files s) g good.1.0 (λ k. ViewStage k (files v) (λ w. AnswersLabels k w (files l) (files q))) e t h)))
+      (view_goes_on g.core (files v) u good.1.1.1 (λ w. AnswersLabels g w (files l) (files q)) e t
+      (spec_goes_on (files s) g good.1.0 (λ k. ViewStage k.core (files v) (λ w. AnswersLabels k w (files l) (files q))) e t h)))
 
   decided_too : (c : DecideCommand) → CanDecide files c → Decides files c e t → e ≡ Done
   decided_too (DecideLabels s v x y) good h =
-      let g = good.0 in
+      let g = good.0.core in
       labels_decided g good.1.1.0 x y good.2 good.3 e t
       (view_goes_on g (files v) good.1.1.0 good.1.1.1 (λ w. DecidesLabels g w x y) e t
-      (spec_goes_on (files s) g good.1.0 (λ k. ViewStage k (files v) (λ w. DecidesLabels k w x y)) e t h))
+      (spec_goes_on (files s) good.0 good.1.0 (λ k. ViewStage k.core (files v) (λ w. DecidesLabels k.core w x y)) e t h))
 
   made : (c : MakeCommand) → CanMake files c → Makes files c e t → e ≡ Done
   made (Export s v x) good h =
-      let g = good.0 in
+      let g = good.0.core in
       let u = good.1.1.0 in
       (events_goes_on g instance_most (lines_in (files x)) (λ es. []) (ExportsRun g u) good.2.0 good.2.1 e t
       (view_goes_on g (files v) u good.1.1.1 (λ w. ExportsView g w (files x)) e t
-      (spec_goes_on (files s) g good.1.0 (λ k. ViewStage k (files v) (λ w. ExportsView k w (files x))) e t h))).0
+      (spec_goes_on (files s) good.0 good.1.0 (λ k. ViewStage k.core (files v) (λ w. ExportsView k.core w (files x))) e t h))).0
   made (Gen s n seed) good h = (spec_goes_on (files s) good.0 good.1 _ e t h).0
   made (Drill s v n seed) good h =
-      let g = good.0 in
+      let g = good.0.core in
       (view_goes_on g (files v) good.1.1.0 good.1.1.1 (λ w. IsDrilled g w n seed) e t
-      (spec_goes_on (files s) g good.1.0 (λ k. ViewStage k (files v) (λ w. IsDrilled k w n seed)) e t h)).0
+      (spec_goes_on (files s) good.0 good.1.0 (λ k. ViewStage k.core (files v) (λ w. IsDrilled k.core w n seed)) e t h)).0
 
   -- a command over good files ends where all is done
   done : (c : Option Command) → AreGood files c → Does files c e t → e ≡ Done

@@ -60,9 +60,9 @@ module _ (spec events later : File) (more : List ℕ) (sealed : IsSealed events)
   all_grow d e t s (too_long l x y) q = (s, sym (ap (λ z. z ++ s) y))
   all_grow d e t s (broken l b x y) q = (s, sym (ap (λ z. z ++ s) y))
   all_grow d e t s (refused l b line fault r x y) q = (s, sym (ap (λ z. z ++ s) y))
-  all_grow d e t s (goes_on l b g told next) q =
-      lines_begin g (lines_in events) (lines_in later) (lines_go_on events later more sealed longer) d e t s next
-      (stage_goes_on spec_kind [] spec TellsGrammar (OfWhole RefusesSpec) (λ k. IsWrittenOf k (lines_in later)) g l b (λ k is. one_grammar spec.bytes g k told is) (λ n x r. no_refusal spec.bytes x g told r.1) e s q)
+  all_grow d e t s (goes_on l b h told next) q =
+      lines_begin h.core (lines_in events) (lines_in later) (lines_go_on events later more sealed longer) d e t s next
+      (stage_goes_on spec_kind [] spec TellsGrammar (OfWhole RefusesSpec) (λ k. IsWrittenOf k.core (lines_in later)) h l b (λ k is. one_grammar spec.bytes h k told is) (λ n x r. no_refusal spec.bytes x h told r.1) e s q)
 
 pub ingest_grows_law : IngestGrowsLaw
 ingest_grows_law files more_files spec events more t s d e same sealed longer first later =

@@ -1,47 +1,27 @@
--- The entries of the label file of a run: how they are read, and the items and labels that they are of.
-use Rattle.std.proofs.Common.{◌≡◌, ℕ, ◌^◌, List, [], ◌++◌, length, take_all, refl, sym, ap, ◌∙◌, subst, arith, append-nil}
-use Rattle.sha2.specs.Sha256.{sha256}
-use Rattle.sha2.proofs.Facts256.{length-sha256}
+-- The entries of the label file of a run, and the items and labels that they are of.
+use Rattle.std.proofs.Common.{◌≡◌, ℕ, ◌^◌, List, [], ◌++◌, refl, sym, ap, ◌∙◌, subst, append-nil}
 use Rattle.wf_model.specs.Lists.{IsIn}
 use Rattle.wf_model.specs.Grammar.{Grammar}
 use Rattle.wf_model.specs.WellFormed.{IsWellFormed}
-use Rattle.wf_model.specs.Linear.{IsLinear}
 use Rattle.wf_model.specs.declared.event.Event.{Event}
 use Rattle.wf_model.specs.Run.{IsAccepted}
 use Rattle.wf_model.specs.Items.{Item, items}
 use Rattle.wf_model.proofs.Lists.{in_map, in_map_from}
-use Rattle.wf_json.specs.Canonical.{canonical_of}
 use Rattle.bit_pack.specs.Bits.{Holds}
 use Rattle.bit_pack.proofs.Packing.{packed_law}
 use Rattle.label_model.specs.Labels.{Label, label_bits}
 use Rattle.label_model.specs.RunLabels.{labelled, HasLabel}
-use Rattle.label_model.specs.Files.{Entry, entry_of, entries_of, names_of_entries, Accepted}
+use Rattle.label_model.specs.Files.{Entry, entry_of, entries_of, names_of_entries}
 use Rattle.label_model.proofs.LabelBits.{whole_law}
 use Rattle.label_model.proofs.AcceptedLabels.{label_law}
-use Rattle.label_model.proofs.FileReadings.{one_reading_law}
-use Rattle.label_model.proofs.GoodFiles.{cut_law}
 use Rattle.verdict_model.proofs.Keeping.{labelled_item}
 use Rattle.wf_query.specs.Answers.{HasEntry, HasNoEntry}
-use Rattle.cmd_ingest.specs.Ingested.{file_of}
-use Rattle.wf_inputs.specs.LabelsTold.{TellsEntries}
 
 -- an entry has its name among those of all
 pub entry_named : (g : Grammar) (entries : List Entry) (n : List ℕ) (l : Label) → HasEntry g entries n l → IsIn n (names_of_entries entries)
 entry_named g entries n l h = subst (λ m. IsIn m (names_of_entries entries)) h.2 (in_map (λ (z : Entry). z.name) h.0 entries h.1)
 
 module _ (g : Grammar) (wf : IsWellFormed g) (e : List Event) (acc : IsAccepted g (2 ^ 24) e) where
-  -- the label file is read as its entries
-  pub file_opens : IsLinear g → TellsEntries g (file_of g e) (entries_of g e)
-  file_opens lin =
-      let digest = sha256 (canonical_of g) in
-      let cut = cut_law g wf lin digest (length-sha256 (canonical_of g)) e acc in
-      subst (λ b. TellsEntries g b (entries_of g e)) (take_all (length (file_of g e)) (file_of g e) (omega arith)) (cut.entries (entries_of g e) [] (sym (append-nil (entries_of g e))))
-
-  -- and as no others
-  pub file_entries : IsLinear g → (entries : List Entry) → TellsEntries g (file_of g e) entries → entries ≡ entries_of g e
-  file_entries lin entries told =
-      let same = one_reading_law g (sha256 (canonical_of g)) (file_of g e) (Accepted entries) (Accepted (entries_of g e)) told (file_opens lin) in (cc)
-
   -- an item has an entry with the bytes of its label
   pub item_entry : (t : Item) → IsIn t (items g g.start e) → (l : Label) × HasLabel g e t l × HasEntry g (entries_of g e) t.name l
   item_entry t h =

@@ -27,7 +27,8 @@ use Rattle.wf_flat.specs.Shown.{is_made_open}
 use Rattle.cmd_ask.specs.Answers.{item_named, are_visible, IsVerdictOfRun, IsShown, IsAnswerFor}
 use Rattle.outcome_laws.specs.Laws.{LabelsTellLaw}
 use Rattle.cmd_ask.proofs.NamedItems.{IsFoundBy, found_by}
-use Rattle.outcome_laws.proofs.LabelEntries.{entry_named, file_entries, item_entry, entry_item, no_entry}
+use Rattle.outcome_laws.proofs.LabelEntries.{entry_named, item_entry, entry_item, no_entry}
+use Rattle.outcome_laws.proofs.OlderFiles.{accepted_too, file_entries}
 
 module _ (g : Grammar) (u : View) (wf : IsWellFormed g) (e : List Event) (acc : IsAccepted g (2 ^ 24) e) where
   -- the test of what is made open
@@ -136,15 +137,18 @@ module _ (g : Grammar) (u : View) (wf : IsWellFormed g) (e : List Event) (acc : 
         (answer_of v.0, inr (v.0, record { x = x.0; y = y.0; first_entry = x.2; second_entry = y.2; verdict = v.1 }, refl), v.2)
 
 pub labels_tell_law : LabelsTellLaw
-labels_tell_law g u wf proper linear composites safe e acc entries told first second word =
-    let same = file_entries g wf e acc linear entries told in
-    let full = safe_full_law g u wf proper composites safe in
-    let induced = (full_law g u full.0 wf proper composites).0 full.1 in
+labels_tell_law h u viewed older one_of e taken entries told first second word =
+    let g = h.core in
+    let wf = viewed.formed in
+    let acc = accepted_too h u viewed e older one_of taken in
+    let same = file_entries h u viewed e older one_of taken entries told in
+    let full = safe_full_law g u wf viewed.proper viewed.composites viewed.safe in
+    let induced = (full_law g u full.0 wf viewed.proper viewed.composites).0 full.1 in
     let a = item_named (items g g.start e) first in
     let b = item_named (items g g.start e) second in
     let found = found_by (items g g.start e) first in
     let found_too = found_by (items g g.start e) second in (
-      (λ h more f. labels_give g u wf e acc full.0 induced first second word more f a b found found_too (subst (λ es. IsAnswerText g u es first second word) same h)),
-      (λ h. let f = finishing_law g u proper composites g.start e acc.0 in
-          subst (λ es. IsAnswerText g u es first second word) (sym same) (labels_take g u wf e acc full.0 induced first second word f.0 f.1 a b found found_too (h f.0 f.1))),
+      (λ w more f. labels_give g u wf e acc full.0 induced first second word more f a b found found_too (subst (λ es. IsAnswerText g u es first second word) same w)),
+      (λ w. let f = finishing_law g u viewed.proper viewed.composites g.start e acc.0 in
+          subst (λ es. IsAnswerText g u es first second word) (sym same) (labels_take g u wf e acc full.0 induced first second word f.0 f.1 a b found found_too (w f.0 f.1))),
     )

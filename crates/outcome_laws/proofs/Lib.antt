@@ -4,6 +4,8 @@ pub mod GoodCalls
 pub mod GrownLines
 pub mod IngestGrows
 pub mod LabelEntries
+pub mod OlderFiles
+pub mod SafelyViewed
 pub mod LabelsAnswer
 pub mod LabelsTell
 pub mod OneAnswering

@@ -20,17 +20,17 @@ use Rattle.outcome_laws.proofs.OneStages.{HasOneOutcome, one_spec_stage, one_vie
 
 one_trace : (spec view events queries : File) → HasOneOutcome (Traces spec view events queries)
 one_trace spec view events queries =
-    one_spec_stage spec _ (λ g p.
-    one_view_stage spec.bytes g p view _ (λ u q.
-    one_events g instance_most (lines_in events) (λ r. []) _ (λ r told.
-    one_queries_stage (IsAnswerOfRun g u r) (one_run_word g u r (told_proper spec.bytes g p) (told_composites g (told_formed spec.bytes g p) view.bytes u q) (events_accepted g instance_most (lines_in events) r told).0) queries)))
+    one_spec_stage spec _ (λ h p.
+    one_view_stage spec.bytes h p view _ (λ u q.
+    one_events h.core instance_most (lines_in events) (λ r. []) _ (λ r told.
+    one_queries_stage (IsAnswerOfRun h.core u r) (one_run_word h.core u r (told_proper spec.bytes h p) (told_composites h.core (told_formed spec.bytes h p) view.bytes u q) (events_accepted h.core instance_most (lines_in events) r told).0) queries)))
 
 one_ask : (spec view labels queries : File) → HasOneOutcome (Asks spec view labels queries)
 one_ask spec view labels queries =
-    one_spec_stage spec _ (λ g p.
-    one_view_stage spec.bytes g p view _ (λ u q.
-    same_outcome labels_kind [] labels (TellsEntries g) (OfWhole (RefusesLabels g)) _ _ (one_entries g labels.bytes) (one_refusal_of_labels g labels.bytes) (no_refusal_of_labels g labels.bytes) (λ es told.
-    one_queries_stage (IsAnswerText g u es) (one_word g u es (told_differ g labels.bytes es told)) queries)))
+    one_spec_stage spec _ (λ h p.
+    one_view_stage spec.bytes h p view _ (λ u q.
+    same_outcome labels_kind [] labels (TellsEntries h) (OfWhole (RefusesLabels h)) _ _ (one_entries h labels.bytes) (one_refusal_of_labels h labels.bytes) (no_refusal_of_labels h labels.bytes) (λ es told.
+    one_queries_stage (IsAnswerText h.core u es) (one_word h.core u es (told_differ h labels.bytes es told)) queries)))
 
 pub one_answering : (files : List ℕ → File) (c : Command) → HasOneOutcome (Does files c)
 one_answering files (Trace a b c q) = one_trace (files a) (files b) (files c) (files q)

@@ -7,7 +7,7 @@ use Rattle.cmd_decide.proofs.OneDecision.{one_decision}
 use Rattle.outcome_laws.proofs.OneStages.{HasOneOutcome, one_spec_stage, one_view_stage}
 
 one_decide : (spec view : File) (first second : List ℕ) → HasOneOutcome (Decides spec view first second)
-one_decide spec view first second = one_spec_stage spec _ (λ g told. one_view_stage spec.bytes g told view _ (λ u shown. one_decision g u first second))
+one_decide spec view first second = one_spec_stage spec _ (λ h told. one_view_stage spec.bytes h told view _ (λ u shown. one_decision h.core u first second))
 
 pub one_deciding : (files : List ℕ → File) (c : Command) → HasOneOutcome (Does files c)
 one_deciding files (Decide a b x y) = one_decide (files a) (files b) x y

@@ -10,13 +10,13 @@ use Rattle.wf_inputs.proofs.ViewComposites.{told_composites}
 use Rattle.outcome_laws.proofs.OneStages.{HasOneOutcome, one_spec_stage, one_view_stage}
 
 one_check : (spec : File) → HasOneOutcome (Checks spec)
-one_check spec = one_spec_stage spec IsChecked (λ g told d e t s p q.
-    (p.0 ∙ sym q.0, p.1.4 ∙ (one_text g (told_linear spec.bytes g told) p.1.0 q.1.0 p.1.2 q.1.2 p.1.1 q.1.1 p.1.3 q.1.3 ∙ sym q.1.4)))
+one_check spec = one_spec_stage spec (λ h. IsChecked h.core) (λ h told d e t s p q.
+    (p.0 ∙ sym q.0, p.1.4 ∙ (one_text h.core (told_linear spec.bytes h told) p.1.0 q.1.0 p.1.2 q.1.2 p.1.1 q.1.1 p.1.3 q.1.3 ∙ sym q.1.4)))
 
 one_view : (spec view : File) → HasOneOutcome (Views spec view)
-one_view spec view = one_spec_stage spec _ (λ g told. one_view_stage spec.bytes g told view (IsViewWritten g) (λ u shown d e t s p q. (
+one_view spec view = one_spec_stage spec _ (λ h told. one_view_stage spec.bytes h told view (IsViewWritten h.core) (λ u shown d e t s p q. (
   p.0 ∙ sym q.0,
-  p.1.4 ∙ (one_view_text g u (told_proper spec.bytes g told) (told_composites g (told_formed spec.bytes g told) view.bytes u shown)
+  p.1.4 ∙ (one_view_text h.core u (told_proper spec.bytes h told) (told_composites h.core (told_formed spec.bytes h told) view.bytes u shown)
       p.1.0 q.1.0 p.1.1 q.1.1 p.1.2 q.1.2 p.1.3 q.1.3 ∙ sym q.1.4),
 )))
 

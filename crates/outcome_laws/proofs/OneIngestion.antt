@@ -11,8 +11,8 @@ use Rattle.outcome_laws.proofs.OneStages.{HasOneOutcome, one_spec_stage}
 
 one_ingest : (spec events : File) → HasOneOutcome (Ingests spec events)
 one_ingest spec events =
-    one_spec_stage spec _ (λ g told.
-    one_events g instance_most (lines_in events) (file_of g) (WritesFile g) (λ es run d e t s p q. (p.0 ∙ sym q.0, p.1 ∙ sym q.1)))
+    one_spec_stage spec _ (λ h told.
+    one_events h.core instance_most (lines_in events) (file_of h.core) (WritesFile h.core) (λ es run d e t s p q. (p.0 ∙ sym q.0, p.1 ∙ sym q.1)))
 
 pub one_ingestion : (files : List ℕ → File) (c : Command) → HasOneOutcome (Does files c)
 one_ingestion files (Ingest a b) = one_ingest (files a) (files b)

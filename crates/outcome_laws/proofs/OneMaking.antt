@@ -16,13 +16,13 @@ one_written text d e t s p q = (p.0 ∙ sym q.0, p.1 ∙ sym q.1)
 
 one_export : (spec view events : File) → HasOneOutcome (Exports spec view events)
 one_export spec view events =
-    one_spec_stage spec _ (λ g p. one_view_stage spec.bytes g p view _ (λ u q. one_events g instance_most (lines_in events) (λ r. []) _ (λ r told. one_written _)))
+    one_spec_stage spec _ (λ h p. one_view_stage spec.bytes h p view _ (λ u q. one_events h.core instance_most (lines_in events) (λ r. []) _ (λ r told. one_written _)))
 
 one_gen : (spec : File) (n seed : ℕ) → HasOneOutcome (Generates spec n seed)
-one_gen spec n seed = one_spec_stage spec _ (λ g p. one_written _)
+one_gen spec n seed = one_spec_stage spec _ (λ h p. one_written _)
 
 one_drill : (spec view : File) (n seed : ℕ) → HasOneOutcome (Drills spec view n seed)
-one_drill spec view n seed = one_spec_stage spec _ (λ g p. one_view_stage spec.bytes g p view _ (λ u q. one_drilled g u n seed))
+one_drill spec view n seed = one_spec_stage spec _ (λ h p. one_view_stage spec.bytes h p view _ (λ u q. one_drilled h.core u n seed))
 
 pub one_making : (files : List ℕ → File) (c : Command) → HasOneOutcome (Does files c)
 one_making files (Export s v e) = one_export (files s) (files v) (files e)

@@ -1,6 +1,6 @@
 -- The stages of SPEC, VIEW and QUERIES have one outcome where what follows has.
 use Rattle.std.proofs.Common.{◌≡◌, ℕ, List, [], sym, ap, ◌∙◌}
-use Rattle.wf_model.specs.Grammar.{Grammar}
+use Rattle.wf_spec.specs.Held.{HeldGrammar}
 use Rattle.wf_model.specs.View.{View}
 use Rattle.wf_io.specs.Told.{File}
 use Rattle.wf_io.specs.Lines.{lines_in}
@@ -27,14 +27,14 @@ abbrev pub HasOneOutcome : (End → List ℕ → Type 0) → Type 0
 HasOneOutcome R = (d e : End) (t s : List ℕ) → R d t → R e s → AreSame d e t s
 
 -- the stage of SPEC has one outcome where what follows has
-pub one_spec_stage : (spec : File) (Next : Grammar → End → List ℕ → Type 0) → ((g : Grammar) → TellsGrammar spec.bytes g → HasOneOutcome (Next g)) → HasOneOutcome (SpecStage spec Next)
+pub one_spec_stage : (spec : File) (Next : HeldGrammar → End → List ℕ → Type 0) → ((h : HeldGrammar) → TellsGrammar spec.bytes h → HasOneOutcome (Next h)) → HasOneOutcome (SpecStage spec Next)
 one_spec_stage spec Next next =
-    same_outcome spec_kind [] spec TellsGrammar (OfWhole RefusesSpec) Next Next (one_grammar spec.bytes) (λ l m x y p q. (p.0 ∙ sym q.0, one_refusal spec.bytes x y p.1 q.1)) (λ g l x t r. no_refusal spec.bytes x g t r.1) next
+    same_outcome spec_kind [] spec TellsGrammar (OfWhole RefusesSpec) Next Next (one_grammar spec.bytes) (λ l m x y p q. (p.0 ∙ sym q.0, one_refusal spec.bytes x y p.1 q.1)) (λ h l x t r. no_refusal spec.bytes x h t r.1) next
 
 -- so has that of VIEW
-pub one_view_stage : (bytes : List ℕ) (g : Grammar) → TellsGrammar bytes g → (view : File) (Next : View → End → List ℕ → Type 0) → ((u : View) → TellsView g view.bytes u → HasOneOutcome (Next u)) → HasOneOutcome (ViewStage g view Next)
-one_view_stage bytes g told view Next next =
-    same_outcome view_kind [] view (TellsView g) (OfWhole (RefusesView g)) Next Next (one_view g view.bytes) (λ l m x y p q. (p.0 ∙ sym q.0, one_refusal_of_view g (told_formed bytes g told) view.bytes x y p.1 q.1)) (λ u l x t r. no_refusal_of_view g view.bytes x u t r.1) next
+pub one_view_stage : (bytes : List ℕ) (h : HeldGrammar) → TellsGrammar bytes h → (view : File) (Next : View → End → List ℕ → Type 0) → ((u : View) → TellsView h.core view.bytes u → HasOneOutcome (Next u)) → HasOneOutcome (ViewStage h.core view Next)
+one_view_stage bytes h told view Next next =
+    same_outcome view_kind [] view (TellsView h.core) (OfWhole (RefusesView h.core)) Next Next (one_view h.core view.bytes) (λ l m x y p q. (p.0 ∙ sym q.0, one_refusal_of_view h.core (told_formed bytes h told) view.bytes x y p.1 q.1)) (λ u l x t r. no_refusal_of_view h.core view.bytes x u t r.1) next
 
 -- so has that of QUERIES, where a query has one word
 pub one_queries_stage : (Answers : List ℕ → List ℕ → List ℕ → Type 0) → IsOneWord Answers → (queries : File) → HasOneOutcome (QueriesStage Answers queries)

@@ -10,6 +10,9 @@ use Rattle.wf_model.specs.View.{View}
 use Rattle.wf_model.specs.Safe.{IsSafe}
 use Rattle.wf_model.specs.Run.{IsAccepted}
 use Rattle.wf_model.specs.Finishing.{ExpandsComposites}
+use Rattle.wf_spec.specs.Held.{HeldGrammar, AreVersionsOf}
+use Rattle.wf_model.specs.Versions.{version_of}
+use Rattle.wf_spec.specs.declared.version.Version.{Version}
 use Rattle.wf_io.specs.Told.{File}
 use Rattle.wf_io.specs.Lines.{Line, FileLines, AtEnd, lines_in}
 use Rattle.label_model.specs.Files.{Entry}
@@ -19,7 +22,7 @@ use Rattle.wf_query.specs.Answers.{IsAnswerText}
 use Rattle.wf_message.specs.Endings.{End, Done}
 use Rattle.wf_stage.specs.Stages.{IsTold, Holds}
 use Rattle.wf_inputs.specs.Inputs.{spec_kind, labels_kind, instance_most}
-use Rattle.wf_inputs.specs.Specification.{TellsGrammar}
+use Rattle.wf_inputs.specs.Specification.{TellsGrammar, AllKeepCycles}
 use Rattle.wf_inputs.specs.RunTold.{AreReports, TellsEvents}
 use Rattle.wf_inputs.specs.LabelsTold.{TellsEntries}
 use Rattle.cmd_ask.specs.Answers.{IsAnswerOfRun}
@@ -37,26 +40,48 @@ OneOutcomeLaw =
 abbrev pub SomeOutcomeLaw : Type 0
 SomeOutcomeLaw = (files : List ℕ → File) (words : List (List ℕ)) → (ending : End) × (text : List ℕ) × IsOutcome files words ending text
 
--- What the labels of a run tell, the run tells. Under a safe view a query is answered from the entries of the label file of an accepted run by a word exactly if this word answers it in each finishing of the run
+-- a grammar is the one that a specification tells, or that of one of its earlier versions
+abbrev pub IsOneOf : HeldGrammar → Grammar → Type 0
+IsOneOf h g = (g ≡ h.core) ⊎ ((v : Version) × IsIn v h.versions × (g ≡ version_of h.core v.modules v.productions))
+
+-- a well-formed, proper and strictly linear grammar, whose versions are versions and keep their cycles, and a safe view of it
+pub record IsViewedSafely (h : HeldGrammar) (u : View) : Type 0 where
+  pub formed : IsWellFormed h.core
+  pub proper : IsProper h.core
+  pub linear : IsLinear h.core
+  pub versions : AreVersionsOf h.core h.versions
+  pub keeps : AllKeepCycles h
+  pub composites : ExpandsComposites h.core u
+  pub safe : IsSafe h.core u
+
+-- What the labels of a run tell, the run tells, also where they were made by an earlier version of the grammar. Under a safe view a query is answered from the entries of the label file of an accepted run by a word exactly if this word answers it in each finishing of the run
 abbrev pub LabelsTellLaw : Type 0
 LabelsTellLaw =
-    (g : Grammar) (u : View) → IsWellFormed g → IsProper g → IsLinear g → ExpandsComposites g u → IsSafe g u →
-    (e : List Event) → IsAccepted g instance_most e → (entries : List Entry) → TellsEntries g (file_of g e) entries →
-    (first second word : List ℕ) → IsAnswerText g u entries first second word ↔ IsAnswerOfRun g u e first second word
+    (h : HeldGrammar) (u : View) → IsViewedSafely h u → (g : Grammar) → IsOneOf h g →
+    (e : List Event) → IsAccepted g instance_most e → (entries : List Entry) → TellsEntries h (file_of g e) entries →
+    (first second word : List ℕ) → IsAnswerText h.core u entries first second word ↔ IsAnswerOfRun h.core u e first second word
 
--- Under a safe view, queries are answered over the label file of a run, which is whole and not too long, as they are over its events: by the same text, to the same end. There is one such text and one such end
+-- Under a safe view, queries are answered over the label file of a run, which is whole and not too long, as they are over its events: by the same text, to the same end. There is one such text and one such end. The file may be of a run of an earlier version
 abbrev pub LabelsAnswerLaw : Type 0
 LabelsAnswerLaw =
-    (g : Grammar) (u : View) → IsWellFormed g → IsProper g → IsLinear g → ExpandsComposites g u → IsSafe g u →
+    (h : HeldGrammar) (u : View) → IsViewedSafely h u → (g : Grammar) → IsOneOf h g →
     (events labels queries : File) (e : List Event) → TellsEvents g instance_most (lines_in events) e → IsTold labels_kind labels Holds (file_of g e) →
-    ((d : End) (t : List ℕ) → AnswersRun g u events queries d t ↔ AnswersLabels g u labels queries d t) ×
-    ((d c : End) (t s : List ℕ) → AnswersRun g u events queries d t → AnswersLabels g u labels queries c s → (d ≡ c) × (t ≡ s))
+    ((d : End) (t : List ℕ) → AnswersRun h.core u events queries d t ↔ AnswersLabels h u labels queries d t) ×
+    ((d c : End) (t s : List ℕ) → AnswersRun h.core u events queries d t → AnswersLabels h u labels queries c s → (d ≡ c) × (t ≡ s))
 
--- What `ask` writes over the label file that `ingest` wrote is what `trace` writes over the events, and both end in the same way. The label file is whole, and not too long
+-- A specification is the one that another names as an earlier version, or is of the same grammar
+pub record IsOlder (files : List ℕ → File) (spec older : List ℕ) : Type 0 where
+  pub grammar : HeldGrammar
+  pub told : IsTold spec_kind (files spec) TellsGrammar grammar
+  pub before : HeldGrammar
+  pub told_before : IsTold spec_kind (files older) TellsGrammar before
+  pub one_of : IsOneOf grammar before.core
+
+-- What `ask` writes over the label file that `ingest` wrote is what `trace` writes over the events, and both end in the same way. `ingest` may have read an earlier version of the specification. The label file is whole, and not too long
 abbrev pub AskIsTraceLaw : Type 0
 AskIsTraceLaw =
-    (files : List ℕ → File) (spec view events labels queries t s r : List ℕ) (d e : End) →
-    IsOutcome files (codes "ingest" ∷ spec ∷ events ∷ []) Done t → (files labels).bytes ≡ t → length t ≤ labels_kind.most → (files labels).broken ≡ false →
+    (files : List ℕ → File) (spec older view events labels queries t s r : List ℕ) (d e : End) → IsOlder files spec older →
+    IsOutcome files (codes "ingest" ∷ older ∷ events ∷ []) Done t → (files labels).bytes ≡ t → length t ≤ labels_kind.most → (files labels).broken ≡ false →
     IsOutcome files (codes "trace" ∷ spec ∷ view ∷ events ∷ queries ∷ []) d s → IsOutcome files (codes "ask" ∷ spec ∷ view ∷ labels ∷ queries ∷ []) e r → (d ≡ e) × (s ≡ r)
 
 -- no line is open at the end of bytes: there are none, or the last is a newline
@@ -124,19 +149,19 @@ pub record IsToldAgain (files : List ℕ → File) (spec events other : List ℕ
 -- The order of the reports in EVENTS does not matter, nor how often an event is reported. SPEC tells a grammar, EVENTS a run of it, and another file reports the events of this run and nothing else
 abbrev pub ReorderedFilesLaw : Type 0
 ReorderedFilesLaw =
-    (files : List ℕ → File) (spec events other : List ℕ) (g : Grammar) (es : List Event) →
-    IsTold spec_kind (files spec) TellsGrammar g → TellsEvents g instance_most (lines_in (files events)) es → ReportsThese (lines_in (files other)) es →
-    IsToldAgain files spec events other g es
+    (files : List ℕ → File) (spec events other : List ℕ) (h : HeldGrammar) (es : List Event) →
+    IsTold spec_kind (files spec) TellsGrammar h → TellsEvents h.core instance_most (lines_in (files events)) es → ReportsThese (lines_in (files other)) es →
+    IsToldAgain files spec events other h.core es
 
 -- queries are answered by the same text, to the same end: over either of two files of events, and over the label files of the runs that they tell
-pub record AreAnsweredAlike (g : Grammar) (u : View) (events other queries : File) (es fs : List Event) : Type 0 where
-  pub traced : (d : End) (t : List ℕ) → AnswersRun g u events queries d t ↔ AnswersRun g u other queries d t
-  pub asked : (labels others : File) → IsTold labels_kind labels Holds (file_of g es) → IsTold labels_kind others Holds (file_of g fs) →
-      (d : End) (t : List ℕ) → AnswersLabels g u labels queries d t ↔ AnswersLabels g u others queries d t
+pub record AreAnsweredAlike (h : HeldGrammar) (u : View) (events other queries : File) (es fs : List Event) : Type 0 where
+  pub traced : (d : End) (t : List ℕ) → AnswersRun h.core u events queries d t ↔ AnswersRun h.core u other queries d t
+  pub asked : (labels others : File) → IsTold labels_kind labels Holds (file_of h.core es) → IsTold labels_kind others Holds (file_of h.core fs) →
+      (d : End) (t : List ℕ) → AnswersLabels h u labels queries d t ↔ AnswersLabels h u others queries d t
 
 -- Where two files tell runs with the same events, queries are answered alike over them, under a safe view
 abbrev pub ReorderedAnswersLaw : Type 0
 ReorderedAnswersLaw =
-    (g : Grammar) (u : View) → IsWellFormed g → IsProper g → IsLinear g → ExpandsComposites g u → IsSafe g u →
-    (events other queries : File) (es fs : List Event) → TellsEvents g instance_most (lines_in events) es → TellsEvents g instance_most (lines_in other) fs →
-    ((x : Event) → IsIn x es ↔ IsIn x fs) → AreAnsweredAlike g u events other queries es fs
+    (h : HeldGrammar) (u : View) → IsViewedSafely h u →
+    (events other queries : File) (es fs : List Event) → TellsEvents h.core instance_most (lines_in events) es → TellsEvents h.core instance_most (lines_in other) fs →
+    ((x : Event) → IsIn x es ↔ IsIn x fs) → AreAnsweredAlike h u events other queries es fs

@@ -6,7 +6,7 @@ use Rattle.wf_form.specs.declared.fault.FormFault.{FormFault}
 use Rattle.wf_form.specs.declared.fault.FormFault.TheVariants.{NoMemory}
 use Rattle.wf_spec.specs.Naming.{names_of}
 use Rattle.wf_form.specs.Forming.{modules_of, IsFormed}
-use Rattle.wf_form.specs.Rules.{module_names, first_rules, body_rules, link_rules, IsFaultOf, AreKept}
+use Rattle.wf_form.specs.Rules.{module_names, first_rules, body_rules, link_rules, version_rules, IsFaultOf, AreKept}
 use Rattle.wf_spec.specs.FirstFaults.{Rule, AllHold, IsFirstFault}
 use Rattle.wf_form.proofs.Kept.{kept_gives}
 use Rattle.wf_form.proofs.Lawful.{same_names, kept_formed}
@@ -31,14 +31,18 @@ first_fault parts f h = ⊎_elim (λ e. inl e) (λ b. inr (inl b)) h
 pub body_fault : (parts : Parts) (f : FormFault) → AllHold (first_rules parts) → (f ≡ NoMemory) ⊎ IsFirstFault (body_rules parts) f → (f ≡ NoMemory) ⊎ IsFaultOf parts f
 body_fault parts f first h = ⊎_elim (λ e. inl e) (λ b. inr (inr (first, inl b))) h
 
--- one that is found among those on links, where the others hold
+-- one that is found among those on links, where those before them hold
 pub link_fault : (parts : Parts) (f : FormFault) → AllHold (first_rules parts) → AllHold (body_rules parts) → (f ≡ NoMemory) ⊎ IsFirstFault (link_rules parts) f → (f ≡ NoMemory) ⊎ IsFaultOf parts f
-link_fault parts f first bodies h = ⊎_elim (λ e. inl e) (λ b. inr (inr (first, inr (bodies, b)))) h
+link_fault parts f first bodies h = ⊎_elim (λ e. inl e) (λ b. inr (inr (first, inr (bodies, inl b)))) h
+
+-- one that is found among those on versions, where all others hold
+pub version_fault : (parts : Parts) (f : FormFault) → AreKept parts → (f ≡ NoMemory) ⊎ IsFirstFault (version_rules parts) f → (f ≡ NoMemory) ⊎ IsFaultOf parts f
+version_fault parts f kept h = ⊎_elim (λ e. inl e) (λ b. inr (inr (kept.first, inr (kept.bodies, inr (kept.links, b))))) h
 
 -- the names of modules, as they are read
 pub names_read : (parts : Parts) (modules : List Module) (names : List (List ℕ)) → modules ≡ modules_of parts → names ≡ module_names parts.modules → names ≡ names_of modules
 names_read parts modules names are is = is ∙ sym (ap names_of are ∙ same_names parts)
 
--- parts that keep all rules form a grammar
+-- parts that keep all rules but those on versions form a grammar
 pub form : (parts : Parts) → AreKept parts → IsFormed parts
 form parts kept = kept_formed parts (kept_gives parts kept)

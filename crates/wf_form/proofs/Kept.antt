@@ -7,9 +7,11 @@ use Rattle.wf_model.specs.declared.parts.ModulePart.{ModulePart}
 use Rattle.wf_model.specs.declared.parts.ProdPart.{ProdPart}
 use Rattle.wf_model.specs.declared.parts.DepsPart.{DepsPart}
 use Rattle.wf_model.specs.Lists.{IsIn, IsAt, AllDiffer}
+use Rattle.wf_model.specs.Versions.{IsVersion}
 use Rattle.wf_model.proofs.Lists.{at_in, in_at, at_below, is_at}
-use Rattle.wf_form.specs.Forming.{modules_of}
-use Rattle.wf_form.specs.Rules.{module_names, position_names, HasShortNames, HasShortPositions, HasDifferentPorts, HasFewPorts, HasKnownModules, squares, HasKnownPorts, IsLinkedAtMostOnce, IsLinkedAtLeastOnce, HasNoCycle, IsOfAtomic, AreKept}
+use Rattle.wf_form.specs.Forming.{modules_of, grammar_of, HaveVersions}
+use Rattle.wf_form.specs.Rules.{module_names, position_names, HasShortNames, HasShortPositions, HasDifferentPorts, HasFewPorts, HasKnownModules, squares, HasKnownPorts, IsLinkedAtMostOnce, IsLinkedAtLeastOnce, HasNoCycle, IsOfAtomic, version_rules, AreKept}
+use Rattle.wf_spec.specs.FirstFaults.{AllHold}
 use Rattle.wf_spec.specs.Naming.{IsNewAt}
 use Rattle.wf_spec.specs.Pairs.{HasKnownPairs}
 
@@ -19,6 +21,16 @@ each_gives list Holds h x i = let r = in_at x list i in h r.0 (at_below x r.0 li
 
 each_from : {A : Type 0} (list : List A) (Holds : A → Type 0) → ((x : A) → IsIn x list → Holds x) → (k : ℕ) → k < length list → (x : A) → IsAt x k list → Holds x
 each_from list Holds h k inside x at = h x (at_in x k list at)
+
+-- the rules on versions, as their word
+pub versions_give : (parts : Parts) → AllHold (version_rules parts) → HaveVersions parts
+versions_give parts a = record {
+  few = a.0 0 (omega arith);
+  each = each_gives parts.versions (λ v. IsVersion (grammar_of parts) v.modules v.productions) a.1.0;
+}
+
+pub versions_keep : (parts : Parts) → HaveVersions parts → AllHold (version_rules parts)
+versions_keep parts h = ((λ k i. h.few), (each_from parts.versions (λ v. IsVersion (grammar_of parts) v.modules v.productions) h.each, tt))
 
 differ_new : (names : List (List ℕ)) → AllDiffer names → (k : ℕ) → k < length names → IsNewAt names k
 differ_new [] d k inside i = absurd (omega arith)

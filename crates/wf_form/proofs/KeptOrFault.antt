@@ -1,4 +1,4 @@
--- Parts form a grammar, or have a fault.
+-- Parts form a grammar with earlier versions, or have a fault.
 use Rattle.std.proofs.Common.{◌≡◌, ◌≢◌, ◌⊎◌, ℕ, ◌<◌, ◌≤◌, List, ◌++◌, length, map, refl, sym, ap, subst, inl, inr}
 use Rattle.wf_model.specs.declared.parts.Parts.{Parts}
 use Rattle.wf_model.specs.declared.parts.ModulePart.{ModulePart}
@@ -9,21 +9,24 @@ use Rattle.wf_model.specs.declared.parts.EntryPart.{EntryPart}
 use Rattle.wf_model.specs.declared.parts.ExitPart.{ExitPart}
 use Rattle.wf_model.specs.declared.parts.DepsPart.{DepsPart}
 use Rattle.wf_model.specs.declared.parts.PairPart.{PairPart}
+use Rattle.wf_model.specs.declared.parts.VersionPart.{VersionPart}
 use Rattle.wf_model.specs.Lists.{IsIn, AllDiffer, Walk}
 use Rattle.wf_model.specs.Grammar.{Module, Position, Inner, Edge}
+use Rattle.wf_model.specs.Versions.{IsVersion}
 use Rattle.wf_model.specs.WellFormed.{IsShortName}
 use Rattle.wf_model.proofs.Lists.{in_map, in_map_from}
 use Rattle.wf_model.proofs.Deciding.{Either, either_same, either_not, either_both, number_either, below_either, within_either, bytes_either, all_below, all_in, in_either, differ_either, walk_either}
 use Rattle.name_text.proofs.NamesOrNot.{short_name_either}
 use Rattle.wf_spec.specs.Pairs.{HasKnownPairs}
 use Rattle.wf_spec.specs.Naming.{place_of, names_of, module_in}
-use Rattle.wf_spec.specs.FirstFaults.{AllHold, IsFirstFault}
+use Rattle.wf_spec.specs.FirstFaults.{Rule, AllHold, IsFirstFault}
 use Rattle.wf_spec.proofs.SomeFault.{AreDecided, each_decided, new_decided, some_fault}
+use Rattle.wf_form.proofs.VersionOrNot.{version_either}
 use Rattle.wf_form.specs.declared.fault.FormFault.{FormFault}
-use Rattle.wf_form.specs.Forming.{module_at_place, inner_input, inner_output, edge_in, body_in, head_in, modules_of, IsFormed}
+use Rattle.wf_form.specs.Forming.{module_at_place, inner_input, inner_output, edge_in, body_in, head_in, modules_of, grammar_of, IsFormed, HaveVersions}
 use Rattle.wf_form.specs.Resolving.{IsInputIn, IsOutputIn, IsEdgeIn}
 use Rattle.wf_form.specs.Graphs.{IsJoined, IsAcyclic}
-use Rattle.wf_form.specs.Rules.{module_names, position_names, HasShortNames, HasShortPositions, HasKnownModules, squares, HasKnownPorts, fed, used, entered, left, IsLinkedAtMostOnce, IsLinkedAtLeastOnce, HasNoCycle, IsOfAtomic, first_rules, body_rules, link_rules, IsFaultOf}
+use Rattle.wf_form.specs.Rules.{module_names, position_names, HasShortNames, HasShortPositions, HasKnownModules, squares, HasKnownPorts, fed, used, entered, left, IsLinkedAtMostOnce, IsLinkedAtLeastOnce, HasNoCycle, IsOfAtomic, first_rules, body_rules, link_rules, version_rules, IsFaultOf}
 use Rattle.wf_form.proofs.Lawful.{law}
 
 either_three : {A B C : Type 0} → Either A → Either B → Either C → Either (A × B × C)
@@ -187,12 +190,23 @@ module _ (parts : Parts) where
         ),
       )
 
-  -- parts form a grammar, or have a fault
-  pub formed_or_fault : IsFormed parts ⊎ ((f : FormFault) × IsFaultOf parts f)
-  formed_or_fault = by_first (some_fault (first_rules parts) first_decided) (some_fault (body_rules parts) body_decided) (some_fault (link_rules parts) link_decided)
+  version_decided : AreDecided (version_rules parts)
+  version_decided = (
+    λ k h. within_either (length parts.versions) 64,
+    (λ k h. each_decided (λ (v : VersionPart). IsVersion (grammar_of parts) v.modules v.productions) parts.versions (λ v i. version_either (grammar_of parts) v.modules v.productions) k, tt),
+  )
+
+  -- all of these rules hold, or one has the first fault
+  abbrev HoldOrFault : List (Rule FormFault) → Type 0
+  HoldOrFault rs = AllHold rs ⊎ ((f : FormFault) × IsFirstFault rs f)
+
+  -- parts form a grammar with earlier versions, or have a fault
+  pub formed_or_fault : (IsFormed parts × HaveVersions parts) ⊎ ((f : FormFault) × IsFaultOf parts f)
+  formed_or_fault = by_first (some_fault (first_rules parts) first_decided) (some_fault (body_rules parts) body_decided) (some_fault (link_rules parts) link_decided) (some_fault (version_rules parts) version_decided)
     where
-      by_first : AllHold (first_rules parts) ⊎ ((f : FormFault) × IsFirstFault (first_rules parts) f) → AllHold (body_rules parts) ⊎ ((f : FormFault) × IsFirstFault (body_rules parts) f) → AllHold (link_rules parts) ⊎ ((f : FormFault) × IsFirstFault (link_rules parts) f) → IsFormed parts ⊎ ((f : FormFault) × IsFaultOf parts f)
-      by_first (inr f) b c = inr (f.0, inl f.1)
-      by_first (inl all) (inr f) c = inr (f.0, inr (all, inl f.1))
-      by_first (inl all) (inl bodies) (inr f) = inr (f.0, inr (all, inr (bodies, f.1)))
-      by_first (inl all) (inl bodies) (inl links) = inl ((law parts).0 (record { first = all; bodies = bodies; links = links }))
+      by_first : HoldOrFault (first_rules parts) → HoldOrFault (body_rules parts) → HoldOrFault (link_rules parts) → HoldOrFault (version_rules parts) → (IsFormed parts × HaveVersions parts) ⊎ ((f : FormFault) × IsFaultOf parts f)
+      by_first (inr f) b l v = inr (f.0, inl f.1)
+      by_first (inl first) (inr f) l v = inr (f.0, inr (first, inl f.1))
+      by_first (inl first) (inl bodies) (inr f) v = inr (f.0, inr (first, inr (bodies, inl f.1)))
+      by_first (inl first) (inl bodies) (inl links) (inr f) = inr (f.0, inr (first, inr (bodies, inr (links, f.1))))
+      by_first (inl first) (inl bodies) (inl links) (inl versions) = inl ((law parts).0.0 (record { first = first; bodies = bodies; links = links }), (law parts).1.0 versions)

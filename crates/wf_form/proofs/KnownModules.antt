@@ -1,5 +1,5 @@
 -- Productions whose modules are among given names, as tests.
-use Rattle.std.proofs.Common.{◌≡◌, ℕ, Bool, true, ◌&&◌, List}
+use Rattle.std.proofs.Common.{◌≡◌, ℕ, Bool, true, ◌&&◌, List, ap, ◌∙◌}
 use Rattle.std.specs.List.{list_all}
 use Rattle.wf_model.specs.declared.parts.PosPart.{PosPart}
 use Rattle.wf_model.specs.declared.parts.ProdPart.{ProdPart}
@@ -13,6 +13,11 @@ use Rattle.wf_model.proofs.Tests.{and_left, and_right}
 -- the head and the module at each position are among these names
 abbrev pub names_known : List (List ℕ) → ProdPart → Bool
 names_known names p = is_one_of names p.head && list_all (λ (q : PosPart). is_one_of names q.module) p.body
+
+-- the test of the body alone, where the head passes
+pub known_tested : (names : List (List ℕ)) (p : ProdPart) (head : List ℕ) (body : List PosPart) → head ≡ p.head → body ≡ p.body → true ≡ is_one_of names head → list_all (λ (q : PosPart). is_one_of names q.module) body ≡ names_known names p
+known_tested names p head body is are known =
+    ap (list_all (λ (q : PosPart). is_one_of names q.module)) are ∙ ap (λ b. b && list_all (λ (q : PosPart). is_one_of names q.module) p.body) (known ∙ ap (is_one_of names) is)
 
 pub known_part : (names : List (List ℕ)) (p : ProdPart) → names_known names p ≡ true → HasKnownModules names p
 known_part names p e = record {

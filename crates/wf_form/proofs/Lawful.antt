@@ -1,4 +1,4 @@
--- Parts keep all rules exactly if they form a well-formed grammar.
+-- Parts keep all rules exactly if they form a well-formed grammar with earlier versions.
 use Rattle.std.proofs.Common.{◌≡◌, ℕ, ◌+◌, ◌*◌, ◌<◌, ◌≤◌, List, [], ◌∷◌, ◌++◌, map, length, refl, sym, ap, ◌∙◌, subst, ⊎_elim}
 use Rattle.std.specs.Prelude.{sum_by}
 use Rattle.std.proofs.lemmas.List.{length-map}
@@ -19,7 +19,7 @@ use Rattle.wf_form.specs.Forming.{module_of, modules_of, placed, body_in, head_i
 use Rattle.wf_form.specs.Rules.{module_names, position_names, HasShortNames, HasDifferentPorts, HasFewPorts, squares, FormingLaw}
 use Rattle.wf_form.proofs.Bodies.{body_from}
 use Rattle.wf_spec.proofs.Finding.{is_in_place, place_within, same_name, number_below, below_number}
-use Rattle.wf_form.proofs.Kept.{IsKeptPart, IsKeptDeps, AreAllKept, kept_gives, kept_from}
+use Rattle.wf_form.proofs.Kept.{IsKeptPart, IsKeptDeps, AreAllKept, kept_gives, kept_from, versions_give, versions_keep}
 use Rattle.wf_form.proofs.Linking.{links_tidy, tidy_known, tidy_at_most, tidy_at_least, tidy_linked, linked_tidy}
 use Rattle.wf_form.proofs.Sizes.{formed_bodies}
 use Rattle.wf_spec.proofs.Tables.{get_in}
@@ -210,4 +210,7 @@ formed_kept parts f =
     }
 
 pub law : FormingLaw
-law parts = ((λ k. kept_formed parts (kept_gives parts k)), λ f. kept_from parts (formed_kept parts f))
+law parts = (
+  (λ k. kept_formed parts (kept_gives parts k), λ f. kept_from parts (formed_kept parts f)),
+  (versions_give parts, versions_keep parts),
+)

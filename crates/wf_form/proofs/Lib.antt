@@ -28,6 +28,8 @@ pub mod ShortNames
 pub mod Sided
 pub mod Sides
 pub mod Sizes
+pub mod VersionOrNot
+pub mod VersionRules
 pub mod Whole
 pub mod Wired
 pub mod KeptOrFault

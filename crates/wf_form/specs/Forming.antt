@@ -1,5 +1,5 @@
 -- The grammar of parts: names turned into numbers, and when parts form a grammar.
-use Rattle.std.specs.Prelude.{◌≡◌, ℕ, List, map, length, get_or}
+use Rattle.std.specs.Prelude.{◌≡◌, ℕ, ◌≤◌, List, map, length, get_or}
 use Rattle.wf_model.specs.declared.parts.Parts.{Parts}
 use Rattle.wf_model.specs.declared.parts.ModulePart.{ModulePart}
 use Rattle.wf_model.specs.declared.parts.ProdPart.{ProdPart}
@@ -10,9 +10,13 @@ use Rattle.wf_model.specs.declared.parts.EntryPart.{EntryPart}
 use Rattle.wf_model.specs.declared.parts.ExitPart.{ExitPart}
 use Rattle.wf_model.specs.declared.parts.DepsPart.{DepsPart}
 use Rattle.wf_model.specs.declared.parts.PairPart.{PairPart}
+use Rattle.wf_model.specs.declared.parts.VersionPart.{VersionPart}
 use Rattle.wf_model.specs.Lists.{IsIn}
 use Rattle.wf_model.specs.Grammar.{Grammar, Module, Position, Inner, Edge, Production, Given}
 use Rattle.wf_model.specs.WellFormed.{IsWellFormed}
+use Rattle.wf_model.specs.Versions.{IsVersion}
+use Rattle.wf_spec.specs.declared.version.Version.{Version}
+use Rattle.wf_spec.specs.Held.{HeldGrammar}
 use Rattle.wf_spec.specs.Naming.{place_of, names_of, module_in}
 
 -- a module, as its part says
@@ -106,6 +110,14 @@ grammar_of parts =
       given = map (given_in modules) parts.deps;
     }
 
+-- an earlier version, by how many modules and productions its part says
+abbrev pub version_in : VersionPart → Version
+version_in v = record { modules = v.modules; productions = v.productions }
+
+-- the grammar that parts describe, with its earlier versions
+abbrev pub held_of : Parts → HeldGrammar
+held_of parts = record { core = grammar_of parts; versions = map version_in parts.versions }
+
 -- There are as many names as ports, and each port is one of them. So, where the ports differ, each is named once and nothing else is named.
 pub record NamesEach (ports names : List (List ℕ)) : Type 0 where
   pub as_many : length names ≡ length ports
@@ -124,3 +136,8 @@ HasAllLinks parts = (p : ProdPart) → IsIn p parts.productions → HasItsLinks 
 pub record IsFormed (parts : Parts) : Type 0 where
   pub links : HasAllLinks parts
   pub well_formed : IsWellFormed (grammar_of parts)
+
+-- the parts have at most 64 versions, and each is one of the grammar that they describe
+pub record HaveVersions (parts : Parts) : Type 0 where
+  pub few : length parts.versions ≤ 64
+  pub each : (v : VersionPart) → IsIn v parts.versions → IsVersion (grammar_of parts) v.modules v.productions

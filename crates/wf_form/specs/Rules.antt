@@ -11,10 +11,11 @@ use Rattle.wf_model.specs.declared.parts.DepsPart.{DepsPart}
 use Rattle.wf_model.specs.Lists.{IsIn, AllDiffer}
 use Rattle.wf_model.specs.Grammar.{Module, Inner}
 use Rattle.wf_model.specs.WellFormed.{IsShortName}
+use Rattle.wf_model.specs.Versions.{IsVersion}
 use Rattle.wf_form.specs.declared.fault.Spot.TheVariants.{Start, Module as AtModule, Production as AtProduction, DepsAt}
 use Rattle.wf_form.specs.declared.fault.FormFault.{FormFault}
-use Rattle.wf_form.specs.declared.fault.FormFault.TheVariants.{NameBad, NameTwice, PortTwice, TooManyPorts, TooManyModules, TooManyProductions, UnknownModule, EmptyBody, BodyTooLong, BodiesTooLarge, PositionTwice, UnknownPort, PortLinkedTwice, PortUnlinked, BodyCycle, DepsOnComposite}
-use Rattle.wf_form.specs.Forming.{modules_of, body_in, head_in, inner_input, inner_output, edge_in, IsFormed}
+use Rattle.wf_form.specs.declared.fault.FormFault.TheVariants.{NameBad, NameTwice, PortTwice, TooManyPorts, TooManyModules, TooManyProductions, UnknownModule, EmptyBody, BodyTooLong, BodiesTooLarge, PositionTwice, UnknownPort, PortLinkedTwice, PortUnlinked, BodyCycle, DepsOnComposite, TooManyVersions, VersionBad}
+use Rattle.wf_form.specs.Forming.{modules_of, body_in, head_in, inner_input, inner_output, edge_in, grammar_of, IsFormed, HaveVersions}
 use Rattle.wf_form.specs.Resolving.{IsInputIn, IsOutputIn, IsEdgeIn}
 use Rattle.wf_form.specs.Graphs.{IsAcyclic}
 use Rattle.wf_spec.specs.Naming.{IsNewAt}
@@ -145,7 +146,13 @@ link_rules_of modules productions deps =
 abbrev pub link_rules : Parts → List (Rule FormFault)
 link_rules parts = link_rules_of (modules_of parts) parts.productions parts.deps
 
--- the parts keep all rules
+-- the rules on versions, for parts that keep the others
+abbrev pub version_rules : Parts → List (Rule FormFault)
+version_rules parts =
+    once (length parts.versions ≤ 64) TooManyVersions ∷
+    each parts.versions (λ v. IsVersion (grammar_of parts) v.modules v.productions) VersionBad ∷ []
+
+-- the parts keep all rules but those on versions
 pub record AreKept (parts : Parts) : Type 0 where
   pub first : AllHold (first_rules parts)
   pub bodies : AllHold (body_rules parts)
@@ -156,8 +163,9 @@ abbrev pub IsFaultOf : Parts → FormFault → Type 0
 IsFaultOf parts f =
     IsFirstFault (first_rules parts) f ⊎
     (AllHold (first_rules parts) × (IsFirstFault (body_rules parts) f ⊎
-    (AllHold (body_rules parts) × IsFirstFault (link_rules parts) f)))
+    (AllHold (body_rules parts) × (IsFirstFault (link_rules parts) f ⊎
+    (AllHold (link_rules parts) × IsFirstFault (version_rules parts) f)))))
 
--- parts keep all rules exactly if they form a well-formed grammar
+-- parts keep all rules exactly if they form a well-formed grammar with earlier versions
 abbrev pub FormingLaw : Type 0
-FormingLaw = (parts : Parts) → AreKept parts ↔ IsFormed parts
+FormingLaw = (parts : Parts) → (AreKept parts ↔ IsFormed parts) × (AllHold (version_rules parts) ↔ HaveVersions parts)

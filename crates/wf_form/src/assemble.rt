@@ -74,7 +74,7 @@ fn productions_from(
     Ok(Listed { productions, lists })
 }
 
-/// The grammar of parts, with its tables, from its modules, their names, and the links of its productions by numbers.
+/// The grammar of parts, with its tables and with no earlier versions, from its modules, their names, and the links of its productions by numbers.
 ///
 /// Cost: linear in the links, the pairs and the inputs of the modules; a look-up by hashing for the start and for each deps part, and for each pair a look at no more than 64 inputs and 64 outputs.
 pub fn assemble(
@@ -101,5 +101,6 @@ pub fn assemble(
         names,
         lists,
         rows,
+        Seq::from_vec(Vec::new(alloc)),
     ))
 }

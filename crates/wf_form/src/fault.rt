@@ -11,6 +11,7 @@ pub enum Spot {
     Module(u64),
     Production(u64),
     DepsAt(u64),
+    Version(u64),
 }
 
 /// Why parts form no grammar, in the order of trial.
@@ -50,6 +51,10 @@ pub enum FormFault {
     BodyCycle { production: u64 },
     /// A deps part names a composite module.
     DepsOnComposite { deps: u64 },
+    /// There are more than 64 versions.
+    TooManyVersions,
+    /// A version has more modules or productions than there are, or one of its productions has a head or a module that is none of its modules, or the start is none of them.
+    VersionBad { version: u64 },
     /// Memory was refused.
     NoMemory,
 }

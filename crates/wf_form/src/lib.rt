@@ -7,6 +7,7 @@ mod fault;
 mod forming;
 mod law;
 mod links;
+mod versions;
 mod wiring;
 
 pub use fault::{FormFault, Spot};

@@ -52,14 +52,6 @@ pub fn module_number(names: &Names, name: &[u8]) -> ModNo
     ModNo(names.find(name).unwrap() as u16)
 }
 
-/// A copy of a name.
-pub fn copied(alloc: Global, name: &Name) -> Result<Name, AllocError>
-    ensures { IfOk result (λ n. n ≡ name.now) }
-{
-    let bytes = Vec::from_slice(alloc, name.bytes())?;
-    Ok(Name::from_vec(bytes))
-}
-
 /// The positions of a body.
 fn positions_from(
     alloc: Global,
@@ -74,7 +66,7 @@ fn positions_from(
     let mut list = Vec::new(alloc);
     for part in parts {
         let number = module_number(names, part.module.bytes());
-        let name = copied(alloc, &part.name)?;
+        let name = Name::copied(alloc, part.name.bytes())?;
         list.push(Position {
             name,
             module: number,

@@ -11,8 +11,8 @@ pub mod OneRun
 pub mod OneRunFault
 pub mod OneValue
 pub mod OneViewFault
+pub mod ChangedVersions
 pub mod SpecSteps
-pub mod StoresTold
 pub mod Taking
 pub mod ToldGrammars
 pub mod ViewComposites

@@ -5,6 +5,7 @@ use Rattle.serde_json.specs.Data.{Data}
 use Rattle.wf_model.specs.declared.event.Event.{Event}
 use Rattle.wf_model.specs.Grammar.{Grammar}
 use Rattle.wf_model.specs.View.{View}
+use Rattle.wf_spec.specs.Held.{HeldGrammar}
 use Rattle.report_model.specs.Reports.{Report}
 use Rattle.report_model.specs.Intake.{GoesOn, state_after, intake}
 use Rattle.wf_io.specs.Lines.{Line, FileLines, text_of}
@@ -13,7 +14,7 @@ use Rattle.wf_json.specs.Reading.{IsReading}
 use Rattle.wf_json.specs.SpecForm.{spec_of}
 use Rattle.wf_json.specs.ViewForm.{view_of as parts_in}
 use Rattle.wf_events.specs.EventForm.{event_of}
-use Rattle.wf_form.specs.Forming.{grammar_of}
+use Rattle.wf_form.specs.Forming.{held_of}
 use Rattle.wf_view.specs.Viewing.{view_of}
 use Rattle.wf_inputs.specs.Specification.{TellsGrammar}
 use Rattle.wf_inputs.specs.ViewTold.{TellsView}
@@ -46,8 +47,8 @@ IsSaid form bytes a = (d : Data) × IsReading bytes d × (form d ≡ Ok a)
 one_said : {A : Type 0} (form : Data → Result A Member) (bytes : List ℕ) (a b : A) → IsSaid form bytes a → IsSaid form bytes b → a ≡ b
 one_said form bytes a b p q = one_ok (form q.0) a b (ap form (sym (one_reading bytes p.0 q.0 p.1 q.1)) ∙ p.2) q.2
 
-pub one_grammar : (bytes : List ℕ) (g h : Grammar) → TellsGrammar bytes g → TellsGrammar bytes h → h ≡ g
-one_grammar bytes g h p q = q.is ∙ (ap grammar_of (one_said spec_of bytes q.parts p.parts q.read p.read) ∙ sym p.is)
+pub one_grammar : (bytes : List ℕ) (g h : HeldGrammar) → TellsGrammar bytes g → TellsGrammar bytes h → h ≡ g
+one_grammar bytes g h p q = q.is ∙ (ap held_of (one_said spec_of bytes q.parts p.parts q.read p.read) ∙ sym p.is)
 
 pub one_view : (g : Grammar) (bytes : List ℕ) (u v : View) → TellsView g bytes u → TellsView g bytes v → v ≡ u
 one_view g bytes u v p q = q.is ∙ (ap (view_of g) (one_said parts_in bytes q.parts p.parts q.read p.read) ∙ sym p.is)

@@ -7,6 +7,7 @@ use Rattle.report_model.specs.Kept.{Kept, report_of, is_held, kept_at, NoneHeldB
 use Rattle.wf_inbox.specs.Inboxes.{IsOrphan, NoneHeld}
 use Rattle.wf_intake.specs.Reported.{ReportedSeen, none_reported}
 use Rattle.wf_intake.specs.Intakes.{IsIntakeOf, IsWrittenOn, fault_told}
+use Rattle.wf_intake.specs.Rounds.{GoesOnTo, StopsWith}
 use Rattle.wf_intake.proofs.Beginning.{intake_begins}
 use Rattle.wf_intake.specs.declared.fault.IntakeFault.{IntakeFault}
 use Rattle.wf_intake.specs.declared.fault.IntakeFault.TheVariants.{Conflict as HasConflict, Refused as HasRefused, Orphan as HasOrphan, NoMemory as WantsMemory}
@@ -37,36 +38,36 @@ behind w before after old new none h = h.2 ∙ ap (λ p. w before ++ p) (sym (h.
 module _ (written : Grammar → List Event → List ℕ) (g : Grammar) (m : ℕ) (old : List Kept) (was : ReportedSeen) (IsRun : List Event → Type 0) (number : ℕ) (text : List ℕ) (event : Event) (told : IsEventText text event) (before made : List ℕ) (none : before ≡ []) where
   -- the report of a line is taken, so the line is
   pub report_taken : (h : Grammar) (n : ℕ) (new : List Kept) (seen : ReportedSeen) (IsLater : List Event → Type 0) → h ≡ g → n ≡ m →
-      ((s : Intake) → IsIntakeOf g old was IsRun s → (q : Intake) × (take_report g m s (report_on number event) ≡ GoesOn q) × IsIntakeOf h new seen IsLater q × IsWrittenOn (written g) s.run q.run before made) →
+      ((s : Intake) → IsIntakeOf g old was IsRun s → GoesOnTo h (written g) new seen IsLater before made s (take_report g m s (report_on number event))) →
       (s : TakenSoFar) → IsTakenAs g m old was IsRun s → (q : TakenSoFar) × TakesReport written s number text q made × IsTakenAs h n new seen IsLater q
   report_taken h n new seen IsLater grammar limit takes s at =
       let t = takes s.state at.intake in (
-        with_state s t.0,
+        with_state s t.later,
         record {
           event = event;
-          state = t.0;
+          state = t.later;
           told = told;
-          taken = subst (λ x. take_report x s.limit s.state (report_on number event) ≡ GoesOn t.0) (sym at.grammar) (subst (λ k. take_report g k s.state (report_on number event) ≡ GoesOn t.0) (sym at.limit) t.1);
+          taken = subst (λ x. take_report x s.limit s.state (report_on number event) ≡ GoesOn t.later) (sym at.grammar) (subst (λ k. take_report g k s.state (report_on number event) ≡ GoesOn t.later) (sym at.limit) t.goes_on);
           leaves = refl;
-          made_is = subst (λ x. IsWrittenBehind (written x) s.state.run t.0.run made) (sym at.grammar) (behind (written g) s.state.run t.0.run before made none t.3);
+          made_is = subst (λ x. IsWrittenBehind (written x) s.state.run t.later.run made) (sym at.grammar) (behind (written g) s.state.run t.later.run before made none t.text);
         },
-        record { grammar = at.grammar ∙ sym grammar; limit = at.limit ∙ sym limit; intake = t.2 },
+        record { grammar = at.grammar ∙ sym grammar; limit = at.limit ∙ sym limit; intake = t.here },
       )
 
   -- the report of a line is refused, or another is when it is taken: so the line ends the program
-  pub report_refused : (r : ReportFault) (e : End) → e ≡ report_end r →
-      ((s : Intake) → IsIntakeOf g old was IsRun s → (q : Intake) × (take_report g m s (report_on number event) ≡ Stops q r) × IsWrittenOn (written g) s.run q.run before made) →
+  pub report_refused : (IsLater : List Event → Type 0) (r : ReportFault) (e : End) → e ≡ report_end r →
+      ((s : Intake) → IsIntakeOf g old was IsRun s → StopsWith (written g) IsLater before made s (take_report g m s (report_on number event)) r) →
       (s : TakenSoFar) → IsTakenAs g m old was IsRun s → StopsReport written s number text e made
-  report_refused r e is stops s at =
+  report_refused IsLater r e is stops s at =
       let t = stops s.state at.intake in
       inr (record {
         event = event;
-        state = t.0;
+        state = t.left;
         fault = r;
         told = told;
-        refused = subst (λ x. take_report x s.limit s.state (report_on number event) ≡ Stops t.0 r) (sym at.grammar) (subst (λ k. take_report g k s.state (report_on number event) ≡ Stops t.0 r) (sym at.limit) t.1);
+        refused = subst (λ x. take_report x s.limit s.state (report_on number event) ≡ Stops t.left r) (sym at.grammar) (subst (λ k. take_report g k s.state (report_on number event) ≡ Stops t.left r) (sym at.limit) t.stops);
         ending_is = is;
-        made_is = subst (λ x. IsWrittenBehind (written x) s.state.run t.0.run made) (sym at.grammar) (behind (written g) s.state.run t.0.run before made none t.2);
+        made_is = subst (λ x. IsWrittenBehind (written x) s.state.run t.left.run made) (sym at.grammar) (behind (written g) s.state.run t.left.run before made none t.text);
       })
 
 -- the end at which a report is refused says something of files

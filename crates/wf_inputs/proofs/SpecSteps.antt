@@ -2,16 +2,16 @@
 use Rattle.std.proofs.Common.{◌≡◌, ◌⊎◌, ℕ, List, None, refl, subst, inl, inr, ⊎_elim}
 use Rattle.std.specs.Prelude.{codes}
 use Rattle.wf_model.specs.declared.parts.Parts.{Parts}
-use Rattle.wf_model.specs.Grammar.{Grammar}
+use Rattle.wf_spec.specs.Held.{HeldGrammar}
 use Rattle.wf_model.specs.Proper.{IsProper}
 use Rattle.wf_model.specs.Linear.{IsLinear}
 use Rattle.wf_form.specs.declared.fault.FormFault.{FormFault}
 use Rattle.wf_form.specs.declared.fault.FormFault.TheVariants.{NoMemory as NoMemoryOfForm}
-use Rattle.wf_form.specs.Forming.{grammar_of, IsFormed}
+use Rattle.wf_form.specs.Forming.{held_of, IsFormed, HaveVersions}
 use Rattle.wf_form.specs.Rules.{IsFaultOf}
 use Rattle.wf_message.specs.Endings.{End, Refused, NoMemory}
 use Rattle.wf_inputs.specs.Faults.{form_text}
-use Rattle.wf_inputs.specs.Specification.{IsSpecText, TellsGrammar, RefusesGrammar, RefusesParts, RefusesSpec}
+use Rattle.wf_inputs.specs.Specification.{IsSpecText, AllKeepCycles, TellsGrammar, RefusesGrammar, RefusesParts, RefusesSpec}
 use Rattle.wf_stage.specs.Stages.{OfWhole, Declines}
 use Rattle.wf_stage.proofs.Stages.{fault_declines}
 
@@ -24,18 +24,20 @@ module _ (bytes : List ℕ) (parts : Parts) (read : IsSpecText bytes parts) wher
   pub refuses_by_parts : (fault : List ℕ) → RefusesParts parts fault → RefusesSpec bytes fault
   refuses_by_parts fault h = inr (read.0, read.1, inr (parts, read.2, h))
 
-  module _ (g : Grammar) (formed : (g ≡ grammar_of parts) × IsFormed parts) where
+  module _ (h : HeldGrammar) (formed : (h ≡ held_of parts) × IsFormed parts × HaveVersions parts) where
     -- so is that of their grammar
-    pub refuses_by_grammar : (fault : List ℕ) → RefusesGrammar g fault → RefusesSpec bytes fault
-    refuses_by_grammar fault h = refuses_by_parts fault (inr (formed.1, subst (λ x. RefusesGrammar x fault) formed.0 h))
+    pub refuses_by_grammar : (fault : List ℕ) → RefusesGrammar h fault → RefusesSpec bytes fault
+    refuses_by_grammar fault r = refuses_by_parts fault (inr (formed.1, formed.2, subst (λ x. RefusesGrammar x fault) formed.0 r))
 
     -- a grammar that is taken is told
-    pub told_grammar : IsProper g → IsLinear g → TellsGrammar bytes g
-    told_grammar proper linear = record {
+    pub told_grammar : IsProper h.core → IsLinear h.core → AllKeepCycles h → TellsGrammar bytes h
+    told_grammar proper linear keeps = record {
       parts = parts;
       read = read;
       formed = formed.1;
-      proper = subst IsProper formed.0 proper;
-      linear = subst IsLinear formed.0 linear;
+      versions = formed.2;
+      proper = subst (λ (x : HeldGrammar). IsProper x.core) formed.0 proper;
+      linear = subst (λ (x : HeldGrammar). IsLinear x.core) formed.0 linear;
+      keeps = subst AllKeepCycles formed.0 keeps;
       is = formed.0;
     }

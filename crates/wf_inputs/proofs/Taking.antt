@@ -25,14 +25,14 @@ use Rattle.wf_inputs.proofs.OneRun.{events_goes_on}
 use Rattle.wf_inputs.proofs.OneLabels.{one_entries, no_refusal_of_labels}
 
 module _ {S T : Type 0} {files : S → Option (List ℕ → File)} {faults : S → ℕ} {last : S → Bool} {bytes : T → Option (List ℕ)} {counts : T → ℕ} {out_last : T → Bool} {name : List ℕ} where
-  module _ (Next : (List ℕ → File) → Grammar → End → List ℕ → Type 0) where
+  module _ (Next : (List ℕ → File) → HeldGrammar → End → List ℕ → Type 0) where
     -- SPEC ends the command
     pub spec_stops : (s t : S) (o : T) (e : End) → HasStopped files faults last spec_kind name (OfWhole RefusesSpec) s t e → Obeys files faults last bytes counts out_last [] (λ f. SpecStage (f name) (Next f)) s t o o e
     spec_stops = obeys_stop [] Next (λ f a. begins_nothing (Next f a))
 
     -- the grammar of SPEC is taken on
-    pub spec_goes : (s t u : S) (o p : T) (e : End) (g : Grammar) → HasRead files faults spec_kind name TellsGrammar s t g → Obeys files faults last bytes counts out_last [] (λ f. Next f g) t u o p e → Obeys files faults last bytes counts out_last [] (λ f. SpecStage (f name) (Next f)) s u o p e
-    spec_goes = obeys_on [] Next one_grammar (λ b g line fault told r. no_refusal b fault g told r.1)
+    pub spec_goes : (s t u : S) (o p : T) (e : End) (h : HeldGrammar) → HasRead files faults spec_kind name TellsGrammar s t h → Obeys files faults last bytes counts out_last [] (λ f. Next f h) t u o p e → Obeys files faults last bytes counts out_last [] (λ f. SpecStage (f name) (Next f)) s u o p e
+    spec_goes = obeys_on [] Next one_grammar (λ b h line fault told r. no_refusal b fault h told r.1)
 
   module _ (g : Grammar) where
     module _ (Next : (List ℕ → File) → View → End → List ℕ → Type 0) where
@@ -71,15 +71,16 @@ module _ {S T : Type 0} {files : S → Option (List ℕ → File)} {faults : S �
         put_later = h.put_later;
       }
 
+  module _ (h : HeldGrammar) where
     module _ (Next : (List ℕ → File) → List Entry → End → List ℕ → Type 0) where
       -- LABELS ends the command
-      pub labels_stop : (s t : S) (o : T) (e : End) → HasStopped files faults last labels_kind name (OfWhole (RefusesLabels g)) s t e → Obeys files faults last bytes counts out_last [] (λ f. Stage labels_kind [] (f name) (TellsEntries g) (OfWhole (RefusesLabels g)) (Next f)) s t o o e
+      pub labels_stop : (s t : S) (o : T) (e : End) → HasStopped files faults last labels_kind name (OfWhole (RefusesLabels h)) s t e → Obeys files faults last bytes counts out_last [] (λ f. Stage labels_kind [] (f name) (TellsEntries h) (OfWhole (RefusesLabels h)) (Next f)) s t o o e
       labels_stop = obeys_stop [] Next (λ f a. begins_nothing (Next f a))
 
       -- the entries of LABELS are taken on
-      pub labels_go : (s t u : S) (o p : T) (e : End) (es : List Entry) → HasRead files faults labels_kind name (TellsEntries g) s t es → Obeys files faults last bytes counts out_last [] (λ f. Next f es) t u o p e → Obeys files faults last bytes counts out_last [] (λ f. Stage labels_kind [] (f name) (TellsEntries g) (OfWhole (RefusesLabels g)) (Next f)) s u o p e
-      labels_go = obeys_on [] Next (one_entries g) (λ b es line fault told r. no_refusal_of_labels g b es line fault told r)
+      pub labels_go : (s t u : S) (o p : T) (e : End) (es : List Entry) → HasRead files faults labels_kind name (TellsEntries h) s t es → Obeys files faults last bytes counts out_last [] (λ f. Next f es) t u o p e → Obeys files faults last bytes counts out_last [] (λ f. Stage labels_kind [] (f name) (TellsEntries h) (OfWhole (RefusesLabels h)) (Next f)) s u o p e
+      labels_go = obeys_on [] Next (one_entries h) (λ b es line fault told r. no_refusal_of_labels h b es line fault told r)
 
 -- the same by the same grammar
-pub with_grammar : {S T : Type 0} {files : S → Option (List ℕ → File)} {faults : S → ℕ} {last : S → Bool} {bytes : T → Option (List ℕ)} {counts : T → ℕ} {out_last : T → Bool} (first : List ℕ) (Next : (List ℕ → File) → Grammar → End → List ℕ → Type 0) (g h : HeldGrammar) (s t : S) (o p : T) (e : End) → g ≡ h → Obeys files faults last bytes counts out_last first (λ f. Next f g.core) s t o p e → Obeys files faults last bytes counts out_last first (λ f. Next f h.core) s t o p e
-with_grammar {files = files} {faults = faults} {last = last} {bytes = bytes} {counts = counts} {out_last = out_last} first Next g h s t o p e same = subst (λ (x : HeldGrammar). Obeys files faults last bytes counts out_last first (λ f. Next f x.core) s t o p e) same
+pub with_grammar : {S T : Type 0} {files : S → Option (List ℕ → File)} {faults : S → ℕ} {last : S → Bool} {bytes : T → Option (List ℕ)} {counts : T → ℕ} {out_last : T → Bool} (first : List ℕ) (Next : (List ℕ → File) → HeldGrammar → End → List ℕ → Type 0) (g h : HeldGrammar) (s t : S) (o p : T) (e : End) → g ≡ h → Obeys files faults last bytes counts out_last first (λ f. Next f g) s t o p e → Obeys files faults last bytes counts out_last first (λ f. Next f h) s t o p e
+with_grammar {files = files} {faults = faults} {last = last} {bytes = bytes} {counts = counts} {out_last = out_last} first Next g h s t o p e same = subst (λ (x : HeldGrammar). Obeys files faults last bytes counts out_last first (λ f. Next f x) s t o p e) same

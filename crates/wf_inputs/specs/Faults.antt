@@ -3,11 +3,11 @@ use Rattle.std.specs.Prelude.{ℕ, List, [], ◌++◌, Option, Some, None, codes
 use Rattle.wf_model.specs.declared.event.RunFault.{RunFault}
 use Rattle.wf_model.specs.declared.event.RunFault.TheVariants.{NotStarted, StartedTwice, UnknownInstance, UnknownProduction, WrongHead, AlreadyExpanded, PositionsWrong, NameBad as NameBadOfRun, NameTwice as NameTwiceOfRun, TooManyInstances, NoMemory as NoMemoryOfRun}
 use Rattle.wf_json.specs.declared.fault.Member.{Member}
-use Rattle.wf_json.specs.declared.fault.Member.TheVariants.{Top, Start, Modules, Productions, DepsList, Expand}
+use Rattle.wf_json.specs.declared.fault.Member.TheVariants.{Top, Start, Modules, Productions, DepsList, Versions, Expand}
 use Rattle.wf_form.specs.declared.fault.Spot.{Spot}
-use Rattle.wf_form.specs.declared.fault.Spot.TheVariants.{Start as AtStart, Module as AtModule, Production as AtProduction, DepsAt}
+use Rattle.wf_form.specs.declared.fault.Spot.TheVariants.{Start as AtStart, Module as AtModule, Production as AtProduction, DepsAt, Version as AtVersion}
 use Rattle.wf_form.specs.declared.fault.FormFault.{FormFault}
-use Rattle.wf_form.specs.declared.fault.FormFault.TheVariants.{NameBad, NameTwice, PortTwice, TooManyPorts, TooManyModules, TooManyProductions, UnknownModule, EmptyBody, BodyTooLong, BodiesTooLarge, PositionTwice, UnknownPort, PortLinkedTwice, PortUnlinked, BodyCycle, DepsOnComposite, NoMemory}
+use Rattle.wf_form.specs.declared.fault.FormFault.TheVariants.{NameBad, NameTwice, PortTwice, TooManyPorts, TooManyModules, TooManyProductions, UnknownModule, EmptyBody, BodyTooLong, BodiesTooLarge, PositionTwice, UnknownPort, PortLinkedTwice, PortUnlinked, BodyCycle, DepsOnComposite, TooManyVersions, VersionBad, NoMemory}
 use Rattle.wf_view.specs.declared.fault.ViewSpot.{ViewSpot}
 use Rattle.wf_view.specs.declared.fault.ViewSpot.TheVariants.{ExpandAt, DepsAt as DepsAtOfView}
 use Rattle.wf_view.specs.declared.fault.ViewFault.{ViewFault}
@@ -22,6 +22,7 @@ member_word Start = codes "start"
 member_word Modules = codes "modules"
 member_word Productions = codes "productions"
 member_word DepsList = codes "deps"
+member_word Versions = codes "versions"
 member_word Expand = codes "expand"
 
 -- a member that has not its form
@@ -34,6 +35,7 @@ spot_text AtStart = codes "start"
 spot_text (AtModule n) = codes "module " ++ decimal n
 spot_text (AtProduction n) = codes "production " ++ decimal n
 spot_text (DepsAt n) = codes "deps " ++ decimal n
+spot_text (AtVersion n) = codes "version " ++ decimal n
 
 -- the name of a fault of parts
 abbrev pub form_name : FormFault → List ℕ
@@ -53,6 +55,8 @@ form_name (PortLinkedTwice n) = codes "PortLinkedTwice"
 form_name (PortUnlinked n) = codes "PortUnlinked"
 form_name (BodyCycle n) = codes "BodyCycle"
 form_name (DepsOnComposite n) = codes "DepsOnComposite"
+form_name TooManyVersions = codes "TooManyVersions"
+form_name (VersionBad n) = codes "VersionBad"
 form_name NoMemory = codes "NoMemory"
 
 -- the part that it is about, where it is about one
@@ -73,6 +77,8 @@ form_spot (PortLinkedTwice n) = Some (AtProduction n)
 form_spot (PortUnlinked n) = Some (AtProduction n)
 form_spot (BodyCycle n) = Some (AtProduction n)
 form_spot (DepsOnComposite n) = Some (DepsAt n)
+form_spot TooManyVersions = None
+form_spot (VersionBad n) = Some (AtVersion n)
 form_spot NoMemory = None
 
 -- a part behind a space, and nothing where there is none

@@ -3,6 +3,7 @@ use Rattle.std.specs.Prelude.{ℕ, List, [], codes}
 use Rattle.wf_model.specs.Grammar.{Grammar}
 use Rattle.wf_model.specs.View.{View}
 use Rattle.wf_io.specs.Told.{File}
+use Rattle.wf_spec.specs.Held.{HeldGrammar}
 use Rattle.wf_message.specs.Endings.{End}
 use Rattle.wf_stage.specs.Kinds.{Kind}
 use Rattle.wf_stage.specs.Stages.{Stage, OfWhole}
@@ -26,7 +27,7 @@ abbrev pub instance_most : ℕ
 instance_most = 16777216
 
 -- SPEC, as every command takes it
-abbrev pub SpecStage : File → (Grammar → End → List ℕ → Type 0) → End → List ℕ → Type 0
+abbrev pub SpecStage : File → (HeldGrammar → End → List ℕ → Type 0) → End → List ℕ → Type 0
 SpecStage spec = Stage spec_kind [] spec TellsGrammar (OfWhole RefusesSpec)
 
 -- VIEW of a grammar, as every command takes it

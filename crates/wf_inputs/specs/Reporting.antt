@@ -1,11 +1,18 @@
 -- What takes the lines of a file of events as reports.
-use Rattle.std.specs.Prelude.{◌≡◌, ℕ, List}
+use Rattle.std.specs.Prelude.{◌≡◌, ℕ, Bool, List, position, Option, Some, Result, bytes_eq}
+use Rattle.std.specs.Cmp.Lexicographic.{pointwise}
 use Rattle.wf_model.specs.declared.event.Event.{Event}
 use Rattle.wf_model.specs.Grammar.{Grammar}
+use Rattle.wf_model.specs.Run.{Expanded, expanded_by}
 use Rattle.report_model.specs.Kept.{Kept}
 use Rattle.wf_intake.specs.Reported.{ReportedSeen}
 use Rattle.wf_intake.specs.Intakes.{IsIntakeOf}
-use Rattle.wf_flat.specs.Table.{Table, IsTableOf, events_of}
+use Rattle.wf_flat.specs.Table.{Table, IsTableOf, events_of, names_in}
+use Rattle.wf_io.specs.Told.{File}
+use Rattle.wf_message.specs.declared.ending.Stop.{Stop}
+use Rattle.wf_stage.specs.Promises.{ReadsLines}
+use Rattle.wf_inputs.specs.Inputs.{instance_most}
+use Rattle.wf_inputs.specs.RunTold.{TellsEvents, StopsEvents}
 use Rattle.wf_inputs.specs.RunTaking.{TakenSoFar}
 
 -- reports are taken so far: these reports are kept, these lines reported the events that are applied, and the run has grown by these
@@ -23,3 +30,12 @@ pub record GrowingSeen : Type 0 where
 pub record IsGrownBy (r : GrowingSeen) (es : List Event) : Type 0 where
   pub run : IsTableOf r.grammar r.run
   pub events : events_of r.run ≡ es
+
+-- an answer says whether the instance of a number of a table was expanded into instances of these names
+abbrev pub IsChildrenTestIn : Table → ℕ → List (List ℕ) → Bool → Type 0
+IsChildrenTestIn t number names answer =
+    (instance : List ℕ) (x : Expanded) → position (bytes_eq instance) (names_in t.instances) ≡ Some number → expanded_by (events_of t) instance ≡ Some x → answer ≡ pointwise bytes_eq x.names names
+
+-- what a stage that reads the lines of a file of events of a grammar answers: the table of the run that they tell
+abbrev pub ReadsEvents : {S : Type 0} → (S → Option (List ℕ → File)) → (S → ℕ) → (S → Bool) → List ℕ → Grammar → S → S → Result Table Stop → Type 0
+ReadsEvents files faults last name g old new result = ReadsLines files faults last name (TellsEvents g instance_most) events_of (StopsEvents g instance_most) old new result

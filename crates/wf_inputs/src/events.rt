@@ -1,14 +1,11 @@
 // EVENTS: from the lines of a file to a run.
-ghost use Rattle.std.specs.Prelude.{◌≡◌, [], ℕ, List, Some, IfOk, length, take, position, bytes_eq};
+ghost use Rattle.std.specs.Prelude.{◌≡◌, [], IfOk, length, take, bytes_eq};
 ghost use Rattle.std.specs.Cmp.Lexicographic.{pointwise};
 ghost use Rattle.wf_model.specs.Grammar.{Grammar, body_of};
-ghost use Rattle.wf_model.specs.Run.{Expanded, expanded_by};
-ghost use Rattle.wf_flat.specs.Table.{IsTableOf, events_of, names_in};
-ghost use Rattle.wf_stage.specs.Promises.{ReadsLines};
+ghost use Rattle.wf_flat.specs.Table.{IsTableOf, names_in};
 ghost use Rattle.wf_inputs.specs.Inputs.{instance_most};
-ghost use Rattle.wf_inputs.specs.RunTold.{TellsEvents, StopsEvents};
 ghost use Rattle.wf_inputs.specs.RunTaking.{nothing_written};
-ghost use Rattle.wf_inputs.specs.Reporting.{IsGrownBy};
+ghost use Rattle.wf_inputs.specs.Reporting.{IsGrownBy, IsChildrenTestIn, ReadsEvents};
 
 use crate::kinds::EVENTS;
 use crate::reports::Reporting;
@@ -96,7 +93,7 @@ fn have_names(instances: &[Inst], names: &[Name]) -> bool
 /// Whether the instance of a number was expanded into instances of these names.
 fn are_children(g: &Grammar, run: &PlainRun, number: u32, names: &[Name]) -> bool
     requires { IsTableOf g.now.core run.now }
-    ensures { (instance : List ℕ) (x : Expanded) → position (bytes_eq instance) (names_in run.now.instances) ≡ Some number → expanded_by (events_of run.now) instance ≡ Some x → result ≡ pointwise bytes_eq x.names names.now }
+    ensures { IsChildrenTestIn run.now number names.now result }
 {
     let instances = run.instances();
     let Some(x) = instances.get(number as usize) else {
@@ -168,7 +165,7 @@ pub fn events_stage<H: Shelf>(
     g: &Grammar,
 ) -> Result<PlainRun, Stop>
     ensures run { IfOk result (λ r. IsTableOf g.now.core r) }
-    ensures reads { ReadsLines H.files H.faults H.at_last name.now (TellsEvents g.now.core instance_most) events_of (StopsEvents g.now.core instance_most) shelf.old shelf.new result }
+    ensures reads { ReadsEvents H.files H.faults H.at_last name.now g.now.core shelf.old shelf.new result }
 {
     let Ok(mut lines) = Lines::open(alloc, name) else {
         return Err(Stop::NoMemory);

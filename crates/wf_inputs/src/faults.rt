@@ -26,6 +26,7 @@ fn member_word(member: Member) -> &'static [u8]
         Member::Modules => b"modules",
         Member::Productions => b"productions",
         Member::DepsList => b"deps",
+        Member::Versions => b"versions",
         Member::Expand => b"expand",
     }
 }
@@ -60,6 +61,8 @@ fn form_name(fault: FormFault) -> &'static [u8]
         FormFault::PortUnlinked { production: _ } => b"PortUnlinked",
         FormFault::BodyCycle { production: _ } => b"BodyCycle",
         FormFault::DepsOnComposite { deps: _ } => b"DepsOnComposite",
+        FormFault::TooManyVersions => b"TooManyVersions",
+        FormFault::VersionBad { version: _ } => b"VersionBad",
         FormFault::NoMemory => b"NoMemory",
     }
 }
@@ -85,6 +88,8 @@ fn form_spot(fault: FormFault) -> Option<Spot>
         FormFault::PortUnlinked { production } => Some(Spot::Production(production)),
         FormFault::BodyCycle { production } => Some(Spot::Production(production)),
         FormFault::DepsOnComposite { deps } => Some(Spot::DepsAt(deps)),
+        FormFault::TooManyVersions => None,
+        FormFault::VersionBad { version } => Some(Spot::Version(version)),
         FormFault::NoMemory => None,
     }
 }
@@ -111,6 +116,11 @@ fn at_spot(name: &'static [u8], at: Spot) -> Refusal
         Spot::DepsAt(number) => Refusal::Numbered {
             name,
             part: b"deps",
+            number,
+        },
+        Spot::Version(number) => Refusal::Numbered {
+            name,
+            part: b"version",
             number,
         },
     }

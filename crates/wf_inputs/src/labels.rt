@@ -12,7 +12,7 @@ use crate::kinds::LABELS;
 use crate::spec::Spec;
 use label_file::{Store, StoreFault};
 use std::alloc::Global;
-use wf_json::digest;
+use wf_json::digests;
 use wf_message::{Stop, refused_whole};
 
 /// The stop at a fault of a label file.
@@ -26,11 +26,11 @@ fn store_stop(fault: StoreFault) -> Stop
     }
 }
 
-/// The entries of a label file of a grammar, which lie in its bytes. Their names are hashed with this key.
+/// The entries of a label file of a grammar or of one of its earlier versions, which lie in its bytes. Their names are hashed with this key.
 ///
 /// Refused with the first that there is of: NotLabels; OtherSpec; and, entry by entry, Truncated, BadName, NameTwice and BadLabel. `NoMemory` may come at any time.
 ///
-/// Cost: those of `digest` and of `Store::open`.
+/// Cost: those of `digests` and of `Store::open`.
 pub fn store_of<'b>(
     alloc: Global,
     key: u64,
@@ -38,14 +38,14 @@ pub fn store_of<'b>(
     bytes: &'b [u8],
 ) -> Result<Store<'b>, Stop>
     requires few { length bytes.now ≤ 2 ^ 30 }
-    ensures store { IfOk result (λ s. (entries : List Entry) × TellsEntries spec.now.grammar.core bytes.now entries × AreHeldOf spec.now.grammar.core entries s) }
-    ensures declines { IfErr result (λ e. Declines (codes "labels") (OfWhole (RefusesLabels spec.now.grammar.core) bytes.now) (end_of e)) }
+    ensures store { IfOk result (λ s. (entries : List Entry) × TellsEntries spec.now.grammar bytes.now entries × AreHeldOf spec.now.grammar.core entries s) }
+    ensures declines { IfErr result (λ e. Declines (codes "labels") (OfWhole (RefusesLabels spec.now.grammar) bytes.now) (end_of e)) }
 {
     let g = spec.grammar();
-    let Ok(digest) = digest(alloc, g) else {
+    let Ok(digests) = digests(alloc, g) else {
         return Err(Stop::NoMemory);
     };
-    match Store::open_with_key(alloc, key, g, spec.cycles(), &digest, bytes) {
+    match Store::open_with_key(alloc, key, g, spec.cycles(), &digests, bytes) {
         Ok(store) => Ok(store),
         Err(fault) => Err(store_stop(fault)),
     }

@@ -9,6 +9,8 @@ use Rattle.std.proofs.lemmas.List.{append-nil}
 use Rattle.wf_model.specs.Lists.{numbers_from}
 use Rattle.wf_model.proofs.NumberLists.{numbers_from-last}
 use Rattle.wf_json.specs.Canonical.{list_of}
+use Rattle.wf_json.specs.Writing.{Takes}
+use Rattle.wf_json.proofs.Taken.{behind, renamed}
 
 -- one text more, with the separator before it where it is not the first
 pub join_by-more : (text : ℕ → List ℕ) (sep : List ℕ) (k : ℕ) → join_by text sep (numbers_from 0 (k + 1)) ≡ join_by text sep (numbers_from 0 k) ++ (cond (k == 0) [] sep ++ text k)
@@ -24,14 +26,11 @@ join_by-more text sep (suc k) =
     ∙ sym (append_assoc (text 0) (flat_map f (numbers_from 1 k)) (f (suc k)))
     ∙ ap (λ b. join_by text sep (numbers_from 0 (suc k)) ++ (cond b [] sep ++ text (suc k))) (sym (ne_eqb (suc k) 0 (λ e. absurd (omega arith))))
 
--- a loop that appends the separator and the text of its number has appended one text more
-pub joined_more : (text : ℕ → List ℕ) (sep : List ℕ) (k : ℕ) (start before between after : List ℕ) → before ≡ start ++ join_by text sep (numbers_from 0 k)
-    → between ≡ before ++ cond (k == 0) [] sep → after ≡ between ++ text k → after ≡ start ++ join_by text sep (numbers_from 0 (k + 1))
-joined_more text sep k start before between after so_far separated appended =
-    appended ∙ ap (λ t. t ++ text k) (separated ∙ ap (λ t. t ++ cond (k == 0) [] sep) so_far)
-    ∙ append_assoc (start ++ join_by text sep (numbers_from 0 k)) (cond (k == 0) [] sep) (text k)
-    ∙ append_assoc start (join_by text sep (numbers_from 0 k)) (cond (k == 0) [] sep ++ text k)
-    ∙ ap (λ t. start ++ t) (sym (join_by-more text sep k))
+-- a loop that takes the separator and the text of its number has taken one text more
+pub joined_more : {S : Type 0} {holds : S → List ℕ → Type 0} {start before between after : S} (text : ℕ → List ℕ) (sep : List ℕ) (k : ℕ) → Takes holds start before (join_by text sep (numbers_from 0 k))
+    → Takes holds before between (cond (k == 0) [] sep) → Takes holds between after (text k) → Takes holds start after (join_by text sep (numbers_from 0 (k + 1)))
+joined_more text sep k so_far separated taken =
+    renamed (append_assoc (join_by text sep (numbers_from 0 k)) (cond (k == 0) [] sep) (text k) ∙ sym (join_by-more text sep k)) (behind (behind so_far separated) taken)
 
 shifted : {A : Type 0} (f : A → List ℕ) (x : A) (xs : List A) (d : A) (j n : ℕ) → flat_map (λ k. f (get_or (x ∷ xs) k d)) (numbers_from (suc j) n) ≡ flat_map (λ k. f (get_or xs k d)) (numbers_from j n)
 shifted f x xs d j zero = refl
@@ -48,9 +47,9 @@ join_by-by_number text sep (x ∷ xs) d =
     let f = λ (y : _). sep ++ text y in
     ap (λ t. text x ++ t) (shifted f x xs d 0 (length xs) ∙ flat_map-by_number f xs d)
 
--- a list that was appended by number was appended
-pub appended : {A E : Type 0} (text : A → List ℕ) (xs : List A) (d : A) (count : ℕ) (r : Result (Unit {0}) E) (old new : List ℕ) → count ≡ length xs
-    → OnOk r (new ≡ old ++ list_of (λ k. text (get_or xs k d)) (numbers_from 0 count)) → OnOk r (new ≡ old ++ list_of text xs)
-appended text xs d count r old new all done =
-    subst (λ (t : List ℕ). OnOk r (new ≡ old ++ t))
+-- a list that was taken by number was taken
+pub list_taken : {A E S : Type 0} (holds : S → List ℕ → Type 0) (old new : S) (text : A → List ℕ) (xs : List A) (d : A) (count : ℕ) (r : Result (Unit {0}) E) → count ≡ length xs
+    → OnOk r (Takes holds old new (list_of (λ k. text (get_or xs k d)) (numbers_from 0 count))) → OnOk r (Takes holds old new (list_of text xs))
+list_taken holds old new text xs d count r all done =
+    subst (λ (t : List ℕ). OnOk r (Takes holds old new t))
     (ap (λ n. list_of (λ k. text (get_or xs k d)) (numbers_from 0 n)) all ∙ ap (λ t. codes "[" ++ t ++ codes "]") (join_by-by_number text (codes ",") xs d)) done

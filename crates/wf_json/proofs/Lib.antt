@@ -1,5 +1,7 @@
-pub mod Appended
+pub mod Taken
 pub mod Joined
+pub mod Hashed
+pub mod FirstTexts
 pub mod Places
 pub mod Seen
 pub mod Readings

@@ -10,11 +10,14 @@ use Rattle.wf_model.specs.declared.parts.ProdPart.{ProdPart}
 use Rattle.wf_model.specs.declared.parts.PosPart.{PosPart}
 use Rattle.wf_model.specs.declared.parts.EdgePart.{EdgePart}
 use Rattle.wf_model.specs.declared.parts.EntryPart.{EntryPart}
+use Rattle.wf_json.specs.declared.fault.JsonFault.{JsonFault}
+use Rattle.wf_json.specs.declared.fault.JsonFault.TheVariants.{NotJson, WrongShape, NoMemory}
 use Rattle.wf_json.specs.declared.fault.Member.{Member}
-use Rattle.wf_json.specs.declared.fault.Member.TheVariants.{Start, Modules, Productions, DepsList}
+use Rattle.wf_json.specs.declared.fault.Member.TheVariants.{Start, Modules, Productions}
 use Rattle.wf_json.specs.Forms.{text_form, list_form, member_form, list_member}
-use Rattle.wf_json.specs.SpecForm.{module_form, position_form, edge_form, entry_form, exit_form, production_form, deps_form}
-use Rattle.wf_json.specs.Telling.{require}
+use Rattle.wf_json.specs.SpecForm.{module_form, position_form, edge_form, entry_form, exit_form, production_form}
+use Rattle.wf_json.specs.SpecRest.{spec_from_deps}
+use Rattle.wf_json.specs.Telling.{require, IsSaidBy}
 
 -- a member that has its form, as it is read
 pub there : {A B : Type 0} (m : Member) (o read : Option A) (x : A) (next : A → Result B Member) → read ≡ o → read ≡ Some x → require m o next ≡ next x
@@ -34,12 +37,16 @@ pub not_tested : {A B : Type 0} (m : Member) (o : Option A) (r : Result B Member
 not_tested m None r b of is = refl
 not_tested m (Some x) r b of is = absurd (true≢false (sym of ∙ is))
 
--- what is told from each member on, of what those before it say
-abbrev pub from_deps : Data → List ℕ → List ModulePart → List ProdPart → Result Parts Member
-from_deps d s ms ps = require DepsList (list_member (codes "deps") deps_form d) (λ ds. Ok (record { start = s; modules = ms; productions = ps; deps = ds }))
+-- a result says what is told, where the same is told otherwise
+pub said_by : {A : Type 0} (f h : Data → Result A Member) (d : Data) (r : Result A JsonFault) → f d ≡ h d → IsSaidBy h d r → IsSaidBy f d r
+said_by f h d (Ok x) same said = same ∙ said
+said_by f h d (Err NotJson) same said = said
+said_by f h d (Err (WrongShape m)) same said = same ∙ said
+said_by f h d (Err NoMemory) same said = said
 
+-- what is told from each member on, of what those before it say
 abbrev pub from_productions : Data → List ℕ → List ModulePart → Result Parts Member
-from_productions d s ms = require Productions (list_member (codes "productions") production_form d) (from_deps d s ms)
+from_productions d s ms = require Productions (list_member (codes "productions") production_form d) (λ ps. spec_from_deps s ms ps d)
 
 abbrev pub from_modules : Data → List ℕ → Result Parts Member
 from_modules d s = require Modules (member_form (codes "modules") (list_form module_form) d) (from_productions d s)

@@ -1,7 +1,7 @@
 -- Forms of JSON values: a form gives what a value of the form says, and none for any other value.
 use Rattle.std.specs.Prelude.{ℕ, ◌+◌, ◌==◌, List, [], ◌∷◌, take, drop, position, Option, Some, None, option_map, option_and_then, unwrap_or}
 use Rattle.serde_json.specs.Data.{Data, Items, no_items, item}
-use Rattle.serde_json.specs.Find.{as_str, as_array, get}
+use Rattle.serde_json.specs.Find.{as_str, as_array, as_number, as_u64, get}
 use Rattle.wf_model.specs.declared.parts.PortPart.{PortPart}
 
 -- what both say, as a pair
@@ -11,6 +11,10 @@ both a b = option_and_then (λ x. option_map (λ y. (x, y)) b) a
 -- a text: a JSON string, as its bytes
 abbrev pub text_form : Data → Option (List ℕ)
 text_form d = as_str d
+
+-- a whole number below 2^64: a JSON number without sign, fraction and exponent
+abbrev pub whole_form : Data → Option ℕ
+whole_form d = option_and_then as_u64 (as_number d)
 
 -- what each of the items says
 abbrev pub items_form : {A : Type 0} → (Data → Option A) → Items → Option (List A)

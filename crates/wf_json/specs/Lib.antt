@@ -4,4 +4,7 @@ pub mod Reading
 pub mod Forms
 pub mod Telling
 pub mod SpecForm
+pub mod SpecRest
 pub mod ViewForm
+pub mod Digests
+pub mod Hashing

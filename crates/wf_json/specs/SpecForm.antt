@@ -13,10 +13,11 @@ use Rattle.wf_model.specs.declared.parts.EntryPart.{EntryPart}
 use Rattle.wf_model.specs.declared.parts.ExitPart.{ExitPart}
 use Rattle.wf_model.specs.declared.parts.DepsPart.{DepsPart}
 use Rattle.wf_model.specs.declared.parts.PairPart.{PairPart}
+use Rattle.wf_model.specs.declared.parts.VersionPart.{VersionPart}
 use Rattle.wf_json.specs.declared.fault.JsonFault.{JsonFault}
 use Rattle.wf_json.specs.declared.fault.Member.{Member}
-use Rattle.wf_json.specs.declared.fault.Member.TheVariants.{Top, Start, Modules, Productions, DepsList}
-use Rattle.wf_json.specs.Forms.{text_form, list_form, pair_form, port_form, member_form, list_member}
+use Rattle.wf_json.specs.declared.fault.Member.TheVariants.{Top, Start, Modules, Productions, DepsList, Versions}
+use Rattle.wf_json.specs.Forms.{text_form, whole_form, list_form, pair_form, port_form, member_form, list_member}
 use Rattle.wf_json.specs.Telling.{require, IsRefusalBy, IsSaidBy}
 
 -- an object with `name`, `in` and `out`
@@ -64,6 +65,10 @@ deps_form d =
     (member_form (codes "pairs") (list_form ports_form) d))
     (member_form (codes "module") text_form d)
 
+-- `[modules, productions]`
+abbrev pub version_form : Data → Option VersionPart
+version_form d = option_map (λ p. record { modules = p.0; productions = p.1 }) (pair_form whole_form whole_form d)
+
 -- the specification that a value is, or the first member that has not its form
 abbrev pub spec_of : Data → Result Parts Member
 spec_of d =
@@ -72,7 +77,8 @@ spec_of d =
     require Modules (member_form (codes "modules") (list_form module_form) d) (λ ms.
     require Productions (list_member (codes "productions") production_form d) (λ ps.
     require DepsList (list_member (codes "deps") deps_form d) (λ ds.
-    Ok (record { start = s; modules = ms; productions = ps; deps = ds }))))))
+    require Versions (list_member (codes "versions") version_form d) (λ vs.
+    Ok (record { start = s; modules = ms; productions = ps; deps = ds; versions = vs })))))))
 
 -- what a refusal of a specification says of its bytes
 abbrev pub IsRefusal : List ℕ → JsonFault → Type 0

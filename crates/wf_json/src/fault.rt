@@ -17,6 +17,8 @@ pub enum Member {
     Productions,
     /// `deps`
     DepsList,
+    /// `versions`
+    Versions,
     /// `expand`
     Expand,
 }

@@ -2,7 +2,7 @@
 ghost use Rattle.std.specs.Prelude.{◌≡◌, Option, IfOk};
 ghost use Rattle.serde_json.specs.Data.{Data};
 ghost use Rattle.serde_json.specs.View.{view, items_view};
-ghost use Rattle.wf_json.specs.Forms.{text_form, items_form, list_form, two_items, pair_form, member_form, list_member, optional_member};
+ghost use Rattle.wf_json.specs.Forms.{text_form, whole_form, items_form, list_form, two_items, pair_form, member_form, list_member, optional_member};
 
 use serde_json::Value;
 use std::alloc::{AllocError, Global};
@@ -25,12 +25,17 @@ impl FromJson for Name {
 
     fn from_json(alloc: Global, value: &Value) -> Result<Option<Name>, AllocError> {
         match value.as_str() {
-            Some(text) => {
-                let bytes = Vec::from_slice(alloc, text.as_bytes())?;
-                Ok(Some(Name::from_vec(bytes)))
-            }
+            Some(text) => Ok(Some(Name::copied(alloc, text.as_bytes())?)),
             None => Ok(None),
         }
+    }
+}
+
+impl FromJson for u64 {
+    ghost form = { whole_form };
+
+    fn from_json(_: Global, value: &Value) -> Result<Option<u64>, AllocError> {
+        Ok(value.as_u64())
     }
 }
 

@@ -1,18 +1,20 @@
-//! Specifications and views in JSON: reading them, and the canonical text of a grammar with its digest.
+//! Specifications and views in JSON: reading them, and the canonical text of a grammar with the digests of the grammar and of its earlier versions.
 #![tactic(auto)]
 
 mod fault;
 mod form;
+mod hashed_text;
 mod hashing;
 mod parts;
 mod reading;
 mod spec;
+mod text_sink;
 mod view;
 mod writing;
 
 pub use fault::{JsonFault, Member};
 pub use form::{FromJson, member, member_list, pair};
-pub use hashing::digest;
+pub use hashing::{digest, digests};
 pub use reading::{TextFault, read_value};
 pub use spec::read_spec;
 pub use view::read_view;

@@ -1,14 +1,14 @@
 // The parts of a specification, by their forms.
 ghost use Rattle.std.specs.Prelude.{◌≡◌, ◌==◌, position, IfOk};
 ghost use Rattle.wf_json.specs.Forms.{port_of, port_form};
-ghost use Rattle.wf_json.specs.SpecForm.{module_form, position_form, edge_form, entry_form, exit_form, production_form, ports_form, deps_form};
+ghost use Rattle.wf_json.specs.SpecForm.{module_form, position_form, edge_form, entry_form, exit_form, production_form, ports_form, deps_form, version_form};
 
 use crate::form::{FromJson, member, member_list, pair};
 use serde_json::Value;
 use std::alloc::{AllocError, Global};
 use wf_model::{
     DepsPart, EdgePart, EntryPart, ExitPart, ModulePart, Name, PairPart, PortPart, PosPart,
-    ProdPart, Seq,
+    ProdPart, Seq, VersionPart,
 };
 
 /// The place of the first dot.
@@ -25,12 +25,9 @@ fn port(alloc: Global, text: &[u8]) -> Result<Option<PortPart>, AllocError>
     let Some(i) = first_dot(text) else {
         return Ok(None);
     };
-    let before = Vec::from_slice(alloc, &text[..i])?;
-    let after = Vec::from_slice(alloc, &text[i + 1..])?;
-    Ok(Some(PortPart {
-        pos: Name::from_vec(before),
-        port: Name::from_vec(after),
-    }))
+    let pos = Name::copied(alloc, &text[..i])?;
+    let port = Name::copied(alloc, &text[i + 1..])?;
+    Ok(Some(PortPart { pos, port }))
 }
 
 impl FromJson for PortPart {
@@ -160,5 +157,19 @@ impl FromJson for DepsPart {
             return Ok(None);
         };
         Ok(Some(DepsPart { module, pairs }))
+    }
+}
+
+impl FromJson for VersionPart {
+    ghost form = { version_form };
+
+    fn from_json(alloc: Global, value: &Value) -> Result<Option<VersionPart>, AllocError> {
+        let Some((modules, productions)) = pair::<u64, u64>(alloc, value)? else {
+            return Ok(None);
+        };
+        Ok(Some(VersionPart {
+            modules,
+            productions,
+        }))
     }
 }

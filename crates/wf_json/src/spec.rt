@@ -4,19 +4,21 @@ ghost use Rattle.serde_json.specs.Data.{Data};
 ghost use Rattle.serde_json.specs.View.{view};
 ghost use Rattle.wf_json.specs.Reading.{IsReading};
 ghost use Rattle.wf_json.specs.SpecForm.{spec_of, IsRefusal, IsToldBy};
+ghost use Rattle.wf_json.specs.SpecRest.{spec_from_deps};
+ghost use Rattle.wf_json.specs.Telling.{IsSaidBy};
 
 use crate::fault::{JsonFault, Member};
 use crate::form::{member, member_list};
 use crate::reading::{TextFault, read_value};
 use serde_json::Value;
 use std::alloc::Global;
-use wf_model::{DepsPart, ModulePart, Name, Parts, ProdPart, Seq};
+use wf_model::{DepsPart, ModulePart, Name, Parts, ProdPart, Seq, VersionPart};
 
 /// Reads a specification from a JSON text.
 ///
 /// Names may hold any bytes. Further members are ignored. Of a member that is given twice the last counts, and one that is null is there and has not its form.
 ///
-/// Errors: NotJson where the bytes are not UTF-8 or no JSON value of at most 127 levels; WrongShape with the first of top, `start`, `modules`, `productions` and `deps` that has not its form; NoMemory where memory was refused.
+/// Errors: NotJson where the bytes are not UTF-8 or no JSON value of at most 127 levels; WrongShape with the first of top, `start`, `modules`, `productions`, `deps` and `versions` that has not its form; NoMemory where memory was refused.
 ///
 /// Cost: one reading of the text by `serde_json`, and one pass over the value.
 pub fn read_spec(alloc: Global, bytes: &[u8]) -> Result<Parts, JsonFault>
@@ -54,9 +56,27 @@ fn spec_in(alloc: Global, value: &Value) -> Result<Parts, JsonFault>
             member: Member::Productions,
         });
     };
+    spec_with(alloc, value, start, modules, productions)
+}
+
+/// Reads the other members of a specification with this start module, these modules and these productions.
+fn spec_with(
+    alloc: Global,
+    value: &Value,
+    start: Name,
+    modules: Seq<ModulePart>,
+    productions: Seq<ProdPart>,
+) -> Result<Parts, JsonFault>
+    ensures { IsSaidBy (spec_from_deps start modules productions) (view value.now) result }
+{
     let Some(deps) = member_list::<DepsPart>(alloc, value, "deps")? else {
         return Err(JsonFault::WrongShape {
             member: Member::DepsList,
+        });
+    };
+    let Some(versions) = member_list::<VersionPart>(alloc, value, "versions")? else {
+        return Err(JsonFault::WrongShape {
+            member: Member::Versions,
         });
     };
     Ok(Parts {
@@ -64,5 +84,6 @@ fn spec_in(alloc: Global, value: &Value) -> Result<Parts, JsonFault>
         modules,
         productions,
         deps,
+        versions,
     })
 }

@@ -1,6 +1,7 @@
 // Writing the canonical text of a grammar.
-ghost use Rattle.std.specs.Prelude.{◌≡◌, IfOk};
+ghost use Rattle.std.specs.Prelude.{◌≡◌, ◌≤◌, length, IfOk, OnOk};
 ghost use Rattle.wf_json.specs.Canonical.{canonical_of};
+ghost use Rattle.wf_json.specs.Writing.{Takes, first_text};
 
 mod body;
 mod list;
@@ -9,6 +10,7 @@ mod port;
 mod production;
 mod text;
 
+use crate::text_sink::TextSink;
 use module::put_modules;
 use production::put_productions;
 use std::alloc::{AllocError, Global};
@@ -22,12 +24,26 @@ pub fn canonical(alloc: Global, g: &Grammar) -> Result<Vec<u8>, AllocError>
     ensures { IfOk result (λ v. v.items ≡ canonical_of g.now.core) }
 {
     let mut out = Vec::new(alloc);
-    out.extend_from_slice(b"{\"start\":")?;
-    put_quoted(&mut out, g.modules()[g.start().0 as usize].name())?;
-    out.extend_from_slice(b",\"modules\":")?;
-    put_modules(&mut out, g)?;
-    out.extend_from_slice(b",\"productions\":")?;
-    put_productions(&mut out, g)?;
-    out.push(b'}')?;
+    put_first(&mut out, g, g.modules().len(), g.productions().len())?;
     Ok(out)
+}
+
+/// Writes the canonical text of a grammar with its first modules and its first productions alone.
+pub(crate) fn put_first<S: TextSink>(
+    out: &mut S,
+    g: &Grammar,
+    modules: usize,
+    productions: usize,
+) -> Result<(), AllocError>
+    requires modules { modules ≤ length g.now.core.modules }
+    requires productions { productions ≤ length g.now.core.productions }
+    ensures { OnOk result (Takes S.holds out.old out.new (first_text g.now.core modules productions)) }
+{
+    out.put(b"{\"start\":")?;
+    put_quoted(out, g.modules()[g.start().0 as usize].name())?;
+    out.put(b",\"modules\":")?;
+    put_modules(out, &g.modules()[..modules])?;
+    out.put(b",\"productions\":")?;
+    put_productions(out, g, productions)?;
+    out.put(b"}")
 }

@@ -9,11 +9,13 @@ use Rattle.wf_check.specs.declared.fault.CheckFault.TheVariants.{Unreachable, Un
 use Rattle.wf_recur.specs.declared.fault.RecurFault.{RecurFault}
 use Rattle.wf_recur.specs.declared.fault.RecurFault.TheVariants.{TwoLoops, NoMemory as NoMemoryOfRecur}
 use Rattle.wf_recur.specs.Cycles.{step_of}
+use Rattle.wf_version.specs.declared.fault.VersionFault.{VersionFault}
+use Rattle.wf_version.specs.declared.fault.VersionFault.TheVariants.{CycleChanged, NoMemory as NoMemoryOfVersion}
 use Rattle.wf_view.specs.Viewing.{name_of, input_name, output_name}
 use Rattle.wf_safe.specs.declared.witness.Choice.{Choice}
 use Rattle.wf_safe.specs.declared.witness.Witness.{Witness}
 use Rattle.wf_message.specs.declared.refusal.Refusal.{Refusal}
-use Rattle.wf_message.specs.declared.refusal.Refusal.TheVariants.{Named, Worded, Numbered, Check, Recur, Unsafe}
+use Rattle.wf_message.specs.declared.refusal.Refusal.TheVariants.{Named, Worded, Numbered, Check, Recur, Version, Unsafe}
 
 -- numbers, each behind a space
 abbrev pub numbers_text : List ℕ → List ℕ
@@ -38,6 +40,11 @@ step_text word g s = (word ++ decimal s.production) ++ (codes " " ++ position_na
 abbrev pub recur_text : Grammar → RecurFault → List ℕ
 recur_text g (TwoLoops m s t) = (codes "TwoLoops " ++ (module_at g m.0).name) ++ (step_text (codes " first ") g (step_of s) ++ step_text (codes " second ") g (step_of t))
 recur_text g NoMemoryOfRecur = codes "NoMemory"
+
+-- why a version of a strictly linear grammar is not taken: the name of the fault, the number of the version in its list, and the name of the module
+abbrev pub version_text : Grammar → ℕ → VersionFault → List ℕ
+version_text g n (CycleChanged m) = (codes "CycleChanged version " ++ decimal n) ++ (codes " module " ++ (module_at g m.0).name)
+version_text g n NoMemoryOfVersion = codes "NoMemory"
 
 -- which of the two expansions of a witness joins the pair
 abbrev pub joined_text : Bool → List ℕ
@@ -75,4 +82,5 @@ refusal_text (Worded name word) = name.now ++ (codes " " ++ word.now)
 refusal_text (Numbered name part number) = name.now ++ (codes " " ++ (part.now ++ (codes " " ++ decimal number)))
 refusal_text (Check g f) = check_text g.core f
 refusal_text (Recur g f) = recur_text g.core f
+refusal_text (Version g n f) = version_text g.core n f
 refusal_text (Unsafe g w) = unsafe_text g.core w

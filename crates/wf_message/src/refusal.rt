@@ -3,6 +3,7 @@ use wf_check::CheckFault;
 use wf_recur::RecurFault;
 use wf_safe::Witness;
 use wf_spec::Grammar;
+use wf_version::VersionFault;
 
 /// Why a file, a line of it or a label is refused, as messages tell it. Want of memory is none of these: it is an ending of its own.
 #[derive(Drop)]
@@ -31,6 +32,12 @@ pub enum Refusal {
     Recur {
         grammar: Grammar,
         fault: RecurFault,
+    },
+    /// The grammar is strictly linear, and the version of this number does not keep its cycles. The grammar is kept for the names of its modules.
+    Version {
+        grammar: Grammar,
+        version: u64,
+        fault: VersionFault,
     },
     /// The view is not safe. The grammar is kept for the names of its modules and ports.
     Unsafe {

@@ -3,7 +3,7 @@ ghost use Rattle.std.specs.Prelude.{◌++◌, map, codes, decimal};
 ghost use Rattle.wf_model.specs.Grammar.{module_at};
 ghost use Rattle.wf_recur.specs.Cycles.{step_of};
 ghost use Rattle.wf_message.specs.Puts.{Puts};
-ghost use Rattle.wf_message.specs.Refusals.{numbers_text, check_text, step_text, recur_text, refusal_text};
+ghost use Rattle.wf_message.specs.Refusals.{numbers_text, check_text, step_text, recur_text, version_text, refusal_text};
 
 use crate::names::{module_name, position_name};
 use crate::pieces::{put, put_numbered, put_numbers, put_two};
@@ -13,6 +13,7 @@ use wf_check::CheckFault;
 use wf_io::{Failed, Sink};
 use wf_recur::RecurFault;
 use wf_spec::{Grammar, ModNo, ProdNo, Step};
+use wf_version::VersionFault;
 
 fn put_check<E: Sink>(err: &mut E, g: &Grammar, fault: &CheckFault) -> Result<(), Failed>
     ensures { Puts E.put_bytes E.faults E.at_last (check_text g.now.core fault.now) err.old err.new result }
@@ -81,6 +82,28 @@ fn put_recur<E: Sink>(err: &mut E, g: &Grammar, fault: RecurFault) -> Result<(),
     }
 }
 
+/// Puts the fault of the version of a number whose cycle is changed at a module.
+fn put_changed<E: Sink>(err: &mut E, g: &Grammar, version: u64, m: ModNo) -> Result<(), Failed>
+    ensures { Puts E.put_bytes E.faults E.at_last ((codes "CycleChanged version " ++ decimal version) ++ (codes " module " ++ (module_at g.now.core m.0).name)) err.old err.new result }
+{
+    put_numbered(err, b"CycleChanged version ", version)?;
+    put_two(err, b" module ", module_name(g, m))
+}
+
+fn put_version<E: Sink>(
+    err: &mut E,
+    g: &Grammar,
+    version: u64,
+    fault: VersionFault,
+) -> Result<(), Failed>
+    ensures { Puts E.put_bytes E.faults E.at_last (version_text g.now.core version fault) err.old err.new result }
+{
+    match fault {
+        VersionFault::CycleChanged { module } => put_changed(err, g, version, module),
+        VersionFault::NoMemory => put(err, b"NoMemory"),
+    }
+}
+
 fn put_worded<E: Sink>(err: &mut E, name: &[u8], word: &[u8]) -> Result<(), Failed>
     ensures { Puts E.put_bytes E.faults E.at_last (name.now ++ (codes " " ++ word.now)) err.old err.new result }
 {
@@ -113,6 +136,11 @@ pub fn put_refusal<E: Sink>(err: &mut E, refusal: &Refusal) -> Result<(), Failed
         Refusal::Numbered { name, part, number } => put_of_part(err, name, part, *number),
         Refusal::Check { grammar, fault } => put_check(err, grammar, fault),
         Refusal::Recur { grammar, fault } => put_recur(err, grammar, *fault),
+        Refusal::Version {
+            grammar,
+            version,
+            fault,
+        } => put_version(err, grammar, *version, *fault),
         Refusal::Unsafe { grammar, witness } => put_unsafe(err, grammar, witness),
     }
 }

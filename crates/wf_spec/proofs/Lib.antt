@@ -12,4 +12,5 @@ pub mod Reading
 pub mod Rows
 pub mod Tables
 pub mod Tests
+pub mod Versions
 pub mod SomeFault

@@ -4,12 +4,13 @@ ghost use Rattle.wf_model.specs.Composite.{is_composite};
 ghost use Rattle.wf_model.specs.Grammar.{IsAtomic, IsComposite, alternative_of, inputs_of, outputs_of, production_at};
 ghost use Rattle.wf_model.specs.Lists.{numbers_from};
 ghost use Rattle.wf_model.specs.WellFormed.{IsWellFormed};
-ghost use Rattle.wf_spec.specs.Held.{core_of};
+ghost use Rattle.wf_spec.specs.Held.{core_of, AreVersionsOf};
 ghost use Rattle.wf_spec.specs.Tables.{AreRowsOf, IsKept, numbers_in, productions_of};
 
 use crate::given::Given;
 use crate::module::Module;
 use crate::production::Production;
+use crate::version::Version;
 use std::marker::Model;
 use wf_model::{ModNo, ProdNo, Seq};
 use wf_names::Names;
@@ -24,22 +25,24 @@ pub struct Grammar {
     names: Names,
     by_head: Vec<Vec<ProdNo>>,
     rows: Vec<Vec<u64>>,
+    versions: Seq<Version>,
 }
 
 impl Model for Grammar {
     ghost use Rattle.std.specs.Prelude.{map};
-    ghost use Rattle.wf_spec.specs.Held.{HeldGrammar, core_of};
+    ghost use Rattle.wf_spec.specs.Held.{HeldGrammar, core_of, AreVersionsOf};
     ghost use Rattle.wf_spec.specs.Tables.{IsKept, numbers_in};
 
     ghost Value = { HeldGrammar };
 
-    ghost view = { λ g. record { core = core_of g.start.0 g.modules g.productions g.given } };
+    ghost view = { λ g. record { core = core_of g.start.0 g.modules g.productions g.given; versions = g.versions } };
 
-    ghost invariant = { λ g. IsKept (core_of g.start.0 g.modules g.productions g.given) g.names (numbers_in g.by_head.items) (map (λ v. v.items) g.rows.items) (map (λ p. p.alternative) g.productions) };
+    ghost invariant = { λ g. IsKept (core_of g.start.0 g.modules g.productions g.given) g.names (numbers_in g.by_head.items) (map (λ v. v.items) g.rows.items) (map (λ p. p.alternative) g.productions)
+        × AreVersionsOf (core_of g.start.0 g.modules g.productions g.given) g.versions };
 }
 
 impl Grammar {
-    /// A grammar of its lists and its tables: the names of its modules, the productions of each, and the rows of pairs.
+    /// A grammar of its lists and its tables: the names of its modules, the productions of each, the rows of pairs, and its earlier versions.
     pub fn of_tables(
         start: ModNo,
         modules: Seq<Module>,
@@ -48,9 +51,12 @@ impl Grammar {
         names: Names,
         by_head: Vec<Vec<ProdNo>>,
         rows: Vec<Vec<u64>>,
+        versions: Seq<Version>,
     ) -> Grammar
-        requires { IsKept (core_of start.0 modules productions given) names (numbers_in by_head.items) (map (λ v. v.items) rows.items) (map (λ p. p.alternative) productions) }
-        ensures { result.core ≡ core_of start.0 modules productions given }
+        requires kept { IsKept (core_of start.0 modules productions given) names (numbers_in by_head.items) (map (λ v. v.items) rows.items) (map (λ p. p.alternative) productions) }
+        requires versions { AreVersionsOf (core_of start.0 modules productions given) versions }
+        ensures core { result.core ≡ core_of start.0 modules productions given }
+        ensures versions { result.versions ≡ versions }
     {
         Grammar {
             start,
@@ -60,7 +66,24 @@ impl Grammar {
             names,
             by_head,
             rows,
+            versions,
         }
+    }
+
+    /// The grammar with these earlier versions, in place of its own.
+    pub fn with_versions(self, versions: Seq<Version>) -> Grammar
+        requires { AreVersionsOf self.core versions }
+        ensures { result ≡ record { core = self.core; versions = versions } }
+    {
+        Grammar { versions, ..self }
+    }
+
+    /// Its earlier versions, in the order in which the specification names them.
+    pub fn versions(&self) -> &[Version]
+        ensures versions { result.now ≡ self.now.versions }
+        ensures fit { AreVersionsOf self.now.core self.now.versions }
+    {
+        self.versions.items()
     }
 
     /// The start module.

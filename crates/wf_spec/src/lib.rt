@@ -8,6 +8,7 @@ mod making;
 mod module;
 mod production;
 mod rule;
+mod version;
 
 pub use deps::Deps;
 pub use given::{Given, Pair};
@@ -16,8 +17,9 @@ pub use making::{making_graph, modules_made};
 pub use module::Module;
 pub use production::Production;
 pub use rule::Rule;
+pub use version::{Version, is_version};
 pub use wf_model::{
     DepsPart, Edge, EdgeNo, EdgePart, EntryPart, Event, ExitPart, Inner, ModNo, ModulePart, Name,
     PairPart, Parts, PortNo, PortPart, PosNo, PosPart, Position, ProdNo, ProdPart, RunFault, Seq,
-    Side, Step, ViewParts,
+    Side, Step, VersionPart, ViewParts,
 };

@@ -2,7 +2,6 @@
 ghost use Rattle.std.specs.Prelude.{◌≡◌, IfOk, map};
 ghost use Rattle.wf_form.specs.Forming.{module_of};
 
-use crate::wiring::copied;
 use std::alloc::{AllocError, Global};
 use wf_model::{ModulePart, Name, Seq};
 use wf_spec::Module;
@@ -12,7 +11,7 @@ fn copies(alloc: Global, names: &[Name]) -> Result<Seq<Name>, AllocError>
 {
     let mut list = Vec::new(alloc);
     for name in names {
-        let copy = copied(alloc, name)?;
+        let copy = Name::copied(alloc, name.bytes())?;
         list.push(copy)?;
     }
     Ok(Seq::from_vec(list))
@@ -21,7 +20,7 @@ fn copies(alloc: Global, names: &[Name]) -> Result<Seq<Name>, AllocError>
 fn module_from(alloc: Global, part: &ModulePart) -> Result<Module, AllocError>
     ensures { IfOk result (λ m. m ≡ module_of part.now) }
 {
-    let name = copied(alloc, &part.name)?;
+    let name = Name::copied(alloc, part.name.bytes())?;
     let inputs = copies(alloc, part.inputs.items())?;
     let outputs = copies(alloc, part.outputs.items())?;
     Ok(Module::new(name, inputs, outputs))

@@ -12,19 +12,18 @@ use crate::checks::different::first_position_twice;
 use crate::checks::sizes::{first_empty_body, first_long_body, sum_of_squares};
 use crate::fault::{FormFault, Spot};
 use std::alloc::Global;
-use wf_model::{DepsPart, Parts, PosPart, ProdPart};
+use wf_model::{DepsPart, Parts, ProdPart};
 use wf_names::Names;
-
-fn are_known(names: &Names, body: &[PosPart]) -> bool
-    ensures { result ≡ list_all (λ q. is_one_of names.now q.«module») body.now }
-{
-    body.iter().all(|q| names.holds(q.module.bytes()))
-}
 
 fn has_known_modules(names: &Names, rule: &ProdPart) -> bool
     ensures { result ≡ is_one_of names.now rule.now.head && list_all (λ q. is_one_of names.now q.«module») rule.now.body }
 {
-    names.holds(rule.head.bytes()) && are_known(names, rule.body.items())
+    names.holds(rule.head.bytes())
+        && rule
+            .body
+            .items()
+            .iter()
+            .all(|q| names.holds(q.module.bytes()))
 }
 
 /// The first production whose head, or the module of one of whose positions, is none of these.

@@ -1,6 +1,5 @@
 // Deps parts on composite modules.
-ghost use Rattle.std.specs.Prelude.{◌≡◌, ◌↔◌, ◌⊎◌, List, ℕ, map, position, IfOk, OnOk};
-ghost use Rattle.wf_model.specs.Faults.{is_one_of};
+ghost use Rattle.std.specs.Prelude.{◌≡◌, ◌↔◌, ◌⊎◌, List, ℕ, map, IfOk, OnOk};
 ghost use Rattle.wf_model.specs.Lists.{IsIn};
 ghost use Rattle.wf_spec.specs.FirstFaults.{each, IsFirstFailing};
 ghost use Rattle.wf_form.specs.Rules.{IsOfAtomic};
@@ -32,13 +31,6 @@ fn heads(alloc: Global, key: u64, productions: &[ProdPart]) -> Result<Names, All
     Ok(names)
 }
 
-/// The first deps part whose module is one of these.
-fn first_of(names: &Names, deps: &[DepsPart]) -> Option<usize>
-    ensures { result ≡ position (λ d. is_one_of names.now d.«module») deps.now }
-{
-    deps.iter().position(|d| names.holds(d.module.bytes()))
-}
-
 /// The first deps part whose module is a head.
 ///
 /// Cost: for each production and each deps part one look-up by hashing with the key, and a copy of the name of each head.
@@ -51,5 +43,5 @@ pub fn first_on_composite(
     ensures { IfOk result (λ answer. IsFirstFailing (each deps.now (IsOfAtomic productions.now) DepsOnComposite) answer) }
 {
     let heads = heads(alloc, key, productions)?;
-    Ok(first_of(&heads, deps))
+    Ok(deps.iter().position(|d| heads.holds(d.module.bytes())))
 }

@@ -1,30 +1,28 @@
 // Lists in brackets.
-ghost use Rattle.std.specs.Prelude.{◌≡◌, ◌++◌, ◌<◌, ◌==◌, ℕ, List, [], OnOk, cond, codes};
-ghost use Rattle.std.specs.List.{join_by};
-ghost use Rattle.wf_json.specs.Canonical.{list_of};
-ghost use Rattle.wf_json.specs.Writing.{AppendsTexts};
-ghost use Rattle.wf_model.specs.Lists.{numbers_from};
+ghost use Rattle.std.specs.Prelude.{◌<◌, ◌==◌, ℕ, List, [], OnOk, cond, codes};
+ghost use Rattle.wf_json.specs.Writing.{Takes, TakesTexts, joined_texts, listed_texts};
 
+use crate::text_sink::TextSink;
 use std::alloc::AllocError;
 
-/// Appends a comma before each item but the first.
-fn put_comma(out: &mut Vec<u8>, k: usize) -> Result<(), AllocError>
-    ensures { OnOk result (out.new.items ≡ out.old.items ++ cond (k == 0) [] (codes ",")) }
+/// Writes a comma before each item but the first.
+fn put_comma<S: TextSink>(out: &mut S, k: usize) -> Result<(), AllocError>
+    ensures { OnOk result (Takes S.holds out.old out.new (cond (k == 0) [] (codes ","))) }
 {
     if k > 0 {
-        out.push(b',')?;
+        out.put(b",")?;
     }
     Ok(())
 }
 
-/// Appends what `put` appends for each number below `count`, with commas between.
-fn put_items<F: Fn(&mut Vec<u8>, usize) -> Result<(), AllocError>>(
-    out: &mut Vec<u8>,
+/// Writes what `put` writes for each number below `count`, with commas between.
+fn put_items<S: TextSink, F: Fn(&mut S, usize) -> Result<(), AllocError>>(
+    out: &mut S,
     count: usize,
     put: F,
 ) -> Result<(), AllocError>
     requires { (v : _) (k : ℕ) → k < count → F.pre put v k }
-    ensures { (text : ℕ → List ℕ) → AppendsTexts (F.post put) count text → OnOk result (out.new.items ≡ out.old.items ++ join_by text (codes ",") (numbers_from 0 count)) }
+    ensures { (text : ℕ → List ℕ) → TakesTexts S.holds (F.post put) count text → OnOk result (Takes S.holds out.old out.new (joined_texts text count)) }
 {
     for k in 0..count {
         put_comma(out, k)?;
@@ -33,17 +31,16 @@ fn put_items<F: Fn(&mut Vec<u8>, usize) -> Result<(), AllocError>>(
     Ok(())
 }
 
-/// Appends a list of `count` items, of which `put` appends each.
-pub(crate) fn put_list<F: Fn(&mut Vec<u8>, usize) -> Result<(), AllocError>>(
-    out: &mut Vec<u8>,
+/// Writes a list of `count` items, of which `put` writes each.
+pub(crate) fn put_list<S: TextSink, F: Fn(&mut S, usize) -> Result<(), AllocError>>(
+    out: &mut S,
     count: usize,
     put: F,
 ) -> Result<(), AllocError>
     requires { (v : _) (k : ℕ) → k < count → F.pre put v k }
-    ensures { (text : ℕ → List ℕ) → AppendsTexts (F.post put) count text → OnOk result (out.new.items ≡ out.old.items ++ list_of text (numbers_from 0 count)) }
+    ensures { (text : ℕ → List ℕ) → TakesTexts S.holds (F.post put) count text → OnOk result (Takes S.holds out.old out.new (listed_texts text count)) }
 {
-    out.push(b'[')?;
+    out.put(b"[")?;
     put_items(out, count, put)?;
-    out.push(b']')?;
-    Ok(())
+    out.put(b"]")
 }

@@ -1,11 +1,13 @@
 // Ports of positions.
-ghost use Rattle.std.specs.Prelude.{◌≡◌, ◌++◌, ◌<◌, OnOk, length};
-ghost use Rattle.wf_json.specs.Canonical.{input_text, module_there, output_text, position_at};
+ghost use Rattle.std.specs.Prelude.{◌≡◌, ◌<◌, OnOk, length};
+ghost use Rattle.wf_json.specs.Canonical.{module_there, position_at};
+ghost use Rattle.wf_json.specs.Writing.{Takes, input_name, output_name};
 ghost use Rattle.wf_model.specs.Grammar.{production_at};
 ghost use Rattle.wf_model.specs.Meaning.{inner_of};
 ghost use Rattle.wf_model.specs.WellFormed.{IsInnerInput, IsInnerOutput};
 
 use super::text::put_dotted;
+use crate::text_sink::TextSink;
 use std::alloc::AllocError;
 use wf_spec::{Grammar, Inner, Module, ProdNo};
 
@@ -21,31 +23,31 @@ pub(crate) fn place(g: &Grammar, p: ProdNo, k: usize) -> (&[u8], &Module)
     (position.name.bytes(), module)
 }
 
-/// Appends an input of a position.
-pub(crate) fn put_input(
-    out: &mut Vec<u8>,
+/// Writes an input of a position.
+pub(crate) fn put_input<S: TextSink>(
+    out: &mut S,
     g: &Grammar,
     p: ProdNo,
     i: Inner,
 ) -> Result<(), AllocError>
     requires production { p.0 < length g.now.core.productions }
     requires port { IsInnerInput g.now.core p.0 (inner_of i) }
-    ensures { OnOk result (out.new.items ≡ out.old.items ++ input_text g.now.core (production_at g.now.core p.0) (inner_of i)) }
+    ensures { OnOk result (Takes S.holds out.old out.new (input_name g.now.core (production_at g.now.core p.0) (inner_of i))) }
 {
     let (position, module) = place(g, p, i.pos.0 as usize);
     put_dotted(out, position, module.inputs()[i.port.0 as usize].bytes())
 }
 
-/// Appends an output of a position.
-pub(crate) fn put_output(
-    out: &mut Vec<u8>,
+/// Writes an output of a position.
+pub(crate) fn put_output<S: TextSink>(
+    out: &mut S,
     g: &Grammar,
     p: ProdNo,
     i: Inner,
 ) -> Result<(), AllocError>
     requires production { p.0 < length g.now.core.productions }
     requires port { IsInnerOutput g.now.core p.0 (inner_of i) }
-    ensures { OnOk result (out.new.items ≡ out.old.items ++ output_text g.now.core (production_at g.now.core p.0) (inner_of i)) }
+    ensures { OnOk result (Takes S.holds out.old out.new (output_name g.now.core (production_at g.now.core p.0) (inner_of i))) }
 {
     let (position, module) = place(g, p, i.pos.0 as usize);
     put_dotted(out, position, module.outputs()[i.port.0 as usize].bytes())

@@ -1,28 +1,30 @@
-// Texts in quotes.
-ghost use Rattle.std.specs.Prelude.{◌≡◌, ◌++◌, OnOk};
+// Texts in quotes, and names with a dot between.
+ghost use Rattle.std.specs.Prelude.{OnOk};
 ghost use Rattle.wf_json.specs.Canonical.{text_in_quotes};
+ghost use Rattle.wf_json.specs.Writing.{Takes};
 ghost use Rattle.wf_model.specs.Items.{dotted};
 
+use crate::text_sink::TextSink;
 use std::alloc::AllocError;
 
-/// Appends a text in quotes.
-pub(crate) fn put_quoted(out: &mut Vec<u8>, text: &[u8]) -> Result<(), AllocError>
-    ensures { OnOk result (out.new.items ≡ out.old.items ++ text_in_quotes text.now) }
+/// Writes a text in quotes.
+pub(crate) fn put_quoted<S: TextSink>(out: &mut S, text: &[u8]) -> Result<(), AllocError>
+    ensures { OnOk result (Takes S.holds out.old out.new (text_in_quotes text.now)) }
 {
-    out.push(b'"')?;
-    out.extend_from_slice(text)?;
-    out.push(b'"')?;
-    Ok(())
+    out.put(b"\"")?;
+    out.put(text)?;
+    out.put(b"\"")
 }
 
-/// Appends two names in quotes, with a dot between.
-pub(crate) fn put_dotted(out: &mut Vec<u8>, first: &[u8], second: &[u8]) -> Result<(), AllocError>
-    ensures { OnOk result (out.new.items ≡ out.old.items ++ text_in_quotes (dotted first.now second.now)) }
+/// Writes two names with a dot between.
+pub(crate) fn put_dotted<S: TextSink>(
+    out: &mut S,
+    first: &[u8],
+    second: &[u8],
+) -> Result<(), AllocError>
+    ensures { OnOk result (Takes S.holds out.old out.new (dotted first.now second.now)) }
 {
-    out.push(b'"')?;
-    out.extend_from_slice(first)?;
-    out.push(b'.')?;
-    out.extend_from_slice(second)?;
-    out.push(b'"')?;
-    Ok(())
+    out.put(first)?;
+    out.put(b".")?;
+    out.put(second)
 }

@@ -12,7 +12,7 @@ returns-in_err-run g c =
     let u = c.args.v.now.view.core in
     record {
       obeys = obeys_passed _ _ _ _ _ _ c.from_residual.result c.in_err-run.field-0.0 (err_from_is_err_and c.from_residual.result c.from_residual.ensures.1)
-          (with_grammar _ (λ f h. AnswersRun h u (f c.args.words.now.events.now) (f c.args.words.now.queries.now)) _ _ _ _ _ _ _ c.grammar.ensures.grammar
+          (with_grammar _ (λ f h. AnswersRun h.core u (f c.args.words.now.events.now) (f c.args.words.now.queries.now)) _ _ _ _ _ _ _ c.grammar.ensures.grammar
           (events_stop c.grammar.result.now.core _ _ _ _ _ c.in_err-run.ensures.reads));
     }
 
@@ -20,7 +20,7 @@ pub returns : goal.returns
 returns g c =
     let u = c.args.v.now.view.core in
     record {
-      obeys = with_grammar _ (λ f h. AnswersRun h u (f c.args.words.now.events.now) (f c.args.words.now.queries.now)) _ _ _ _ _ _ _ c.grammar.ensures.grammar
+      obeys = with_grammar _ (λ f h. AnswersRun h.core u (f c.args.words.now.events.now) (f c.args.words.now.queries.now)) _ _ _ _ _ _ _ c.grammar.ensures.grammar
           (events_go c.grammar.result.now.core _ _ _ _ _ _ _ _ c.in_ok-run.ensures.reads
-          (with_grammar _ (λ f h. QueriesStage (IsAnswerOfRun h u (events_of c.in_ok-run.run')) (f c.args.words.now.queries.now)) _ _ _ _ _ _ _ (sym c.grammar.ensures.grammar) c.answer_run.ensures.obeys));
+          (with_grammar _ (λ f h. QueriesStage (IsAnswerOfRun h.core u (events_of c.in_ok-run.run')) (f c.args.words.now.queries.now)) _ _ _ _ _ _ _ (sym c.grammar.ensures.grammar) c.answer_run.ensures.obeys));
     }

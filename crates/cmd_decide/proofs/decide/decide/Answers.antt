@@ -27,5 +27,5 @@ returns g c = record {
       let second = bytes_in (decode_of c.args.words.now.second.now) in
       spec_goes _ _ _ _ _ _ _ _ c.in_ok-spec.ensures.reads
       (view_goes c.in_ok-spec.spec.grammar.core _ _ _ _ _ _ _ _ c.in_ok-viewed.ensures.reads
-      (with_grammar _ (λ f x. DecidesLabels x c.in_ok-viewed.viewed.view.core first second) _ _ _ _ _ _ _ c.in_ok-viewed.ensures.grammar (obeys_writing _ _ _ _ _ _ c.put_verdict.ensures.writes)));
+      (with_grammar _ (λ f x. DecidesLabels x.core c.in_ok-viewed.viewed.view.core first second) _ _ _ _ _ _ _ c.in_ok-viewed.ensures.grammar (obeys_writing _ _ _ _ _ _ c.put_verdict.ensures.writes)));
 }

@@ -23,5 +23,5 @@ returns g c = record {
   obeys =
       spec_goes _ _ _ _ _ _ _ _ c.in_ok-spec.ensures.reads
       (view_goes c.in_ok-spec.spec.grammar.core _ _ _ _ _ _ _ _ c.in_ok-viewed.ensures.reads
-      (with_grammar _ (λ f x. IsViewWritten x c.in_ok-viewed.viewed.view.core) _ _ _ _ _ _ _ c.in_ok-viewed.ensures.grammar (obeys_writing _ _ _ _ _ _ c.put_lines.ensures.writes)));
+      (with_grammar _ (λ f x. IsViewWritten x.core c.in_ok-viewed.viewed.view.core) _ _ _ _ _ _ _ c.in_ok-viewed.ensures.grammar (obeys_writing _ _ _ _ _ _ c.put_lines.ensures.writes)));
 }

@@ -23,5 +23,5 @@ returns g c = record {
   obeys =
       spec_goes _ _ _ _ _ _ _ _ c.in_ok-spec.ensures.reads
       (view_goes c.in_ok-spec.spec.grammar.core _ _ _ _ _ _ _ _ c.in_ok-viewed.ensures.reads
-      (with_grammar _ (λ f x. ExportsView x c.in_ok-viewed.viewed.view.core (f c.args.words.now.events.now)) _ _ _ _ _ _ _ c.in_ok-viewed.ensures.grammar c.export_events.ensures.obeys));
+      (with_grammar _ (λ f x. ExportsView x.core c.in_ok-viewed.viewed.view.core (f c.args.words.now.events.now)) _ _ _ _ _ _ _ c.in_ok-viewed.ensures.grammar c.export_events.ensures.obeys));
 }

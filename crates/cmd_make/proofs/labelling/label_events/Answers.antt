@@ -23,3 +23,11 @@ loop-event-preserved c =
       so_far = one_labelled _ _ _ _ _ _ _ c.loop-event.invariant.so_far c.in-Some.event c.next.new.self.events c.label_event.new.labeller c.label_event.new.labels first.events step.taken step.labels step.grammar step.most;
       draws = first.draws ∙ c.loop-event.invariant.draws;
     }
+
+pub loop-event-preserved-in_ok-label_event-2 : goal.loop-event-preserved-in_ok-label_event-2
+loop-event-preserved-in_ok-label_event-2 c =
+    let first = subst (λ o. IsNext c.loop-event.generator o c.next.new.self) c.in-Some.is c.in_ok-event.ensures.next in
+    let step = c.in_ok-label_event.ensures in record {
+      so_far = one_labelled _ _ _ _ _ _ _ c.loop-event.invariant.so_far c.in-Some.event c.next.new.self.events c.label_event.new.labeller c.label_event.new.labels first.events step.taken step.labels step.grammar step.most;
+      draws = first.draws ∙ c.loop-event.invariant.draws;
+    }

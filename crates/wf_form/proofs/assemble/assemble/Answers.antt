@@ -3,6 +3,7 @@ use Rattle.wf_model.specs.Lists.{IsIn}
 use Rattle.wf_spec.specs.Held.{core_of}
 use Rattle.wf_spec.specs.Tables.{numbers_in}
 use Rattle.wf_form.specs.Rows.{table_of}
+use Rattle.wf_form.proofs.VersionRules.{no_versions}
 use Rattle.wf_form.proofs.Whole.{AreMade, AreReady, ready, made, whole, whole_kept}
 use Rattle.wf_form.proofs.assemble.assemble.Goals as goal
 use Rattle.wf_form.proofs.assemble.assemble.Goals.{Start, After-from_vec-3}
@@ -25,8 +26,11 @@ the_grammar c =
     c.requires.modules c.requires.names c.from_vec.ensures c.deref.ensures.value c.deref-2.ensures.value c.bytes.ensures c.module_number-start.ensures.place
     c.in_ok-given.ensures.given c.from_vec-3.ensures c.in_ok-given.ensures.rows c.in_ok-productions.ensures c.from_vec-2.ensures
 
-pub of_tables-requires : goal.of_tables-requires
-of_tables-requires c = whole_kept c.args.parts.now _ c.args.names _ _ _ c.requires.kept (the_grammar (goal.at.of_tables-requires c).After-from_vec-3)
+pub of_tables-requires-clause-kept : goal.of_tables-requires-clause-kept
+of_tables-requires-clause-kept c = whole_kept c.args.parts.now _ c.args.names _ _ _ c.requires.kept (the_grammar (goal.at.of_tables-requires-clause-kept c).After-from_vec-3)
+
+pub of_tables-requires-clause-versions : goal.of_tables-requires-clause-versions
+of_tables-requires-clause-versions c = no_versions _ c.from_vec-4.result (c.from_vec-4.ensures ∙ c.new.ensures.items)
 
 pub returns : goal.returns
-returns c = c.of_tables.ensures ∙ whole c.args.parts.now _ c.args.names _ _ _ c.requires.kept (the_grammar (goal.at.returns c).After-from_vec-3)
+returns c = c.of_tables.ensures.core ∙ whole c.args.parts.now _ c.args.names _ _ _ c.requires.kept (the_grammar (goal.at.returns c).After-from_vec-3)

@@ -1,8 +1,10 @@
 use Rattle.std.proofs.Common.{◌∙◌, map, ap}
-use Rattle.std.proofs.lemmas.Result.{err_from_is_err_and}
+use Rattle.std.proofs.lemmas.Result.{err_from_is_err_and, IfOk-weaker, IfErr-weaker}
 use Rattle.wf_form.specs.Forming.{module_of}
-use Rattle.wf_form.proofs.Faults.{first_fault, body_fault, link_fault, names_read, form}
+use Rattle.wf_form.specs.Rules.{AreKept}
+use Rattle.wf_form.proofs.Faults.{first_fault, body_fault, link_fault, version_fault, names_read, form}
 use Rattle.wf_form.proofs.forming.built.Goals as goal
+use Rattle.wf_form.proofs.forming.built.Goals.{In_ok-grammar}
 
 pub returns-in_err-names-clause-refused : goal.returns-in_err-names-clause-refused
 returns-in_err-names-clause-refused c =
@@ -27,6 +29,14 @@ pub assemble-requires-clause-names : goal.assemble-requires-clause-names
 assemble-requires-clause-names c =
     names_read c.args.parts.now c.in_ok-modules.modules.items c.in_ok-names.names (c.in_ok-modules.ensures ∙ ap (map module_of) c.items.ensures) c.in_ok-names.ensures.names
 
+the_kept : (c : In_ok-grammar) → AreKept c.args.parts.now
+the_kept c = record { first = c.in_ok-names.ensures.kept; bodies = c.in_ok-check_bodies.ensures.kept; links = c.in_ok-wirings.ensures.kept }
+
 pub returns-clause-accepted : goal.returns-clause-accepted
 returns-clause-accepted c =
-    (c.in_ok-grammar.ensures, form c.args.parts.now (record { first = c.in_ok-names.ensures.kept; bodies = c.in_ok-check_bodies.ensures.kept; links = c.in_ok-wirings.ensures.kept }))
+    let formed = form c.args.parts.now (the_kept (goal.at.returns-clause-accepted c).In_ok-grammar) in
+    IfOk-weaker c.versioned.result _ _ (λ g h. (h.0, formed, h.1)) c.versioned.ensures.accepted
+
+pub returns-clause-refused : goal.returns-clause-refused
+returns-clause-refused c =
+    IfErr-weaker c.versioned.result _ _ (λ f h. version_fault c.args.parts.now f (the_kept (goal.at.returns-clause-refused c).In_ok-grammar) h) c.versioned.ensures.refused

@@ -18,7 +18,7 @@ pub loop-part-preserved : goal.loop-part-preserved
 loop-part-preserved c = record {
   made = made_more position_of (placed c.args.names.now) c.loop-part.list.items c.push.new.self.items (record { name = c.in_ok-name.name; «module» = c.module_number-number.result }) c.args.parts.now c.loop-part.part-index c.part-item.result
       c.loop-part.invariant.made
-      (same_position c.args.names.now (record { name = c.in_ok-name.name; «module» = c.module_number-number.result }) c.part-item.result c.in_ok-name.ensures (c.module_number-number.ensures.place ∙ ap (place_of c.args.names.now) c.bytes.ensures))
+      (same_position c.args.names.now (record { name = c.in_ok-name.name; «module» = c.module_number-number.result }) c.part-item.result (c.in_ok-name.ensures ∙ c.bytes-in-loop-part.ensures) (c.module_number-number.ensures.place ∙ ap (place_of c.args.names.now) c.bytes.ensures))
       c.part-item.is c.loop-part-test.true c.in_ok-push.ensures.items;
   known = all_push (λ (q : Position). q.module.0 < length c.args.names.now) c.loop-part.list.items c.push.new.self.items (record { name = c.in_ok-name.name; «module» = c.module_number-number.result })
       c.loop-part.invariant.known c.module_number-number.ensures.within c.in_ok-push.ensures.items;

@@ -26,7 +26,7 @@ returns-in_default g c =
       stopped = λ e told s at.
           report_refused r.written (r.grammar c.clear.new.self) (r.most c.clear.new.self) old.inbox.kept old.reported (r.is_run c.clear.new.self) c.args.number c.args.text.now c.in-Ok.event c.in-Ok.ensures.ok
           (r.text c.clear.new.self) (r.text c.take_report-taken.new.run) clear.text
-          stop.0 e (told_is (end_of c.report_stop.result) e told ∙ stop.2) (c.in-Err-taken.ensures.stopped stop.0 stop.1) s
+          (r.is_run c.take_report-taken.new.run) stop.0 e (told_is (end_of c.report_stop.result) e told ∙ stop.2) (c.in-Err-taken.ensures.stopped stop.0 stop.1) s
           (still_taken (r.grammar old.run) (r.grammar c.clear.new.self) (r.most old.run) (r.most c.clear.new.self) old.inbox.kept old.reported (r.is_run old.run) (r.is_run c.clear.new.self) clear.grammar clear.most clear.run s at);
       memory = λ none. absurd (stop.3 none);
       fault = c.report_stop.ensures.either;

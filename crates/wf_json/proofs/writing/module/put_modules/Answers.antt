@@ -1,8 +1,10 @@
-use Rattle.std.proofs.Common.{rules, [], ap, length}
-use Rattle.wf_model.specs.Grammar.{module_at}
+use Rattle.std.proofs.Common.{rules, [], get_or, refl}
+use Rattle.wf_model.specs.Grammar.{Module}
 use Rattle.wf_json.specs.Canonical.{module_text}
-use Rattle.wf_json.proofs.Joined.{appended}
+use Rattle.wf_json.proofs.Joined.{list_taken}
 use Rattle.wf_json.proofs.writing.module.put_modules.Goals as goal
 
 pub returns : goal.returns
-returns c = appended module_text c.args.g.now.core.modules (record { name = []; inputs = []; outputs = [] }) _ _ _ _ (ap length c.modules.ensures.modules) (c.put_list.ensures (λ k. module_text (module_at c.args.g.now.core k)) (λ v k r w below met. search rules))
+returns g c =
+    let none : Module = record { name = []; inputs = []; outputs = [] } in
+    list_taken _ _ _ module_text c.args.modules.now none _ _ refl (c.put_list.ensures (λ k. module_text (get_or c.args.modules.now k none)) (λ v k r w below met. search rules))

@@ -9,6 +9,6 @@ pub returns : goal.returns
 returns c =
     subst (λ (g : HeldGrammar). map (λ (p : ProdNo). p.0) c.as_slice.result.now ≡ productions_of g.core c.args.m.0) c.self.view_is
     (ap (map (λ (p : ProdNo). p.0)) c.as_slice.ensures.value
-    ∙ listed _ _ _ c.args.m.0 c.self.inside.by_head.items c.index.result.now c.self.invariant.by_head
+    ∙ listed _ _ _ c.args.m.0 c.self.inside.by_head.items c.index.result.now c.self.invariant.0.by_head
     (subst (λ (g : HeldGrammar). c.args.m.0 < length g.core.modules) (sym c.self.view_is) c.requires)
     c.index.ensures)

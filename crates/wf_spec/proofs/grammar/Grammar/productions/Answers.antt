@@ -7,4 +7,4 @@ use Rattle.wf_spec.proofs.grammar.Grammar.productions.Goals as goal
 pub returns-clause-alternatives : goal.returns-clause-alternatives
 returns-clause-alternatives c =
     subst (λ (g : HeldGrammar). map (λ (p : HeldProduction). p.alternative) c.items.result.now ≡ map (alternative_of g.core) (numbers_from 0 (length g.core.productions))) c.self.view_is
-    (ap (map (λ (p : HeldProduction). p.alternative)) c.items.ensures ∙ c.self.invariant.places)
+    (ap (map (λ (p : HeldProduction). p.alternative)) c.items.ensures ∙ c.self.invariant.0.places)

@@ -1,0 +1,5 @@
+use Rattle.wf_json.proofs.Taken.{behind, last_behind}
+use Rattle.wf_json.proofs.writing.text.put_dotted.Goals as goal
+
+pub returns : goal.returns
+returns g c = last_behind _ _ _ (behind c.in_ok-put.ensures c.in_ok-put-2.ensures) c.put-3.ensures

@@ -1,0 +1,3 @@
+pub mod FirstProductions
+pub mod GoingOn
+pub mod KeepsOrChanges
