@@ -43,6 +43,7 @@ check "the phylogeny of one step is answered" answers phylogeny-once
 check "the recursive phylogeny is answered under its view" answers phylogeny
 check "each pair of items of the twisting grammar is answered" answers twisting
 check "each pair of items of the pair grammar is answered" answers pair
+check "last year's run of a workflow that has grown is answered" answers grown
 
 check "no word is a usage" says 1 'usage: wfprov COMMAND WORDS\n'
 check "too few words are a usage" says 1 'usage: wfprov COMMAND WORDS\n' trace $line/spec
@@ -63,6 +64,7 @@ check "the phylogeny of one step is accepted" checks phylogeny-once
 check "the recursive phylogeny is accepted" checks phylogeny
 check "the twisting grammar is accepted" checks twisting
 check "the pair grammar is accepted" checks pair
+check "a workflow that has grown is accepted" checks grown
 
 # Whether a view is safe and shows what stands beside it.
 shows() {
@@ -72,6 +74,7 @@ shows() {
 check "the view of the line is shown" shows line
 check "the view of the phylogeny of one step is shown" shows phylogeny-once
 check "the view of the recursive phylogeny is shown" shows phylogeny
+check "the view of a workflow that has grown is shown" shows grown
 check "the view of the twisting grammar is shown" shows twisting
 check "the view of the pair grammar is shown" shows pair
 check "a view that is not safe is told with two expansions that disagree" \
@@ -238,6 +241,14 @@ check "the recursive phylogeny is labelled" labels phylogeny
 check "the twisting grammar is labelled" labels twisting
 check "the pair grammar is labelled" labels pair
 
+# Last year's label file is what `ingest` writes of last year's specification, and that of this year has another digest alone.
+labels_of_before() {
+    run ingest examples/grown/before examples/grown/events && ended 0 examples/grown/labels "$nothing" &&
+        run ingest examples/grown/spec examples/grown/events && ! cmp -s "$work/out" examples/grown/labels &&
+        cmp -s <(tail -c +37 "$work/out") <(tail -c +37 examples/grown/labels)
+}
+check "last year's run is labelled alike by the specifications of both years" labels_of_before
+
 # Whether a label file of so many bytes from the front of the line example's is written, with this end and message.
 labels_until() {
     run ingest $line/spec "$2" && head -c "$1" $line/labels >"$work/begun" && ended "$3" "$work/begun" "$(text expected "$4")"
@@ -304,7 +315,7 @@ decides_alike() {
     done <"examples/$1/queries" >"$work/told"
     cmp -s "$work/told" "examples/$1/answers"
 }
-for example in line phylogeny-once phylogeny twisting pair mapping-cwl mapping-nextflow; do
+for example in line phylogeny-once grown phylogeny twisting pair mapping-cwl mapping-nextflow; do
     check "two labels of $example tell what its run tells" decides_alike "$example"
 done
 check "bytes that are no label are refused" says 2 'refused: label 1: Malformed\n' decide $line/spec $line/view b1 20
@@ -317,9 +328,16 @@ asks_alike() {
     run ask "examples/$1/spec" "examples/$1/view" "examples/$1/labels" "examples/$1/queries" &&
         ended 0 "examples/$1/answers" "$nothing"
 }
-for example in line phylogeny-once phylogeny twisting pair mapping-cwl mapping-nextflow; do
+for example in line phylogeny-once grown phylogeny twisting pair mapping-cwl mapping-nextflow; do
     check "the label file of $example answers as its run does" asks_alike "$example"
 done
+
+# Whether a label file is refused where the specification does not name the version that it was written for.
+refuses_unnamed() {
+    sed 's/"versions":\[\[9,3\]\]/"versions":[[9,2],[12,5]]/' examples/grown/spec >"$work/unnamed" &&
+        says 2 'refused: labels: OtherSpec\n' ask "$work/unnamed" examples/grown/view examples/grown/labels examples/grown/queries
+}
+check "a label file of a version that is not named is refused" refuses_unnamed
 
 # Whether what `ingest` writes while a run grows answers what its beginnings ask.
 asks_while_it_grows() {

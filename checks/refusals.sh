@@ -49,18 +49,18 @@ parts() {
     echo "$text"
 }
 
-# Whether a specification of this start, these modules, productions and deps is refused for this fault.
+# Whether a specification of this start, these modules, productions, deps and versions is refused for this fault.
 tells() {
     local status=0
-    printf '{"start":"%s","modules":[%s],"productions":[%s],"deps":[%s]}' "$1" "$(parts "$2")" "$(parts "$3")" "$(parts "$4")" >"$work/spec"
+    printf '{"start":"%s","modules":[%s],"productions":[%s],"deps":[%s],"versions":[%s]}' "$1" "$(parts "$2")" "$(parts "$3")" "$(parts "$4")" "$6" >"$work/spec"
     "$program" check "$work/spec" >"$work/out" 2>"$work/err" </dev/null || status=$?
     [ "$status" = 2 ] && [ ! -s "$work/out" ] && [ "$(cat "$work/err")" = "refused: spec: $5" ]
 }
 
 # The words of globs stand for themselves.
 set -f
-while IFS='|' read -r start modules productions deps fault; do
-    check "$fault is told of $modules with $productions${deps:+ and $deps}" tells "$start" "$modules" "$productions" "$deps" "$fault"
+while IFS='|' read -r start modules productions deps fault versions; do
+    check "$fault is told of $modules with $productions${deps:+ and $deps}${versions:+ and versions $versions}" tells "$start" "$modules" "$productions" "$deps" "$fault" "$versions"
 done <<'CASES'
 S|S ?|S=?||NameBad module 1
 S|S P S|S=P S=?||NameBad production 1
@@ -81,15 +81,24 @@ S|S P|S=P|of-P of-P-yx of-S|UnknownPort deps 1
 S|S P|S=P-without S=P-twice||PortLinkedTwice production 1
 S|S P|S=P-around S=P-without||PortUnlinked production 1
 S|S P|S=P-around|of-S|BodyCycle production 0
-S|S P K|S=P K=P|of-P of-S|DepsOnComposite deps 1
+S|S P K|S=P K=P|of-P of-S|DepsOnComposite deps 1|[9,9]
+S|S P K|S=P K=P||VersionBad version 1|[2,1],[0,0]
+S|S P K|S=P K=P||VersionBad version 0|[2,2],[2,1]
+S|S K P|S=P||VersionBad version 0|[1,1]
+S|S P|S=P||VersionBad version 1|[2,1],[2,2]
+S|S P|S=P||VersionBad version 0|[3,1]
 S|S P K|S=P K=K||Unreachable K
 S|S K P|S=K K=K||Unproductive S
 K|S K P|K=K||Unproductive K
 S|S K P|S=K K=P K=K||UnitCycle productions 2
 S|S K L P|S=K K=P L=K K=L||UnitCycle productions 3 2
 S|S K P|S=K K=P K=K K=K,K||UnitCycle productions 2
-S|S K P|S=K K=P K=K,K||TwoLoops K first 2 u second 2 v
+S|S K P|S=K K=P K=K,K||TwoLoops K first 2 u second 2 v|[3,2]
+S|S K P|S=K K=P K=P,K||CycleChanged version 1 module K|[3,3],[3,2],[3,2]
 S|P K S|K=P,K S=K K=P K=P,K K=K,K||TwoLoops K first 0 v second 3 v
 CASES
+
+too_many=$(printf '[9,9],%.0s' {1..64})
+check "65 versions are told before any of them" tells S 'S P' 'S=P' '' TooManyVersions "$too_many[9,9]"
 
 finish
