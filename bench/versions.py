@@ -20,13 +20,13 @@ from measure import called, run_for_use
 
 VERSIONS = 64
 PORTS = 64
-HEADS = 500
+HEADS = 1000
 TURNS = 3
 
 
 def name_of(kind, k):
-    """A name of 32 letters."""
-    return f"{kind}{k:05}".ljust(32, "x")
+    """A name of 36 letters."""
+    return f"{kind}{k:05}".ljust(36, "x")
 
 
 def module(k):
