@@ -1,9 +1,10 @@
 -- A run whose items are labelled: what its text grows by, and where it begins.
-use Rattle.std.proofs.Common.{◌≡◌, ℕ, ◌<◌, List, [], ◌∷◌, ◌++◌, length, Option, None, Some, sym, ap, ◌∙◌, subst}
+use Rattle.std.proofs.Common.{◌≡◌, ℕ, ◌<◌, List, [], ◌∷◌, ◌++◌, length, Option, None, Some, option_map, sym, ap, ◌∙◌, subst}
 use Rattle.std.specs.Prelude.{position, bytes_eq}
 use Rattle.std.proofs.lemmas.Option.{none-some}
 use Rattle.sha2.specs.Sha256.{sha256}
 use Rattle.wf_model.specs.declared.event.Event.{Event}
+use Rattle.wf_model.specs.declared.event.Event.TheVariants.{Start, Expand}
 use Rattle.wf_model.specs.Run.{IsRun, Expanded, made, names_of, expanded_by}
 use Rattle.wf_json.specs.Canonical.{canonical_of}
 use Rattle.wf_spec.specs.Held.{HeldGrammar}
@@ -11,6 +12,9 @@ use Rattle.label_model.proofs.FileGrowth.{file_step_law}
 use Rattle.report_model.specs.Kept.{Kept}
 use Rattle.wf_intake.specs.Reported.{ReportedSeen, none_reported}
 use Rattle.wf_intake.specs.Intakes.{IsWrittenOn}
+use Rattle.wf_intake.specs.Applied.{number_of}
+use Rattle.wf_run.specs.declared.node.NodeNo.{NodeNo}
+use Rattle.wf_run.specs.Found.{IsFoundFor}
 use Rattle.wf_run.specs.Runs.{RunSeen, node_at, name_at, names_at, IsExpandedAs, IsRunOf}
 use Rattle.wf_run.proofs.NamedInstances.{its_name}
 use Rattle.wf_inputs.proofs.PlainRuns.{names_told}
@@ -29,7 +33,10 @@ written_on r u grammar before e run old new is = (
   file_step_law r.grammar.core (sha256 (canonical_of r.grammar.core)) before e (subst (λ (h : HeldGrammar). IsRun h.core h.core.start (before ++ e ∷ [])) grammar run.accepted.0),
 )
 
--- the names of an expansion, and none of no expansion
+-- the number of the instance that an event expands is what a look-up of it gives
+pub found_for : (r : RunSeen) (e : Event) (number : Option ℕ) (found : Option NodeNo) → option_map (λ (n : NodeNo). n.0) found ≡ number → ((events : List Event) → IsRunOf r events → number ≡ number_of r.grammar.core events e) → IsFoundFor r e found
+found_for r (Start root) number found same told = tt
+found_for r (Expand i p names) number found same told = λ events run. same ∙ (told events run ∙ ap (position (bytes_eq i)) (sym run.names))
 
 -- an instance that the events expand
 module _ (r : RunSeen) (events : List Event) (run : IsRunOf r events) (instance : List ℕ) (x : Expanded) (k : ℕ) (at : position (bytes_eq instance) (names_of (made r.grammar.core r.grammar.core.start events)) ≡ Some k) (is : expanded_by events instance ≡ Some x) where

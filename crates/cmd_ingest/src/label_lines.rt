@@ -1,5 +1,5 @@
 // Lines of events, whose items are labelled and put line by line.
-ghost use Rattle.std.specs.Prelude.{◌≡◌, [], ℕ, List, Some, map, position, bytes_eq};
+ghost use Rattle.std.specs.Prelude.{◌≡◌, [], ℕ, List, Some, map, option_map, position, bytes_eq};
 ghost use Rattle.std.specs.Cmp.Lexicographic.{pointwise};
 ghost use Rattle.wf_model.specs.declared.event.Event.{Event};
 ghost use Rattle.wf_model.specs.Run.{Expanded, made, names_of, expanded_by};
@@ -29,6 +29,16 @@ use wf_stage::stop_of;
 struct Labelling<'r> {
     labeller: Labeller<'r>,
     text: Vec<u8>,
+}
+
+/// The instance of a number, if there is a number.
+fn node_of(number: Option<u32>) -> Option<NodeNo>
+    ensures { option_map (λ n. n.0) result ≡ number }
+{
+    match number {
+        Some(k) => Some(NodeNo(k)),
+        None => None,
+    }
 }
 
 /// The name of the instance of a number, and no bytes where there is none.
@@ -106,8 +116,8 @@ impl Grows for Labelling<'_> {
         are_children(self.labeller.run(), NodeNo(number), names)
     }
 
-    fn apply(&mut self, event: &Event) -> Result<(), RunFault> {
-        match self.labeller.write(event, &mut self.text) {
+    fn apply(&mut self, number: Option<u32>, event: &Event) -> Result<(), RunFault> {
+        match self.labeller.write(node_of(number), event, &mut self.text) {
             Ok(()) => Ok(()),
             Err(fault) => Err(fault),
         }

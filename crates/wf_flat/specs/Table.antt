@@ -1,5 +1,5 @@
 -- A run as a table of numbered instances.
-use Rattle.std.specs.Prelude.{◌≡◌, ℕ, ◌<◌, ◌≤◌, ◌+◌, List, [], ◌∷◌, ◌++◌, map, take, drop, length, get_or, set, Option, Some, None, option_map, MatchOption}
+use Rattle.std.specs.Prelude.{◌≡◌, ℕ, ◌<◌, ◌≤◌, ◌+◌, List, [], ◌∷◌, ◌++◌, map, take, drop, length, get_or, set, Option, Some, None, option_map, position, bytes_eq, MatchOption}
 use Rattle.wf_model.specs.declared.event.Event.{Event}
 use Rattle.wf_model.specs.declared.event.Event.TheVariants.{Start, Expand}
 use Rattle.wf_model.specs.declared.numbers.ProdNo.{ProdNo}
@@ -23,6 +23,11 @@ instance_of x = record { name = x.name; module_no = x.module.0 }
 
 abbrev pub names_in : List Inst → List (List ℕ)
 names_in xs = map (λ (x : Inst). x.name) xs
+
+-- this number of an instance, or none, is what a look-up of the instance that an event expands gives; a start event expands none
+abbrev pub IsFoundFor : Table → Event → Option ℕ → Type 0
+IsFoundFor t (Start root) found = Unit {0}
+IsFoundFor t (Expand i p names) found = found ≡ position (bytes_eq i) (names_in t.instances)
 
 -- the names that an expansion gave
 abbrev pub given_names : List (List ℕ) → Opened → List (List ℕ)

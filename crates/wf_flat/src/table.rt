@@ -7,7 +7,7 @@ ghost use Rattle.wf_model.specs.Faults.{some_twice, fault_of};
 ghost use Rattle.run_faults.specs.Standing.{IsFound};
 ghost use Rattle.run_faults.specs.Order.{names_fault};
 ghost use Rattle.wf_run.specs.Names.{AreNamesRefused};
-ghost use Rattle.wf_flat.specs.Table.{Table, IsTableOf, events_of, names_in, children, with_children, root_instance, started_table, opened_table};
+ghost use Rattle.wf_flat.specs.Table.{Table, IsTableOf, IsFoundFor, events_of, names_in, children, with_children, root_instance, started_table, opened_table};
 ghost use Rattle.wf_flat.specs.Opening.{CanOpen};
 
 use crate::names::InstanceNames;
@@ -215,9 +215,41 @@ impl PlainRun {
     ///
     /// Errors of a start, in order of trial: `StartedTwice`, `NameBad` (a name has 1 to 64 letters, digits, `_` or `-`), `TooManyInstances`. Of an expansion: `NotStarted`, `UnknownInstance`, `UnknownProduction`, `WrongHead` (the production is not one of the instance's module), `AlreadyExpanded`, `PositionsWrong` (not one name for each position), `NameBad`, `NameTwice` (a name that the run or the event has already), `TooManyInstances`. `NoMemory` last, or in place of `NameTwice`.
     ///
-    /// Cost: one look-up for the instance and one for each name of the event, which is hashed once; where the run has no room for so many instances, each name is also compared with the names before it in the event, at most 63.
+    /// Cost: that of `take_found`, and one look-up for the instance.
     pub fn take(&mut self, g: &Grammar, e: &Event) -> Result<(), RunFault>
         requires { IsTableOf g.now.core self.old }
+        ensures taken { OnOk result (events_of self.new ≡ events_of self.old ++ e.now ∷ []) }
+        ensures extends { OnOk result (fault_of g.now.core self.old.most (events_of self.old) e.now ≡ None) }
+        ensures refused { IfErr result (λ f. (f ≡ NoMemory) ⊎ (fault_of g.now.core self.old.most (events_of self.old) e.now ≡ Some f)) }
+        ensures unchanged { OnErr result (self.new ≡ self.old) }
+        ensures run { IsTableOf g.now.core self.new }
+        ensures most { self.new.most ≡ self.old.most }
+    {
+        let found = self.look_up(e);
+        self.take_found(g, found, e)
+    }
+
+    /// The number of the instance that an event expands; None where there is none.
+    fn look_up(&self, e: &Event) -> Option<u32>
+        ensures { IsFoundFor self.now e.now result }
+    {
+        match e {
+            Event::Start { .. } => None,
+            Event::Expand { instance, .. } => self.find(instance.bytes()),
+        }
+    }
+
+    /// Takes an event as `take` does, where the instance that it expands was looked up before.
+    ///
+    /// Cost: one look-up for each name of the event, which is hashed once; where the run has no room for so many instances, each name is also compared with the names before it in the event, at most 63.
+    pub fn take_found(
+        &mut self,
+        g: &Grammar,
+        found: Option<u32>,
+        e: &Event,
+    ) -> Result<(), RunFault>
+        requires run { IsTableOf g.now.core self.old }
+        requires found { IsFoundFor self.old e.now found }
         ensures taken { OnOk result (events_of self.new ≡ events_of self.old ++ e.now ∷ []) }
         ensures extends { OnOk result (fault_of g.now.core self.old.most (events_of self.old) e.now ≡ None) }
         ensures refused { IfErr result (λ f. (f ≡ NoMemory) ⊎ (fault_of g.now.core self.old.most (events_of self.old) e.now ≡ Some f)) }
@@ -231,7 +263,7 @@ impl PlainRun {
                 instance,
                 production,
                 names,
-            } => self.take_expand(g, instance.bytes(), *production, names.items()),
+            } => self.take_expand(g, found, instance.bytes(), *production, names.items()),
         }
     }
 
@@ -261,11 +293,13 @@ impl PlainRun {
     fn take_expand(
         &mut self,
         g: &Grammar,
+        found: Option<u32>,
         instance: &[u8],
         production: u64,
         names: &[Name],
     ) -> Result<(), RunFault>
-        requires { IsTableOf g.now.core self.old }
+        requires run { IsTableOf g.now.core self.old }
+        requires found { found ≡ position (bytes_eq instance.now) (names_in self.old.instances) }
         ensures taken { OnOk result (events_of self.new ≡ events_of self.old ++ Expand instance.now production names.now ∷ []) }
         ensures extends { OnOk result (fault_of g.now.core self.old.most (events_of self.old) (Expand instance.now production names.now) ≡ None) }
         ensures refused { IfErr result (λ f. (f ≡ NoMemory) ⊎ (fault_of g.now.core self.old.most (events_of self.old) (Expand instance.now production names.now) ≡ Some f)) }
@@ -274,7 +308,7 @@ impl PlainRun {
         ensures most { self.new.most ≡ self.old.most }
     {
         let _all = self.instances.len();
-        let k = self.place(g, instance, production, names)?;
+        let k = self.place(g, found, instance, production, names)?;
         // A grammar is well-formed: the number of a production has 16 bits.
         let _formed = g.start();
         let number = ProdNo(production as u16);
@@ -336,24 +370,25 @@ impl PlainRun {
         self.fault_without_room(names)
     }
 
-    /// The number of the instance that an event may expand by the production of a number, if none of the names is taken.
+    /// The number of the instance that an event may expand by the production of a number, if none of the names is taken. Its name was looked up.
     fn place(
         &self,
         g: &Grammar,
+        found: Option<u32>,
         name: &[u8],
         production: u64,
         names: &[Name],
     ) -> Result<u32, RunFault>
-        requires { IsTableOf g.now.core self.now }
+        requires run { IsTableOf g.now.core self.now }
+        requires found { found ≡ position (bytes_eq name.now) (names_in self.now.instances) }
         ensures refused { IfErr result (λ f. fault_of g.now.core self.now.most (events_of self.now) (Expand name.now production names.now) ≡ Some f) }
         ensures opens { OnOk result (CanOpen g.now.core self.now name.now production names.now) }
         ensures place { IfOk result (λ k. position (bytes_eq name.now) (names_in self.now.instances) ≡ Some k) }
     {
-        let number = self.find(name);
-        if let Some(fault) = self.expand_fault(g, name, number, production, names) {
+        if let Some(fault) = self.expand_fault(g, name, found, production, names) {
             return Err(fault);
         }
-        let Some(k) = number else {
+        let Some(k) = found else {
             unreachable!();
         };
         Ok(k)

@@ -7,14 +7,16 @@ use Rattle.std.proofs.lemmas.List.{drop-map, length-drop, length-map, length-tak
 use Rattle.std.proofs.lemmas.Option.{none-some}
 use Rattle.std.proofs.Math.Seq.{take-length}
 use Rattle.wf_model.specs.declared.event.Event.{Event}
+use Rattle.wf_model.specs.declared.event.Event.TheVariants.{Start, Expand}
 use Rattle.wf_model.specs.declared.numbers.ProdNo.{ProdNo}
 use Rattle.wf_model.specs.Grammar.{Grammar, body_of}
 use Rattle.wf_model.specs.Lists.{IsAt}
 use Rattle.wf_model.specs.Run.{Expanded, made, names_of, expanded_by}
 use Rattle.wf_model.proofs.Lists.{is_at}
 use Rattle.wf_flat.specs.declared.table.Inst.{Inst}
-use Rattle.wf_flat.specs.Table.{Table, IsTableOf, names_in, no_instance, events_of, expansion_at}
+use Rattle.wf_flat.specs.Table.{Table, IsTableOf, IsFoundFor, names_in, no_instance, events_of, expansion_at}
 use Rattle.wf_flat.proofs.Instances.{same_names, its_name}
+use Rattle.wf_intake.specs.Applied.{number_of}
 use Rattle.wf_inputs.specs.Reporting.{GrowingSeen, IsGrownBy}
 
 -- the names of its instances are those that its events make
@@ -24,6 +26,11 @@ names_grown r events at = sym (same_names r.grammar r.run at.run) ∙ ap (λ es.
 -- so a name has its place among them
 pub place_of_name : (r : GrowingSeen) (events : List Event) → IsGrownBy r events → (name : List ℕ) → position (bytes_eq name) (names_in r.run.instances) ≡ position (bytes_eq name) (names_of (made r.grammar r.grammar.start events))
 place_of_name r events at name = ap (position (bytes_eq name)) (names_grown r events at)
+
+-- so the number of the instance that an event expands is what a look-up of it gives
+pub found_for : (r : GrowingSeen) → IsTableOf r.grammar r.run → (e : Event) (number : Option ℕ) → ((events : List Event) → IsGrownBy r events → number ≡ number_of r.grammar events e) → IsFoundFor r.run e number
+found_for r run (Start root) number told = tt
+found_for r run (Expand i p names) number told = let at = record { run = run; events = refl } in told (events_of r.run) at ∙ sym (place_of_name r (events_of r.run) at i)
 
 -- the names of an expansion, and none of no expansion
 abbrev pub names_told : Option Expanded → List (List ℕ)

@@ -142,8 +142,8 @@ impl Grows for PlainGrowing<'_> {
         are_children(self.grammar, &self.run, number, names)
     }
 
-    fn apply(&mut self, event: &Event) -> Result<(), RunFault> {
-        self.run.take(self.grammar, event)
+    fn apply(&mut self, number: Option<u32>, event: &Event) -> Result<(), RunFault> {
+        self.run.take_found(self.grammar, number, event)
     }
 
     fn clear(&mut self) {}

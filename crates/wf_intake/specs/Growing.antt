@@ -1,5 +1,5 @@
 -- What contracts say of a run that grows. It is told by what it is seen as: its grammar, the limit on its instances, the events of which it is the run, and its text.
-use Rattle.std.specs.Prelude.{◌≡◌, ◌⊎◌, ℕ, Bool, List, [], ◌∷◌, ◌++◌, None, Some, bytes_eq}
+use Rattle.std.specs.Prelude.{◌≡◌, ◌⊎◌, ℕ, Bool, List, [], ◌∷◌, ◌++◌, Option, None, Some, bytes_eq}
 use Rattle.std.specs.Cmp.Lexicographic.{pointwise}
 use Rattle.wf_model.specs.declared.event.Event.{Event}
 use Rattle.wf_model.specs.declared.event.Event.TheVariants.{Start}
@@ -13,8 +13,9 @@ use Rattle.wf_inbox.specs.Inboxes.{InboxSeen}
 use Rattle.wf_intake.specs.declared.fault.IntakeFault.{IntakeFault}
 use Rattle.wf_intake.specs.declared.fault.IntakeFault.TheVariants.{NoMemory}
 use Rattle.wf_intake.specs.declared.standing.Standing.{Standing}
+use Rattle.wf_intake.specs.declared.standing.Standing.TheVariants.{Same, Other, Ready, Early}
 use Rattle.wf_intake.specs.Reported.{ReportedSeen}
-use Rattle.wf_intake.specs.Applied.{number_in, FitsRun, IsStanding}
+use Rattle.wf_intake.specs.Applied.{number_in, number_of, FitsRun, IsStanding}
 use Rattle.wf_intake.specs.Intakes.{IsKeptAs, IsIntakeOf, IsWrittenOn, fault_told}
 use Rattle.wf_intake.specs.Rounds.{IsApplied, IsNotApplied, IsHalted, GoesOnTo, StopsWith, HaltsAt, Round, Stop, Halt}
 
@@ -36,6 +37,17 @@ abbrev pub IsChildrenTest : Grammar → List Event → ℕ → List (List ℕ) �
 IsChildrenTest g events number names answer = (instance : List ℕ) (x : Expanded) → number_in g events instance ≡ Some number → expanded_by events instance ≡ Some x → answer ≡ pointwise bytes_eq x.names names
 
 module _ {Run : Type 0} (grammar : Run → Grammar) (is_run : Run → List Event → Type 0) where
+  -- this number of an instance is that which an event expands, whatever the events of the run were
+  abbrev pub IsNumberFor : Run → Event → Option ℕ → Type 0
+  IsNumberFor run e number = (events : List Event) → is_run run events → number ≡ number_of (grammar run) events e
+
+  -- where an event is ready, the number is that of the instance that it expands
+  abbrev pub HasNumber : Run → Event → Standing → Type 0
+  HasNumber run e Same = Unit {0}
+  HasNumber run e (Other earlier) = Unit {0}
+  HasNumber run e (Ready number) = IsNumberFor run e number
+  HasNumber run e Early = Unit {0}
+
   -- an event stands so to a run, where the lines fit it
   abbrev pub StandsAs : Run → ReportedSeen → Event → Standing → Type 0
   StandsAs run seen e standing = (events : List Event) → is_run run events → FitsRun (grammar run) events seen → IsStanding (grammar run) events seen e standing

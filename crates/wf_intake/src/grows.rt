@@ -4,7 +4,7 @@ ghost use Rattle.wf_model.specs.declared.event.Event.{Event};
 ghost use Rattle.wf_model.specs.Grammar.{Grammar};
 ghost use Rattle.wf_model.specs.Faults.{is_nil};
 ghost use Rattle.wf_intake.specs.Applied.{number_in};
-ghost use Rattle.wf_intake.specs.Growing.{GrowsBy, StaysRun, IsRootTest, IsChildrenTest, HasNoFault, IsFaultOrWant, WritesEvent};
+ghost use Rattle.wf_intake.specs.Growing.{GrowsBy, StaysRun, IsRootTest, IsChildrenTest, IsNumberFor, HasNoFault, IsFaultOrWant, WritesEvent};
 
 use wf_model::{Event, Name, RunFault};
 
@@ -47,8 +47,9 @@ pub trait Grows {
     fn are_children(&self, number: u32, names: &[Name]) -> bool
         ensures { (events : List Event) → is_run self.now events → IsChildrenTest (grammar self.now) events number names.now result };
 
-    /// Applies an event, if it extends the run, and makes its text behind the text so far. After an error the run and the text are as they were.
-    fn apply(&mut self, event: &Event) -> Result<(), RunFault>
+    /// Applies an event, if it extends the run, and makes its text behind the text so far. The number is that of the instance that it expands, which was looked up before. After an error the run and the text are as they were.
+    fn apply(&mut self, number: Option<u32>, event: &Event) -> Result<(), RunFault>
+        requires { IsNumberFor grammar is_run self.old event.now number }
         ensures run { OnOk result (GrowsBy is_run self.old self.new event.now) }
         ensures extends { OnOk result (HasNoFault grammar most is_run self.old event.now) }
         ensures text { OnOk result (WritesEvent grammar is_run written text self.old self.new event.now) }

@@ -6,10 +6,9 @@ ghost use Rattle.report_model.specs.Intake.{ReportFault, Refused};
 ghost use Rattle.wf_inbox.specs.Inboxes.{NoneReady};
 ghost use Rattle.wf_intake.specs.declared.fault.IntakeFault.TheVariants.{NoMemory as WantsMemory};
 ghost use Rattle.wf_intake.specs.Reported.{noted};
-ghost use Rattle.wf_intake.specs.Applied.{number_of};
 ghost use Rattle.wf_intake.specs.Intakes.{fault_told};
 ghost use Rattle.wf_intake.specs.Rounds.{names_given, all_marked, held_count};
-ghost use Rattle.wf_intake.specs.Growing.{AppliesEvent, RefusesEvent, HaltsAtEvent, DoesRounds, StopsRounds, HaltsRounds};
+ghost use Rattle.wf_intake.specs.Growing.{IsNumberFor, AppliesEvent, RefusesEvent, HaltsAtEvent, DoesRounds, StopsRounds, HaltsRounds};
 
 use crate::fault::IntakeFault;
 use crate::grows::Grows;
@@ -20,7 +19,7 @@ use wf_model::{Event, Name, RunFault};
 
 /// The number of the instance that an event expands.
 fn number_of<R: Grows>(run: &R, event: &Event) -> Option<u32>
-    ensures { (events : List Event) → R.is_run run.now events → result ≡ number_of (R.grammar run.now) events event.now }
+    ensures { IsNumberFor R.grammar R.is_run run.now event.now result }
 {
     match event {
         Event::Start { .. } => None,
@@ -99,6 +98,7 @@ pub(crate) fn apply_event<R: Grows>(
     number: Option<u32>,
     event: &Event,
 ) -> Result<(), IntakeFault>
+    requires { IsNumberFor R.grammar R.is_run run.old event.now number }
     ensures applied { OnOk result (AppliesEvent R.grammar R.most R.is_run R.written R.text run.old run.new event.now) }
     ensures noted { OnOk result (reported.new ≡ noted reported.old number line event.now) }
     ensures marks { OnOk result (inbox.new.kept ≡ all_marked (names_given event.now) inbox.old.kept) }
@@ -109,7 +109,7 @@ pub(crate) fn apply_event<R: Grows>(
     ensures known { (k : R.Known) → R.is_known run.old k → R.is_known run.new k }
 {
     make_room(inbox, reported, event)?;
-    match run.apply(event) {
+    match run.apply(number, event) {
         Ok(()) => {
             reported.note(number, line, event)?;
             mark_made(inbox, event);

@@ -1,6 +1,6 @@
 // How the event of a report stands to a run.
 ghost use Rattle.wf_model.specs.declared.event.Event.TheVariants.{Start, Expand};
-ghost use Rattle.wf_intake.specs.Growing.{StandsAs};
+ghost use Rattle.wf_intake.specs.Growing.{StandsAs, HasNumber};
 
 use crate::grows::Grows;
 use crate::reported::Reported;
@@ -21,7 +21,8 @@ pub(crate) enum Standing {
 
 /// How a start event stands to a run.
 fn start_standing<R: Grows>(reported: &Reported, run: &R, name: &[u8]) -> Standing
-    ensures { StandsAs R.grammar R.is_run run.now reported.now (Start name.now) result }
+    ensures stands { StandsAs R.grammar R.is_run run.now reported.now (Start name.now) result }
+    ensures number { HasNumber R.grammar R.is_run run.now (Start name.now) result }
 {
     if !run.is_started() {
         return Standing::Ready { number: None };
@@ -42,7 +43,8 @@ fn expand_standing<R: Grows>(
     production: u64,
     names: &[Name],
 ) -> Standing
-    ensures { StandsAs R.grammar R.is_run run.now reported.now (Expand instance.now production names.now) result }
+    ensures stands { StandsAs R.grammar R.is_run run.now reported.now (Expand instance.now production names.now) result }
+    ensures number { HasNumber R.grammar R.is_run run.now (Expand instance.now production names.now) result }
 {
     let Some(number) = run.find(instance) else {
         return Standing::Early;
@@ -64,7 +66,8 @@ fn expand_standing<R: Grows>(
 ///
 /// Cost: one look-up where its instance stands.
 pub(crate) fn standing_of<R: Grows>(reported: &Reported, run: &R, event: &Event) -> Standing
-    ensures { StandsAs R.grammar R.is_run run.now reported.now event.now result }
+    ensures stands { StandsAs R.grammar R.is_run run.now reported.now event.now result }
+    ensures number { HasNumber R.grammar R.is_run run.now event.now result }
 {
     match event {
         Event::Start { name } => start_standing(reported, run, name.bytes()),

@@ -9,6 +9,7 @@ ghost use Rattle.wf_model.specs.Grammar.{body_of};
 ghost use Rattle.label_model.specs.Files.{entry_of, entry_bytes};
 ghost use Rattle.label_model.specs.RunLabels.{labelled_by};
 ghost use Rattle.wf_run.specs.Runs.{IsRunOf, GoesOn};
+ghost use Rattle.wf_run.specs.Found.{IsFoundAs, IsFoundFor};
 ghost use Rattle.wf_labeller.specs.Entries.{HaveLabelsWithin, labels_in_bytes};
 ghost use Rattle.wf_labeller.specs.Keeping.{Adds, HasMore};
 
@@ -59,6 +60,16 @@ impl<'a> Labeller<'a> {
         &self.run
     }
 
+    /// The number of the instance that an event expands, by one look-up; None where there is none.
+    fn look_up(&self, event: &Event) -> Option<NodeNo>
+        ensures { IsFoundFor self.now event.now result }
+    {
+        match event {
+            Event::Start { .. } => None,
+            Event::Expand { instance, .. } => self.run.find(instance.bytes()),
+        }
+    }
+
     /// Takes an event, if it extends the run, and gives the entries of the items that it makes: those of the root's inputs and then of its outputs for a start event, those of the edges of the production for an expand event. After an error the run and the entries are as they were.
     ///
     /// Errors: as `Run::start` and `Run::expand`, in their order; `NoMemory` may come at any time.
@@ -77,17 +88,24 @@ impl<'a> Labeller<'a> {
         // The bound holds since the grammar is well-formed and strictly linear.
         let _formed = self.run.grammar().start();
         let mut made = Records::new(self.alloc);
-        self.label(event, &mut made)?;
+        let found = self.look_up(event);
+        self.label(found, event, &mut made)?;
         *into = made;
         Ok(())
     }
 
-    /// Takes an event as `take` does, and appends the bytes of the entries of the items that it makes, as they stand in a label file. After an error the run and the bytes are as they were.
+    /// Takes an event as `take` does, and appends the bytes of the entries of the items that it makes, as they stand in a label file. The instance that it expands was looked up before. After an error the run and the bytes are as they were.
     ///
     /// Errors: as `take`.
     ///
     /// Cost: that of the event in the run, and linear in the bytes of the entries. Memory is taken for the run and for the bytes alone.
-    pub fn write(&mut self, event: &Event, into: &mut Vec<u8>) -> Result<(), RunFault>
+    pub fn write(
+        &mut self,
+        found: Option<NodeNo>,
+        event: &Event,
+        into: &mut Vec<u8>,
+    ) -> Result<(), RunFault>
+        requires found { IsFoundFor self.old event.now found }
         ensures taken { OnOk result ((events : List Event) → IsRunOf self.old events → IsRunOf self.new (events ++ event.now ∷ [])) }
         ensures entries { OnOk result ((events : List Event) → IsRunOf self.old events → into.new.items ≡ into.old.items ++ flat_map entry_bytes (map entry_of (labelled_by self.old.grammar.core (events ++ event.now ∷ []) event.now))) }
         ensures extends { OnOk result ((events : List Event) → IsRunOf self.old events → fault_of self.old.grammar.core self.old.most events event.now ≡ None) }
@@ -97,7 +115,7 @@ impl<'a> Labeller<'a> {
         ensures into { OnErr result (into.new.items ≡ into.old.items) }
     {
         let before = into.len();
-        match self.label(event, into) {
+        match self.label(found, event, into) {
             Ok(()) => Ok(()),
             Err(fault) => {
                 into.truncate(before);
@@ -121,7 +139,8 @@ impl<'a> Labeller<'a> {
         ensures into { OnErr result (into.new ≡ into.old) }
     {
         let count = into.count();
-        match self.label(event, into) {
+        let found = self.look_up(event);
+        match self.label(found, event, into) {
             Ok(()) => Ok(()),
             Err(fault) => {
                 into.truncate(count);
@@ -130,8 +149,14 @@ impl<'a> Labeller<'a> {
         }
     }
 
-    /// Takes an event, and keeps the entries of the items that it makes. After an error some of them may be kept.
-    fn label<K: Keeper>(&mut self, event: &Event, to: &mut K) -> Result<(), RunFault>
+    /// Takes an event whose instance was looked up, and keeps the entries of the items that it makes. After an error some of them may be kept.
+    fn label<K: Keeper>(
+        &mut self,
+        found: Option<NodeNo>,
+        event: &Event,
+        to: &mut K,
+    ) -> Result<(), RunFault>
+        requires found { IsFoundFor self.old event.now found }
         ensures taken { OnOk result ((events : List Event) → IsRunOf self.old events → IsRunOf self.new (events ++ event.now ∷ [])) }
         ensures entries { OnOk result ((events : List Event) → IsRunOf self.old events → Adds K.parts_of (K.kept to.old) (K.kept to.new) (map entry_of (labelled_by self.old.grammar.core (events ++ event.now ∷ []) event.now))) }
         ensures more { HasMore (K.kept to.old) (K.kept to.new) }
@@ -149,6 +174,7 @@ impl<'a> Labeller<'a> {
             } => expand(
                 &mut self.run,
                 &mut self.bits,
+                found,
                 instance.bytes(),
                 *production,
                 names.items(),
@@ -178,15 +204,17 @@ fn start<K: Keeper>(
     Ok(())
 }
 
-/// Expands an instance, and keeps the entries of the edges of the production. After an error some of them may be kept.
+/// Expands an instance that was looked up, and keeps the entries of the edges of the production. After an error some of them may be kept.
 fn expand<K: Keeper>(
     run: &mut Run<'_>,
     bits: &mut BitWriter,
+    found: Option<NodeNo>,
     instance: &[u8],
     production: u64,
     names: &[Name],
     to: &mut K,
 ) -> Result<(), RunFault>
+    requires found { IsFoundAs run.old instance.now found }
     ensures taken { OnOk result ((events : List Event) → IsRunOf run.old events → IsRunOf run.new (events ++ Expand instance.now production names.now ∷ [])) }
     ensures entries { OnOk result ((events : List Event) → IsRunOf run.old events → Adds K.parts_of (K.kept to.old) (K.kept to.new) (map entry_of (labelled_by run.old.grammar.core (events ++ Expand instance.now production names.now ∷ []) (Expand instance.now production names.now)))) }
     ensures more { HasMore (K.kept to.old) (K.kept to.new) }
@@ -195,8 +223,8 @@ fn expand<K: Keeper>(
     ensures refused { IfErr result (λ f. (f ≡ NoMemory) ⊎ ((events : List Event) → IsRunOf run.old events → fault_of run.old.grammar.core run.old.most events (Expand instance.now production names.now) ≡ Some f)) }
     ensures unchanged { OnErr result (run.new ≡ run.old) }
 {
-    keep_inner(run, bits, instance, production, names, to)?;
-    run.expand(instance, production, names)?;
+    keep_inner(run, bits, found, instance, production, names, to)?;
+    run.expand_found(found, instance, production, names)?;
     Ok(())
 }
 
@@ -204,15 +232,17 @@ fn expand<K: Keeper>(
 fn keep_inner<K: Keeper>(
     run: &Run<'_>,
     bits: &mut BitWriter,
+    found: Option<NodeNo>,
     instance: &[u8],
     production: u64,
     names: &[Name],
     to: &mut K,
 ) -> Result<(), AllocError>
+    requires found { IsFoundAs run.now instance.now found }
     ensures ok { OnOk result ((events : List Event) → IsRunOf run.now events → fault_of run.now.grammar.core run.now.most events (Expand instance.now production names.now) ≡ None → Adds K.parts_of (K.kept to.old) (K.kept to.new) (map entry_of (labelled_by run.now.grammar.core (events ++ Expand instance.now production names.now ∷ []) (Expand instance.now production names.now)))) }
     ensures more { HasMore (K.kept to.old) (K.kept to.new) }
 {
-    let Some((n, number)) = place(run, instance, production, names) else {
+    let Some((n, number)) = place(run, found, instance, production, names) else {
         return Ok(());
     };
     let g = run.grammar();
@@ -222,19 +252,27 @@ fn keep_inner<K: Keeper>(
     Ok(())
 }
 
-/// The numbers of an instance and of a production by which it may be expanded into these names, each of which has at most 64 bytes. None tells that the run refuses the event.
+/// The numbers of an instance that was looked up and of a production by which it may be expanded into these names, each of which has at most 64 bytes. None tells that the run refuses the event.
 fn place(
     run: &Run<'_>,
+    found: Option<NodeNo>,
     instance: &[u8],
     production: u64,
     names: &[Name],
 ) -> Option<(NodeNo, ProdNo)>
-    ensures place { IfSome result (λ t. (position (bytes_eq instance.now) run.now.names ≡ Some t.0.0) × (t.0.0 < length run.now.nodes)) }
+    requires found { IsFoundAs run.now instance.now found }
+    ensures place { IfSome result (λ t. (events : List Event) → IsRunOf run.now events → position (bytes_eq instance.now) run.now.names ≡ Some t.0.0) }
+    ensures there { IfSome result (λ t. t.0.0 < length run.now.nodes) }
     ensures production { IfSome result (λ t. (t.1.0 ≡ production) × (production < length run.now.grammar.core.productions) × (length names.now ≡ length (body_of run.now.grammar.core production))) }
     ensures short { IfSome result (λ _. (n : List ℕ) → IsIn n names.now → length n ≤ 64) }
     ensures none { IsNone result → (events : List Event) → IsRunOf run.now events → fault_of run.now.grammar.core run.now.most events (Expand instance.now production names.now) ≡ None → ⊥ }
 {
-    let n = run.find(instance)?;
+    let Some(n) = found else {
+        return None;
+    };
+    if run.instances() <= n.0 {
+        return None;
+    }
     let g = run.grammar();
     if g.productions().len() as u64 <= production {
         return None;

@@ -1,6 +1,6 @@
 -- The instance of a name in a run, by its number.
 use Rattle.std.proofs.Common.{◌≡◌, ℕ, ◌<◌, Bool, true, false, List, [], ◌∷◌, length, get_or, Option, Some, None, refl, ap, sym, subst, ◌∙◌, arith}
-use Rattle.std.specs.Prelude.{position, bytes_eq, is_some}
+use Rattle.std.specs.Prelude.{position, bytes_eq, is_some, option_map, IfSome}
 use Rattle.std.specs.List.{position_or_len}
 use Rattle.std.proofs.lemmas.Grind.{common_steps}
 use Rattle.std.proofs.lemmas.List.{length-map, get_or-map}
@@ -15,6 +15,7 @@ use Rattle.wf_model.specs.Run.{Instance, made, names_of, expanded_by, IsRun}
 use Rattle.wf_model.proofs.Lists.{some_from, some_gives, same_bytes, at_below, at_is, is_at, at_in, in_at}
 use Rattle.wf_model.proofs.Differ.{one_of_name}
 use Rattle.wf_model.proofs.Taking.{run_differs, module_gives}
+use Rattle.wf_run.specs.declared.node.NodeNo.{NodeNo}
 use Rattle.wf_run.specs.Runs.{Node, RunSeen, node_at, name_at, IsExpandedAs, IsRunOf}
 
 -- where a test has no place, no element passes it
@@ -94,6 +95,11 @@ module _ (r : RunSeen) (events : List Event) (run : IsRunOf r events) where
   -- the number of a name is that of an instance with this name
   pub its_name : (name : List ℕ) (k : ℕ) → position (bytes_eq name) r.names ≡ Some k → (k < length r.nodes) × (name ≡ name_at r k)
   its_name name k e = let p = position-Some (bytes_eq name) r.names k [] e in (subst (λ n. k < n) names_count p.0, same_bytes name (name_at r k) p.1)
+
+  -- what a look-up of a name gives is the number of an instance, where it gives one
+  pub found_there : (name : List ℕ) (found : Option NodeNo) → option_map (λ (n : NodeNo). n.0) found ≡ position (bytes_eq name) r.names → IfSome found (λ n. n.0 < length r.nodes)
+  found_there name None e = tt
+  found_there name (Some n) e = (its_name name n.0 (sym e)).0
 
   pub known : (name : List ℕ) (k : ℕ) → position (bytes_eq name) r.names ≡ Some k → is_one_of (names_of (instances_of r events)) name ≡ true
   known name k e =

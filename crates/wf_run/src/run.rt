@@ -11,6 +11,7 @@ ghost use Rattle.run_faults.specs.Standing.{IsFound, Fits};
 ghost use Rattle.run_faults.specs.Order.{names_fault};
 ghost use Rattle.wf_recur.specs.Cycles.{AreCyclesOf};
 ghost use Rattle.wf_run.specs.Runs.{RunSeen, node_at, name_at, IsRunOf, GoesOn};
+ghost use Rattle.wf_run.specs.Found.{IsFoundAs};
 ghost use Rattle.wf_run.specs.Opening.{opened_run};
 ghost use Rattle.wf_run.specs.Names.{twice_fault, AreNamesRefused};
 ghost use Rattle.wf_run.specs.Growing.{IsExpandFault, IsFaultAt, CanOpen};
@@ -246,13 +247,15 @@ impl<'a> Run<'a> {
         self.fault_without_room(names)
     }
 
-    /// The numbers of an event that extends the run if none of its names is taken, or why it does not extend it.
+    /// The numbers of an event that extends the run if none of its names is taken, or why it does not extend it. Its instance was looked up.
     fn expansion<'n>(
         &self,
+        found: Option<NodeNo>,
         instance: &[u8],
         production: u64,
         names: &'n [Name],
     ) -> Result<Expansion<'n>, RunFault>
+        requires found { IsFoundAs self.now instance.now found }
         ensures refused { IfErr result (λ f. IsExpandFault self.now instance.now production names.now (Some f)) }
         ensures left { OnOk result (IsExpandFault self.now instance.now production names.now (twice_fault self.now.names names.now)) }
         ensures instance { IfOk result (λ e. position (bytes_eq instance.now) self.now.names ≡ Some e.instance.0) }
@@ -262,11 +265,10 @@ impl<'a> Run<'a> {
     {
         // A grammar is well-formed: the number of a production has 16 bits.
         let _formed = self.grammar.start();
-        let n = self.find(instance);
-        if let Some(fault) = self.fault_of_expand(n, production, names) {
+        if let Some(fault) = self.fault_of_expand(found, production, names) {
             return Err(fault);
         }
-        let Some(k) = n else {
+        let Some(k) = found else {
             unreachable!();
         };
         Ok(Expansion {
@@ -307,7 +309,7 @@ impl<'a> Run<'a> {
     ///
     /// Errors, in order of trial: `NotStarted`, `UnknownInstance`, `UnknownProduction`, `WrongHead` (the production is not one of the instance's module), `AlreadyExpanded`, `PositionsWrong` (not one name for each position), `NameBad`, `NameTwice` (a name that the run or the event has already), `TooManyInstances`; `NoMemory` last, or in place of `NameTwice`.
     ///
-    /// Cost: one look-up for the instance and one for each name of the event, which is hashed once; where the run has no room for so many instances, each name is also compared with the names before it in the event, at most 63. The prefix of a child is that of its parent, or the parent's with the bits of one step more, however long the run is.
+    /// Cost: that of `expand_found`, and one look-up for the instance.
     pub fn expand(
         &mut self,
         instance: &[u8],
@@ -321,7 +323,29 @@ impl<'a> Run<'a> {
         ensures refused { IfErr result (λ f. (f ≡ NoMemory) ⊎ ((events : List Event) → IsRunOf self.old events → fault_of self.old.grammar.core self.old.most events (Expand instance.now production names.now) ≡ Some f)) }
         ensures unchanged { OnErr result (self.new ≡ self.old) }
     {
-        let e = self.expansion(instance, production, names)?;
+        let found = self.find(instance);
+        self.expand_found(found, instance, production, names)
+    }
+
+    /// Expands an instance as `expand` does, where its name was looked up before. Of the name the contract alone speaks.
+    ///
+    /// Cost: one look-up for each name of the event, which is hashed once; where the run has no room for so many instances, each name is also compared with the names before it in the event, at most 63. The prefix of a child is that of its parent, or the parent's with the bits of one step more, however long the run is.
+    pub fn expand_found(
+        &mut self,
+        found: Option<NodeNo>,
+        instance: &[u8],
+        production: u64,
+        names: &[Name],
+    ) -> Result<NodeNo, RunFault>
+        requires found { IsFoundAs self.old instance.now found }
+        ensures taken { OnOk result ((events : List Event) → IsRunOf self.old events → IsRunOf self.new (events ++ Expand instance.now production names.now ∷ [])) }
+        ensures extends { OnOk result ((events : List Event) → IsRunOf self.old events → fault_of self.old.grammar.core self.old.most events (Expand instance.now production names.now) ≡ None) }
+        ensures first { IfOk result (λ n. n.0 ≡ length self.old.nodes) }
+        ensures goes_on { OnOk result (GoesOn self.old self.new) }
+        ensures refused { IfErr result (λ f. (f ≡ NoMemory) ⊎ ((events : List Event) → IsRunOf self.old events → fault_of self.old.grammar.core self.old.most events (Expand instance.now production names.now) ≡ Some f)) }
+        ensures unchanged { OnErr result (self.new ≡ self.old) }
+    {
+        let e = self.expansion(found, instance, production, names)?;
         let first = self.instances();
         if let Err(fault) = self.open(e) {
             return Err(fault);

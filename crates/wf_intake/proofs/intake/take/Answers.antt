@@ -11,14 +11,14 @@ returns-in-Same-clause-ok g c = λ s here.
     let r = g.R.Grows in
     let run = c.args.run.now in
     applied_again (r.grammar run) (r.most run) c.args.inbox.now.kept c.args.reported.now (r.is_run run) s here (record { line = c.args.line; event = c.args.event.now })
-    (r.written (r.grammar run)) (r.text run) (c.in-Same.ensures s.run here.parts.run here.parts.fits)
+    (r.written (r.grammar run)) (r.text run) (c.in-Same.ensures.stands s.run here.parts.run here.parts.fits)
 
 pub returns-in-Other-clause-stopped : goal.returns-in-Other-clause-stopped
 returns-in-Other-clause-stopped g c = λ f told s here.
     let r = g.R.Grows in
     let run = c.args.run.now in
     applied_other (r.grammar run) (r.most run) c.args.inbox.now.kept c.args.reported.now (r.is_run run) s here (record { line = c.args.line; event = c.args.event.now })
-    (r.written (r.grammar run)) (r.text run) c.in-Other.earlier (c.in-Other.ensures s.run here.parts.run here.parts.fits) f told
+    (r.written (r.grammar run)) (r.text run) c.in-Other.earlier (c.in-Other.ensures.stands s.run here.parts.run here.parts.fits) f told
 
 pub returns-in_err-apply_event-in-Ready-clause-stopped : goal.returns-in_err-apply_event-in-Ready-clause-stopped
 returns-in_err-apply_event-in-Ready-clause-stopped g c =
@@ -27,7 +27,7 @@ returns-in_err-apply_event-in-Ready-clause-stopped g c =
     passed
     (StopsAtOne r.grammar r.most r.is_run r.written r.text c.args.inbox.now c.args.reported.now run c.apply_event.new.run c.args.line c.args.event.now)
     c.from_residual.result c.in_err-apply_event-in-Ready.field-0.0 (err_from_is_err_and c.from_residual.result c.from_residual.ensures.1)
-    (λ f told s here. refused_at_once (r.grammar run) (r.most run) r.written _ _ _ c.args.line c.args.event.now c.in-Ready.number s here (c.in-Ready.ensures s.run here.parts.run here.parts.fits) _ f _ _ (c.in_err-apply_event-in-Ready.ensures.refused f told s.run here.parts.run))
+    (λ f told s here. refused_at_once (r.grammar run) (r.most run) r.written _ _ _ c.args.line c.args.event.now c.in-Ready.number s here (c.in-Ready.ensures.stands s.run here.parts.run here.parts.fits) _ f _ _ (c.in_err-apply_event-in-Ready.ensures.refused f told s.run here.parts.run))
 
 pub returns-in_err-apply_event-in-Ready-clause-halted : goal.returns-in_err-apply_event-in-Ready-clause-halted
 returns-in_err-apply_event-in-Ready-clause-halted g c =
@@ -36,21 +36,21 @@ returns-in_err-apply_event-in-Ready-clause-halted g c =
     passed
     (HaltsAtOne r.grammar r.most r.is_run r.written r.text c.args.inbox.now c.args.reported.now run c.apply_event.new.run c.args.line c.args.event.now)
     c.from_residual.result c.in_err-apply_event-in-Ready.field-0.0 (err_from_is_err_and c.from_residual.result c.from_residual.ensures.1)
-    (λ want s here. halted_at_once (r.grammar run) (r.most run) r.written _ _ _ c.args.line c.args.event.now c.in-Ready.number s here (c.in-Ready.ensures s.run here.parts.run here.parts.fits) _ _ _ (c.in_err-apply_event-in-Ready.ensures.halted want s.run here.parts.run))
+    (λ want s here. halted_at_once (r.grammar run) (r.most run) r.written _ _ _ c.args.line c.args.event.now c.in-Ready.number s here (c.in-Ready.ensures.stands s.run here.parts.run here.parts.fits) _ _ _ (c.in_err-apply_event-in-Ready.ensures.halted want s.run here.parts.run))
 
 pub returns-in_ok-apply_event-in-Ready-clause-ok : goal.returns-in_ok-apply_event-in-Ready-clause-ok
 returns-in_ok-apply_event-in-Ready-clause-ok g c = ok_then c.apply_all.result c.apply_all.ensures.taken (λ all s here.
-    then_taken (g.R.Grows.grammar c.args.run.now) (g.R.Grows.most c.args.run.now) g.R.Grows.written _ _ _ c.args.line c.args.event.now c.in-Ready.number s here (c.in-Ready.ensures s.run here.parts.run here.parts.fits) _ _ c.apply_event.ensures.grammar _ c.apply_event.ensures.most _ _ _ _
+    then_taken (g.R.Grows.grammar c.args.run.now) (g.R.Grows.most c.args.run.now) g.R.Grows.written _ _ _ c.args.line c.args.event.now c.in-Ready.number s here (c.in-Ready.ensures.stands s.run here.parts.run here.parts.fits) _ _ c.apply_event.ensures.grammar _ c.apply_event.ensures.most _ _ _ _
     (c.in_ok-apply_event-in-Ready.ensures.applied s.run here.parts.run) c.in_ok-apply_event-in-Ready.ensures.marks c.in_ok-apply_event-in-Ready.ensures.noted _ _ _ _ _ all)
 
 pub returns-in_ok-apply_event-in-Ready-clause-stopped : goal.returns-in_ok-apply_event-in-Ready-clause-stopped
 returns-in_ok-apply_event-in-Ready-clause-stopped g c = err_then c.apply_all.result c.apply_all.ensures.stopped (λ f all r told s here.
-    then_stopped (g.R.Grows.grammar c.args.run.now) (g.R.Grows.most c.args.run.now) g.R.Grows.written _ _ _ c.args.line c.args.event.now c.in-Ready.number s here (c.in-Ready.ensures s.run here.parts.run here.parts.fits) _ _ c.apply_event.ensures.grammar _ c.apply_event.ensures.most _ _ _ _
+    then_stopped (g.R.Grows.grammar c.args.run.now) (g.R.Grows.most c.args.run.now) g.R.Grows.written _ _ _ c.args.line c.args.event.now c.in-Ready.number s here (c.in-Ready.ensures.stands s.run here.parts.run here.parts.fits) _ _ c.apply_event.ensures.grammar _ c.apply_event.ensures.most _ _ _ _
     (c.in_ok-apply_event-in-Ready.ensures.applied s.run here.parts.run) c.in_ok-apply_event-in-Ready.ensures.marks c.in_ok-apply_event-in-Ready.ensures.noted _ f _ all r told)
 
 pub returns-in_ok-apply_event-in-Ready-clause-halted : goal.returns-in_ok-apply_event-in-Ready-clause-halted
 returns-in_ok-apply_event-in-Ready-clause-halted g c = err_then c.apply_all.result c.apply_all.ensures.halted (λ f all want s here.
-    then_halted (g.R.Grows.grammar c.args.run.now) (g.R.Grows.most c.args.run.now) g.R.Grows.written _ _ _ c.args.line c.args.event.now c.in-Ready.number s here (c.in-Ready.ensures s.run here.parts.run here.parts.fits) _ _ c.apply_event.ensures.grammar _ c.apply_event.ensures.most _ _ _ _
+    then_halted (g.R.Grows.grammar c.args.run.now) (g.R.Grows.most c.args.run.now) g.R.Grows.written _ _ _ c.args.line c.args.event.now c.in-Ready.number s here (c.in-Ready.ensures.stands s.run here.parts.run here.parts.fits) _ _ c.apply_event.ensures.grammar _ c.apply_event.ensures.most _ _ _ _
     (c.in_ok-apply_event-in-Ready.ensures.applied s.run here.parts.run) c.in_ok-apply_event-in-Ready.ensures.marks c.in_ok-apply_event-in-Ready.ensures.noted _ f _ all want)
 
 pub returns-in-Ok-clause-ok : goal.returns-in-Ok-clause-ok
@@ -58,14 +58,14 @@ returns-in-Ok-clause-ok g c = λ s here.
     let r = g.R.Grows in
     let run = c.args.run.now in
     offered (r.grammar run) (r.most run) c.args.inbox.now.kept c.args.reported.now (r.is_run run) s here (record { line = c.args.line; event = c.args.event.now })
-    (r.written (r.grammar run)) (r.text run) (c.in-Early.ensures s.run here.parts.run here.parts.fits) c.offer.new.self.kept c.in-Ok.field-0 c.in-Ok.ensures.offered
+    (r.written (r.grammar run)) (r.text run) (c.in-Early.ensures.stands s.run here.parts.run here.parts.fits) c.offer.new.self.kept c.in-Ok.field-0 c.in-Ok.ensures.offered
 
 pub returns-in-Err-Conflict-clause-stopped : goal.returns-in-Err-Conflict-clause-stopped
 returns-in-Err-Conflict-clause-stopped g c = λ f told s here.
     let r = g.R.Grows in
     let run = c.args.run.now in
     refused (r.grammar run) (r.most run) c.args.inbox.now.kept c.args.reported.now (r.is_run run) s here (record { line = c.args.line; event = c.args.event.now })
-    (r.written (r.grammar run)) (r.text run) (c.in-Early.ensures s.run here.parts.run here.parts.fits) c.in-Err-Conflict.earlier (subst (IsContradicted c.args.inbox.now.kept c.args.line c.args.event.now) c.in-Err-Conflict.field-0-is c.in-Err-Conflict.ensures.conflict) f told
+    (r.written (r.grammar run)) (r.text run) (c.in-Early.ensures.stands s.run here.parts.run here.parts.fits) c.in-Err-Conflict.earlier (subst (IsContradicted c.args.inbox.now.kept c.args.line c.args.event.now) c.in-Err-Conflict.field-0-is c.in-Err-Conflict.ensures.conflict) f told
 
 pub returns-in-Err-NoMemory-clause-halted : goal.returns-in-Err-NoMemory-clause-halted
 returns-in-Err-NoMemory-clause-halted g c = λ want s here.

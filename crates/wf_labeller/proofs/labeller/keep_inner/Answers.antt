@@ -18,6 +18,6 @@ pub returns-clause-ok : goal.returns-clause-ok
 returns-clause-ok g c events run taken =
     let wf = subst (λ (h : HeldGrammar). IsWellFormed h.core) c.grammar-g.ensures.grammar c.start-formed.ensures.formed in
     subst (Adds g.K.Keeper.parts_of (g.K.Keeper.kept c.args.to.now) (g.K.Keeper.kept c.keep_edges.new.to))
-    (made_entries c.args.run.now events run c.args.instance.now c.args.production c.args.names.now taken c.in-Some.n.0 c.in-Some.ensures.place.0 wf
+    (made_entries c.args.run.now events run c.args.instance.now c.args.production c.args.names.now taken c.in-Some.n.0 (c.in-Some.ensures.place events run) wf
     c.grammar-g.result.now c.in-Some.number.0 c.prefix.result.bytes.now c.prefix.result.length c.prefix.result.chain
     c.grammar-g.ensures.grammar c.in-Some.ensures.production.0 c.prefix.ensures.bytes c.prefix.ensures.length c.prefix.ensures.chain) c.in_ok-keep_edges.ensures.ok

@@ -21,11 +21,11 @@ returns-clause-taken c =
     let t = c.args.self.now in
     let p = c.args.production in
     let e = Expand c.args.instance.now p c.args.names.now in
-    let next = (taking_law g t.most (events_of t) e c.requires.accepted).0 (c.in_ok-k.ensures.opens.left ∙ none_twice _ c.args.names.now c.in_default.ensures.fresh) in
-    let its = its_name g t c.requires c.args.instance.now c.in_ok-k.k c.in_ok-k.ensures.place in
+    let next = (taking_law g t.most (events_of t) e c.requires.run.accepted).0 (c.in_ok-k.ensures.opens.left ∙ none_twice _ c.args.names.now c.in_default.ensures.fresh) in
+    let its = its_name g t c.requires.run c.args.instance.now c.in_ok-k.k c.in_ok-k.ensures.place in
     let body = same_modules g p _ c.positions-body.result.now c.positions-body.ensures c.production.ensures.core in
     let kept = kept_of t _ _ _ _ c.self.invariant c.self.view_is in
-    let r = run_expanded g t c.requires kept c.in_ok-k.k (record { 0 = p }) c.args.names.now c.positions-body.result.now c.args.instance.now its.0 its.1 body next in
+    let r = run_expanded g t c.requires.run kept c.in_ok-k.k (record { 0 = p }) c.args.names.now c.positions-body.result.now c.args.instance.now its.0 its.1 body next in
     ap events_of c.in_default.ensures.opened ∙ r.0
 
 pub returns-clause-run : goal.returns-clause-run
@@ -34,9 +34,9 @@ returns-clause-run c =
     let t = c.args.self.now in
     let p = c.args.production in
     let e = Expand c.args.instance.now p c.args.names.now in
-    let next = (taking_law g t.most (events_of t) e c.requires.accepted).0 (c.in_ok-k.ensures.opens.left ∙ none_twice _ c.args.names.now c.in_default.ensures.fresh) in
-    let its = its_name g t c.requires c.args.instance.now c.in_ok-k.k c.in_ok-k.ensures.place in
+    let next = (taking_law g t.most (events_of t) e c.requires.run.accepted).0 (c.in_ok-k.ensures.opens.left ∙ none_twice _ c.args.names.now c.in_default.ensures.fresh) in
+    let its = its_name g t c.requires.run c.args.instance.now c.in_ok-k.k c.in_ok-k.ensures.place in
     let body = same_modules g p _ c.positions-body.result.now c.positions-body.ensures c.production.ensures.core in
     let kept = kept_of t _ _ _ _ c.self.invariant c.self.view_is in
-    let r = run_expanded g t c.requires kept c.in_ok-k.k (record { 0 = p }) c.args.names.now c.positions-body.result.now c.args.instance.now its.0 its.1 body next in
+    let r = run_expanded g t c.requires.run kept c.in_ok-k.k (record { 0 = p }) c.args.names.now c.positions-body.result.now c.args.instance.now its.0 its.1 body next in
     subst (IsTableOf g) (sym c.in_default.ensures.opened) r.1

@@ -4,7 +4,7 @@ use Rattle.wf_run.specs.Runs.{GoesOn}
 use Rattle.wf_run.proofs.OpenedNodes.{opened_goes_on}
 use Rattle.wf_run.proofs.NewNames.{none_twice, one_twice}
 use Rattle.wf_run.proofs.Extending.{next_run}
-use Rattle.wf_run.proofs.run.Run.expand.Goals as goal
+use Rattle.wf_run.proofs.run.Run.expand_found.Goals as goal
 
 pub returns-in-Err-clause-refused : goal.returns-in-Err-clause-refused
 returns-in-Err-clause-refused c =
