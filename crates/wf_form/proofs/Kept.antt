@@ -1,6 +1,6 @@
 -- What the rules say, part by part.
-use Rattle.wf_spec.proofs.NewNames.{new_differ}
-use Rattle.std.proofs.Common.{ℕ, zero, suc, ◌<◌, ◌≤◌, List, [], ◌∷◌, length, get_or, sym, subst, inl, inr, arith}
+use Rattle.wf_spec.proofs.NewNames.{differ_new, new_differ}
+use Rattle.std.proofs.Common.{ℕ, ◌<◌, ◌≤◌, List, length, sym, subst, arith}
 use Rattle.std.proofs.lemmas.List.{length-map}
 use Rattle.wf_model.specs.declared.parts.Parts.{Parts}
 use Rattle.wf_model.specs.declared.parts.ModulePart.{ModulePart}
@@ -8,11 +8,10 @@ use Rattle.wf_model.specs.declared.parts.ProdPart.{ProdPart}
 use Rattle.wf_model.specs.declared.parts.DepsPart.{DepsPart}
 use Rattle.wf_model.specs.Lists.{IsIn, IsAt, AllDiffer}
 use Rattle.wf_model.specs.Versions.{IsVersion}
-use Rattle.wf_model.proofs.Lists.{at_in, in_at, at_below, is_at}
+use Rattle.wf_model.proofs.Lists.{at_in, in_at, at_below}
 use Rattle.wf_form.specs.Forming.{modules_of, grammar_of, HaveVersions}
 use Rattle.wf_form.specs.Rules.{module_names, position_names, HasShortNames, HasShortPositions, HasDifferentPorts, HasFewPorts, HasKnownModules, squares, HasKnownPorts, IsLinkedAtMostOnce, IsLinkedAtLeastOnce, HasNoCycle, IsOfAtomic, version_rules, AreKept}
 use Rattle.wf_spec.specs.FirstFaults.{AllHold}
-use Rattle.wf_spec.specs.Naming.{IsNewAt}
 use Rattle.wf_spec.specs.Pairs.{HasKnownPairs}
 
 -- a rule at each place, and of each element
@@ -31,13 +30,6 @@ versions_give parts a = record {
 
 pub versions_keep : (parts : Parts) → HaveVersions parts → AllHold (version_rules parts)
 versions_keep parts h = ((λ k i. h.few), (each_from parts.versions (λ v. IsVersion (grammar_of parts) v.modules v.productions) h.each, tt))
-
-differ_new : (names : List (List ℕ)) → AllDiffer names → (k : ℕ) → k < length names → IsNewAt names k
-differ_new [] d k inside i = absurd (omega arith)
-differ_new (n ∷ names) d zero inside i = i
-differ_new (n ∷ names) d (suc k) inside (inl e) =
-    d.0 (subst (λ m. IsIn m names) e (at_in (get_or names k []) k names (is_at k names [] (omega arith))))
-differ_new (n ∷ names) d (suc k) inside (inr i) = differ_new names d.1 k (omega arith) i
 
 -- what the rules say of each production part
 pub record IsKeptPart (parts : Parts) (p : ProdPart) : Type 0 where

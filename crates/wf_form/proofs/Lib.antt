@@ -1,7 +1,6 @@
 pub mod Agreeing
 pub mod Assembling
 pub mod Bodies
-pub mod ByHead
 pub mod Counting
 pub mod Differing
 pub mod Ends
@@ -23,7 +22,6 @@ pub mod PairsOf
 pub mod Picking
 pub mod Placing
 pub mod Pushing
-pub mod Rows
 pub mod ShortNames
 pub mod Sided
 pub mod Sides

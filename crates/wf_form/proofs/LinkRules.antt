@@ -13,7 +13,7 @@ use Rattle.wf_form.specs.declared.fault.Spot.TheVariants.{Production as AtProduc
 use Rattle.wf_form.specs.declared.wiring.Wiring.{Wiring}
 use Rattle.wf_spec.specs.Naming.{names_of}
 use Rattle.wf_form.specs.Forming.{module_of, modules_of, head_in}
-use Rattle.wf_form.specs.Resolving.{HasFewPorts as HasFewPortsOf}
+use Rattle.wf_spec.specs.FewPorts.{HasFewPorts as HasFewPortsOf}
 use Rattle.wf_spec.specs.FirstFaults.{Rule, each, AllHold, FailsFirstAt, HoldsThroughout, IsFirstFault}
 use Rattle.wf_form.specs.Rules.{first_rules, body_rules, link_rules_of, module_names, HasDifferentPorts, HasFewPorts, HasKnownModules, HasKnownPorts, IsLinkedAtMostOnce, IsLinkedAtLeastOnce, HasNoCycle, IsOfAtomic}
 use Rattle.wf_spec.specs.Pairs.{HasKnownPairs}

@@ -9,7 +9,8 @@ use Rattle.wf_model.specs.Meaning.{position_of}
 use Rattle.wf_model.proofs.Lists.{in_map, in_map_from}
 use Rattle.wf_form.specs.Forming.{module_at_place, placed, position_in}
 use Rattle.wf_spec.specs.Naming.{module_in, names_of, place_of}
-use Rattle.wf_form.specs.Resolving.{AreOfModules, HasFewPorts, HaveFewPorts}
+use Rattle.wf_spec.specs.FewPorts.{HasFewPorts, HaveFewPorts}
+use Rattle.wf_form.specs.Resolving.{AreOfModules}
 use Rattle.std.specs.Prelude.{position}
 use Rattle.wf_spec.proofs.Finding.{absent_in, present_in}
 use Rattle.wf_spec.proofs.Tables.{get_in}

@@ -13,7 +13,8 @@ use Rattle.wf_form.specs.Bodies.{inputs_in, outputs_in}
 use Rattle.wf_form.specs.Ends.{IsPortOf, HaveFew}
 use Rattle.wf_spec.specs.Naming.{module_in}
 use Rattle.wf_form.specs.Forming.{module_at_place}
-use Rattle.wf_form.specs.Resolving.{HaveFewPorts, AreOfModules, IsInputIn, IsOutputIn}
+use Rattle.wf_spec.specs.FewPorts.{HaveFewPorts}
+use Rattle.wf_form.specs.Resolving.{AreOfModules, IsInputIn, IsOutputIn}
 use Rattle.wf_form.specs.Wiring.{AreSmall, IsSmall, IsWithin, body_of, head_of, fed_by, used_by, entered_by, left_by}
 use Rattle.wf_form.specs.declared.wiring.Wiring.{Wiring}
 use Rattle.wf_form.proofs.Bodies.{few_of}

@@ -1,5 +1,5 @@
 -- Whether numbers of modules and productions are an earlier version of a grammar can be decided.
-use Rattle.std.proofs.Common.{◌≡◌, ℕ, ◌<◌, ◌≤◌, true, List, length, take, inl, inr}
+use Rattle.std.proofs.Common.{◌≡◌, ℕ, ◌<◌, ◌≤◌, true, length, take, inl, inr}
 use Rattle.std.specs.List.{list_all}
 use Rattle.wf_model.specs.Grammar.{Grammar}
 use Rattle.wf_model.specs.Versions.{IsVersion}

@@ -1,5 +1,5 @@
 -- The rules on versions, as they are tried over the grammar of parts, and the versions as they are held.
-use Rattle.std.proofs.Common.{◌≡◌, ℕ, ◌<◌, ◌≤◌, List, [], map, length, refl, sym, ap, ◌∙◌, subst, inl, inr, arith}
+use Rattle.std.proofs.Common.{◌≡◌, ℕ, ◌<◌, ◌≤◌, List, map, length, refl, sym, ap, ◌∙◌, subst, inl, inr, arith}
 use Rattle.std.proofs.lemmas.List.{length-map}
 use Rattle.wf_model.specs.declared.parts.Parts.{Parts}
 use Rattle.wf_model.specs.declared.parts.VersionPart.{VersionPart}
@@ -15,10 +15,6 @@ use Rattle.wf_form.specs.declared.fault.FormFault.TheVariants.{TooManyVersions, 
 use Rattle.wf_form.specs.Forming.{grammar_of, held_of, version_in, HaveVersions}
 use Rattle.wf_form.specs.Rules.{version_rules, AreKept}
 use Rattle.wf_form.proofs.Faults.{form}
-
--- no versions are versions of any grammar
-pub no_versions : (g : Grammar) (list : List Version) → list ≡ [] → AreVersionsOf g list
-no_versions g list e = subst (AreVersionsOf g) (sym e) (record { few = omega arith; each = λ v i. absurd i })
 
 module _ (parts : Parts) (g : Grammar) (versions : List VersionPart) (is : g ≡ grammar_of parts) (are : versions ≡ parts.versions) where
   -- more than 64 versions

@@ -3,8 +3,6 @@ use Rattle.std.specs.Prelude.{◌≡◌, ℕ, ◌<◌, List, map, length, get_or
 use Rattle.wf_model.specs.Lists.{IsIn, IsAt, AllDiffer}
 use Rattle.wf_model.specs.Grammar.{Module, Inner, Production}
 use Rattle.wf_model.specs.Meaning.{position_of, inner_of, edge_of}
-use Rattle.wf_spec.specs.Held.{HeldProduction}
-use Rattle.wf_spec.specs.Tables.{places, AreByHead}
 use Rattle.wf_form.specs.declared.wiring.Exit.{Exit}
 use Rattle.wf_form.specs.declared.wiring.Wiring.{Wiring}
 use Rattle.wf_form.specs.Wiring.{entry_of, head_of, entered_by, left_by}
@@ -42,9 +40,3 @@ pub record IsRuleOf (modules : List Module) (w : Wiring) (r : Production) : Type
 pub record AreRulesOf (modules : List Module) (wirings : List Wiring) (rules : List Production) : Type 0 where
   pub as_many : length rules ≡ length wirings
   pub each : (k : ℕ) (w : Wiring) (r : Production) → IsAt w k wirings → IsAt r k rules → IsRuleOf modules w r
-
--- productions as they are held are these, each with its place in the list of those that have its head
-pub record AreListed (modules : ℕ) (rules : List Production) (productions : List HeldProduction) (lists : List (List ℕ)) : Type 0 where
-  pub cores : map (λ (p : HeldProduction). p.core) productions ≡ rules
-  pub by_head : AreByHead modules rules (length rules) lists
-  pub places : map (λ (p : HeldProduction). p.alternative) productions ≡ places rules (length rules)

@@ -4,6 +4,5 @@ pub mod Ends
 pub mod Forming
 pub mod Graphs
 pub mod Resolving
-pub mod Rows
 pub mod Rules
 pub mod Wiring

@@ -1,17 +1,9 @@
 -- What each part needs so that its names are found.
-use Rattle.std.specs.Prelude.{◌<◌, ◌≤◌, List, length}
+use Rattle.std.specs.Prelude.{◌<◌, List, length}
 use Rattle.wf_model.specs.declared.parts.EdgePart.{EdgePart}
 use Rattle.wf_model.specs.Lists.{IsIn}
 use Rattle.wf_model.specs.Grammar.{Module, Position, Inner}
 use Rattle.wf_form.specs.Forming.{module_at_place, inner_input, inner_output}
-
--- at most 64 ports on each side
-pub record HasFewPorts (m : Module) : Type 0 where
-  pub inputs : length m.inputs ≤ 64
-  pub outputs : length m.outputs ≤ 64
-
-abbrev pub HaveFewPorts : List Module → Type 0
-HaveFewPorts modules = (m : Module) → IsIn m modules → HasFewPorts m
 
 -- every position has a module of the list
 abbrev pub AreOfModules : List Module → List Position → Type 0

@@ -16,7 +16,8 @@ use Rattle.wf_form.specs.declared.fault.FormFault.TheVariants.{PortLinkedTwice, 
 use Rattle.wf_spec.specs.Naming.{place_of, names_of, module_in}
 use Rattle.wf_form.specs.Forming.{body_in, head_in, inner_input, inner_output, edge_in}
 use Rattle.wf_form.specs.Graphs.{IsAcyclic}
-use Rattle.wf_form.specs.Resolving.{AreOfModules, HaveFewPorts, IsInputIn, IsOutputIn}
+use Rattle.wf_spec.specs.FewPorts.{HaveFewPorts}
+use Rattle.wf_form.specs.Resolving.{AreOfModules, IsInputIn, IsOutputIn}
 use Rattle.wf_spec.specs.FirstFaults.{Rule, each}
 use Rattle.wf_form.specs.Rules.{HasKnownModules}
 

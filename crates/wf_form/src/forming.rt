@@ -22,7 +22,7 @@ fn built(alloc: Global, key: u64, parts: &Parts) -> Result<Grammar, FormFault>
     check_bodies(alloc, &names, parts)?;
     let modules = modules_from(alloc, parts.modules.items())?;
     let wirings = wired(alloc, key, &names, &modules, parts)?;
-    let grammar = assemble(alloc, parts, names, modules, wirings)?;
+    let grammar = assemble(alloc, key, parts, &names, modules, wirings)?;
     versioned(alloc, parts, grammar)
 }
 

@@ -4,7 +4,7 @@ ghost use Rattle.wf_model.specs.Lists.{IsIn};
 ghost use Rattle.wf_model.specs.Meaning.{position_of};
 ghost use Rattle.wf_spec.specs.Naming.{names_of, place_of};
 ghost use Rattle.wf_form.specs.Forming.{placed};
-ghost use Rattle.wf_form.specs.Resolving.{HaveFewPorts};
+ghost use Rattle.wf_spec.specs.FewPorts.{HaveFewPorts};
 ghost use Rattle.wf_form.specs.Rules.{HasKnownModules, HasKnownPorts};
 ghost use Rattle.wf_spec.specs.FirstFaults.{HoldsThroughout, IsFirstFault, each};
 ghost use Rattle.wf_form.specs.Wiring.{IsWiringOf, AreWiringsOf};

@@ -1,10 +1,13 @@
+pub mod ByHead
 pub mod FewPorts
 pub mod Finding
 pub mod FirstFaults
+pub mod GivenRows
 pub mod Graphs
 pub mod Heads
 pub mod Listing
 pub mod NewNames
+pub mod OfLists
 pub mod Once
 pub mod Pairs
 pub mod PairsOf

@@ -1,7 +1,7 @@
 -- Names that are none of those before them.
-use Rattle.wf_model.proofs.Lists.{in_at, at_below, at_is, among_gives, among_not}
+use Rattle.wf_model.proofs.Lists.{in_at, at_below, at_in, at_is, is_at, among_gives, among_none, among_not}
 use Rattle.wf_model.specs.Lists.{AllDiffer, IsIn}
-use Rattle.std.proofs.Common.{arith, inl, inr, suc, ◌≡◌, ℕ, ◌+◌, ◌<◌, false, true, List, [], ◌∷◌, ◌++◌, map, take, length, get_or, sym, ap, subst, ◌∙◌, below_more}
+use Rattle.std.proofs.Common.{arith, inl, inr, zero, suc, ◌≡◌, ℕ, ◌+◌, ◌<◌, false, true, List, [], ◌∷◌, ◌++◌, map, take, length, get_or, sym, ap, subst, ◌∙◌, below_more}
 use Rattle.std.proofs.lemmas.List.{take-map, get_or-map, map_more}
 use Rattle.wf_model.specs.Faults.{is_one_of}
 use Rattle.wf_spec.specs.Naming.{IsNewAt}
@@ -11,12 +11,19 @@ module _ {A : Type 0} (f : A → List ℕ) (xs : List A) (k : ℕ) (x : A) (was 
   name_at : get_or (map f xs) k [] ≡ f x
   name_at = get_or-map f xs k x [] inside ∙ ap f (sym was)
 
-  -- a name that a table of those before it holds is not new
-  pub not_new : (taken : List (List ℕ)) (name : List ℕ) → taken ≡ map f (take k xs) → name ≡ f x → is_one_of taken name ≡ true → ¬ IsNewAt (map f xs) k
-  not_new taken name is same held new =
-      new (subst (λ n. IsIn n (take k (map f xs))) (same ∙ sym name_at) (subst (IsIn name) (is ∙ sym (take-map f k xs)) (among_gives name taken held)))
+  -- a name that is one of those before it is not new
+  not_there : (taken : List (List ℕ)) (name : List ℕ) → taken ≡ map f (take k xs) → name ≡ f x → IsIn name taken → ¬ IsNewAt (map f xs) k
+  not_there taken name is same here new = new (subst (λ n. IsIn n (take k (map f xs))) (same ∙ sym name_at) (subst (IsIn name) (is ∙ sym (take-map f k xs)) here))
 
-  -- and one that it does not hold is
+  -- so a name that a table of those before it holds is not new
+  pub not_new : (taken : List (List ℕ)) (name : List ℕ) → taken ≡ map f (take k xs) → name ≡ f x → is_one_of taken name ≡ true → ¬ IsNewAt (map f xs) k
+  not_new taken name is same held = not_there taken name is same (among_gives name taken held)
+
+  -- and a new name is none of such a table
+  pub not_held : (taken : List (List ℕ)) (name : List ℕ) → taken ≡ map f (take k xs) → name ≡ f x → IsNewAt (map f xs) k → is_one_of taken name ≡ false
+  not_held taken name is same new = among_none name taken (λ here. not_there taken name is same here new)
+
+  -- a name that it does not hold is new
   pub is_new : (taken : List (List ℕ)) (name : List ℕ) → taken ≡ map f (take k xs) → name ≡ f x → is_one_of taken name ≡ false → IsNewAt (map f xs) k
   is_new taken name is same absent here =
       among_not name taken absent (subst (IsIn name) (take-map f k xs ∙ sym is) (subst (λ n. IsIn n (take k (map f xs))) (name_at ∙ sym same) here))
@@ -44,3 +51,11 @@ new_differ (n ∷ names) h = (
       h (suc r.0) inside (inl (at_is n r.0 names [] r.1)),
   new_differ names (λ k inside i. h (suc k) (omega arith) (inr i)),
 )
+
+-- and names that differ are new at each place
+pub differ_new : (names : List (List ℕ)) → AllDiffer names → (k : ℕ) → k < length names → IsNewAt names k
+differ_new [] d k inside i = absurd (omega arith)
+differ_new (n ∷ names) d zero inside i = i
+differ_new (n ∷ names) d (suc k) inside (inl e) =
+    d.0 (subst (λ m. IsIn m names) e (at_in (get_or names k []) k names (is_at k names [] (omega arith))))
+differ_new (n ∷ names) d (suc k) inside (inr i) = differ_new names d.1 k (omega arith) i

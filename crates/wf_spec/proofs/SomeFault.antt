@@ -1,5 +1,5 @@
 -- Rules of which it is told at each place whether they hold: all hold, or one has the first fault.
-use Rattle.std.proofs.Common.{◌≡◌, ◌⊎◌, ℕ, zero, suc, ◌<◌, List, [], ◌∷◌, length, get_or, take, refl, sym, subst, inl, inr, ⊎_elim}
+use Rattle.std.proofs.Common.{◌⊎◌, ℕ, zero, suc, ◌<◌, List, [], ◌∷◌, get_or, take, refl, sym, subst, inl, inr, ⊎_elim}
 use Rattle.wf_model.specs.Lists.{IsIn, IsAt}
 use Rattle.wf_model.proofs.Deciding.{Either, either_not, bytes_either, in_either, all_or_first}
 use Rattle.wf_spec.specs.Naming.{IsNewAt}

@@ -20,11 +20,10 @@ pub record AreVersionsOf (g : Grammar) (versions : List Version) : Type 0 where
   pub few : length versions ≤ 64
   pub each : (v : Version) → IsIn v versions → IsVersion g v.modules v.productions
 
+-- the grammar of these lists
+abbrev pub grammar_of_lists : ℕ → List Module → List Production → List Given → Grammar
+grammar_of_lists start modules productions given = record { start = start; modules = modules; productions = productions; given = given }
+
 -- the grammar of its lists, as they are held
 abbrev pub core_of : ℕ → List Module → List HeldProduction → List Given → Grammar
-core_of start modules productions given = record {
-  start = start;
-  modules = modules;
-  productions = map (λ p. p.core) productions;
-  given = given;
-}
+core_of start modules productions given = grammar_of_lists start modules (map (λ p. p.core) productions) given

@@ -1,5 +1,7 @@
 pub mod Bodies
+pub mod FewPorts
 pub mod FirstFaults
+pub mod GivenRows
 pub mod Held
 pub mod Naming
 pub mod Pairs

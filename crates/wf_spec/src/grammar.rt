@@ -1,16 +1,21 @@
 // Workflow grammars.
-ghost use Rattle.std.specs.Prelude.{◌≡◌, ◌<◌, ◌≤◌, ◌↔◌, [], map, length, option_map, position, bytes_eq, IfSome, IsTrue};
+ghost use Rattle.std.specs.Prelude.{◌≡◌, ◌<◌, ◌≤◌, ◌↔◌, [], map, length, option_map, position, bytes_eq, IfOk, IfSome, IsTrue};
 ghost use Rattle.wf_model.specs.Composite.{is_composite};
 ghost use Rattle.wf_model.specs.Grammar.{IsAtomic, IsComposite, alternative_of, inputs_of, outputs_of, production_at};
 ghost use Rattle.wf_model.specs.Lists.{numbers_from};
 ghost use Rattle.wf_model.specs.WellFormed.{IsWellFormed};
-ghost use Rattle.wf_spec.specs.Held.{core_of, AreVersionsOf};
-ghost use Rattle.wf_spec.specs.Tables.{AreRowsOf, IsKept, numbers_in, productions_of};
+ghost use Rattle.wf_spec.specs.Held.{grammar_of_lists, AreVersionsOf};
+ghost use Rattle.wf_spec.specs.Tables.{AreRowsOf, productions_of};
 
 use crate::given::Given;
+use crate::lists::heads::{ByHead, by_head, numbered};
+use crate::lists::names::name_table;
+use crate::lists::rows::rows_from;
 use crate::module::Module;
 use crate::production::Production;
+use crate::rule::Rule;
 use crate::version::Version;
+use std::alloc::{AllocError, Global};
 use std::marker::Model;
 use wf_model::{ModNo, ProdNo, Seq};
 use wf_names::Names;
@@ -42,32 +47,37 @@ impl Model for Grammar {
 }
 
 impl Grammar {
-    /// A grammar of its lists and its tables: the names of its modules, the productions of each, the rows of pairs, and its earlier versions.
-    pub fn of_tables(
+    /// The grammar of these lists, with no earlier versions. Fails only for want of memory.
+    ///
+    /// The grammar hashes the names of its modules with the key.
+    ///
+    /// Cost: for each module one look-up by hashing and one copy of its name; linear in the inputs of the modules, in the rules and in the pairs that are given, with 8 bytes for each input.
+    pub fn of_lists(
+        alloc: Global,
+        key: u64,
         start: ModNo,
-        modules: Seq<Module>,
-        productions: Seq<Production>,
-        given: Seq<Given>,
-        names: Names,
-        by_head: Vec<Vec<ProdNo>>,
-        rows: Vec<Vec<u64>>,
-        versions: Seq<Version>,
-    ) -> Grammar
-        requires kept { IsKept (core_of start.0 modules productions given) names (numbers_in by_head.items) (map (λ v. v.items) rows.items) (map (λ p. p.alternative) productions) }
-        requires versions { AreVersionsOf (core_of start.0 modules productions given) versions }
-        ensures core { result.core ≡ core_of start.0 modules productions given }
-        ensures versions { result.versions ≡ versions }
+        modules: Vec<Module>,
+        rules: Vec<Rule>,
+        given: Vec<Given>,
+    ) -> Result<Grammar, AllocError>
+        requires { IsWellFormed (grammar_of_lists start.0 modules.items rules.items given.items) }
+        ensures core { IfOk result (λ g. g.core ≡ grammar_of_lists start.0 modules.items rules.items given.items) }
+        ensures versions { IfOk result (λ g. g.versions ≡ []) }
     {
-        Grammar {
+        let names = name_table(alloc, key, &modules)?;
+        let rows = rows_from(alloc, &modules, &given)?;
+        let ByHead { lists, places } = by_head(alloc, modules.len(), &rules)?;
+        let productions = numbered(alloc, rules, &places)?;
+        Ok(Grammar {
             start,
-            modules,
-            productions,
-            given,
+            modules: Seq::from_vec(modules),
+            productions: Seq::from_vec(productions),
+            given: Seq::from_vec(given),
             names,
-            by_head,
+            by_head: lists,
             rows,
-            versions,
-        }
+            versions: Seq::from_vec(Vec::new(alloc)),
+        })
     }
 
     /// The grammar with these earlier versions, in place of its own.

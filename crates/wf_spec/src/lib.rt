@@ -4,6 +4,7 @@
 mod deps;
 mod given;
 mod grammar;
+mod lists;
 mod making;
 mod module;
 mod production;

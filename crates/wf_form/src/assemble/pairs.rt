@@ -3,9 +3,9 @@ ghost use Rattle.std.specs.Prelude.{◌≡◌, ◌≤◌, IfOk, length, map};
 ghost use Rattle.wf_model.specs.Lists.{IsIn};
 ghost use Rattle.wf_form.specs.Forming.{given_in};
 ghost use Rattle.wf_spec.specs.Naming.{names_of, place_of};
-ghost use Rattle.wf_form.specs.Resolving.{HasFewPorts, HaveFewPorts};
+ghost use Rattle.wf_spec.specs.FewPorts.{HasFewPorts, HaveFewPorts};
 ghost use Rattle.wf_spec.specs.Pairs.{pair_in, HasKnownPairs};
-ghost use Rattle.wf_form.specs.Rows.{pair_of};
+ghost use Rattle.wf_spec.specs.GivenRows.{pair_of};
 
 use crate::links::places::port_number;
 use crate::wiring::module_number;

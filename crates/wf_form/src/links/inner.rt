@@ -2,7 +2,8 @@
 ghost use Rattle.std.specs.Prelude.{◌≡◌, ◌<◌, ◌≤◌, map, length, MatchOption};
 ghost use Rattle.wf_model.specs.Meaning.{position_of, inner_of};
 ghost use Rattle.wf_form.specs.Forming.{position_in, module_at_place, inner_input as input_seen, inner_output as output_seen};
-ghost use Rattle.wf_form.specs.Resolving.{HasFewPorts, HaveFewPorts, AreOfModules, IsInputIn, IsOutputIn};
+ghost use Rattle.wf_spec.specs.FewPorts.{HasFewPorts, HaveFewPorts};
+ghost use Rattle.wf_form.specs.Resolving.{AreOfModules, IsInputIn, IsOutputIn};
 
 use crate::links::places::{port_place, position_place};
 use wf_model::{Inner, PortNo, PortPart, PosNo, Position};

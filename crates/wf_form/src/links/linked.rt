@@ -2,7 +2,8 @@
 ghost use Rattle.std.specs.Prelude.{◌≡◌, ◌<◌, ◌↔◌, ℕ, length, IfOk, IsTrue};
 ghost use Rattle.wf_model.specs.Lists.{IsIn, AllDiffer};
 ghost use Rattle.wf_model.specs.Grammar.{Inner as InnerSeen};
-ghost use Rattle.wf_form.specs.Resolving.{HasFewPorts, HaveFewPorts, IsInputIn, IsOutputIn};
+ghost use Rattle.wf_spec.specs.FewPorts.{HasFewPorts, HaveFewPorts};
+ghost use Rattle.wf_form.specs.Resolving.{IsInputIn, IsOutputIn};
 ghost use Rattle.wf_form.specs.Wiring.{fed_by, used_by, entered_by, left_by, body_of, IsSmall, IsWithin, IsWiredAtMostOnce, IsWiredAtLeastOnce};
 
 use crate::links::counts::{input_counts, output_counts};

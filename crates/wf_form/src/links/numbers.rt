@@ -3,7 +3,8 @@ ghost use Rattle.std.specs.Prelude.{◌≡◌, ◌<◌, ◌≤◌, map, length, 
 ghost use Rattle.wf_model.specs.Lists.{IsIn};
 ghost use Rattle.wf_model.specs.Meaning.{position_of, edge_of};
 ghost use Rattle.wf_form.specs.Forming.{edge_in};
-ghost use Rattle.wf_form.specs.Resolving.{HasFewPorts, HaveFewPorts, AreOfModules, IsEdgeIn};
+ghost use Rattle.wf_spec.specs.FewPorts.{HasFewPorts, HaveFewPorts};
+ghost use Rattle.wf_form.specs.Resolving.{AreOfModules, IsEdgeIn};
 ghost use Rattle.wf_form.specs.Wiring.{entry_of, exit_of, entry_link, exit_link, IsEntryIn, IsExitIn};
 
 use crate::links::inner::{inner_input, inner_output};

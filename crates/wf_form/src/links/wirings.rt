@@ -1,7 +1,7 @@
 // The rules on the links of all productions.
 ghost use Rattle.std.specs.Prelude.{◌≡◌, ◌⊎◌, IfOk, IfErr, OnOk};
 ghost use Rattle.wf_model.specs.Lists.{IsIn};
-ghost use Rattle.wf_form.specs.Resolving.{HaveFewPorts};
+ghost use Rattle.wf_spec.specs.FewPorts.{HaveFewPorts};
 ghost use Rattle.wf_spec.specs.FirstFaults.{each, AllHold, IsFirstFailing, IsFirstFault};
 ghost use Rattle.wf_form.specs.Wiring.{wiring_rules, IsSmall, IsWithin, IsWiredAtMostOnce, IsWiredAtLeastOnce, IsWiredForward};
 ghost use Rattle.wf_form.specs.declared.fault.FormFault.TheVariants.{NoMemory, PortLinkedTwice, PortUnlinked, BodyCycle};

@@ -1,36 +1,55 @@
-use Rattle.std.proofs.Common.{◌∙◌, subst, sym, map}
+use Rattle.std.proofs.Common.{◌≡◌, ◌∙◌, ap, map, refl, subst, sym, IfOk}
 use Rattle.wf_model.specs.Lists.{IsIn}
-use Rattle.wf_spec.specs.Held.{core_of}
-use Rattle.wf_spec.specs.Tables.{numbers_in}
-use Rattle.wf_form.specs.Rows.{table_of}
-use Rattle.wf_form.proofs.VersionRules.{no_versions}
-use Rattle.wf_form.proofs.Whole.{AreMade, AreReady, ready, made, whole, whole_kept}
+use Rattle.wf_spec.specs.FewPorts.{HaveFewPorts}
+use Rattle.wf_spec.specs.Held.{grammar_of_lists}
+use Rattle.wf_spec.specs.Naming.{place_of}
+use Rattle.wf_spec.specs.Pairs.{HasKnownPairs}
+use Rattle.wf_form.specs.Assembling.{IsSound}
+use Rattle.wf_form.specs.Forming.{given_in}
+use Rattle.wf_form.proofs.Kept.{kept_gives}
+use Rattle.wf_form.proofs.Whole.{AreMade, AreReady, ready, whole, whole_formed}
+use Rattle.wf_form.proofs.Wired.{wirings_sound, rules_read}
 use Rattle.wf_form.proofs.assemble.assemble.Goals as goal
-use Rattle.wf_form.proofs.assemble.assemble.Goals.{Start, After-from_vec-3}
+use Rattle.wf_form.proofs.assemble.assemble.Goals.{Start, In_ok-rules}
 
-the_ready : (c : Start) → AreReady c.args.parts.now c.args.modules.items c.args.names
-the_ready c = ready c.args.parts.now c.args.modules.items c.args.names c.requires.kept c.requires.modules c.requires.names
+the_ready : (c : Start) → AreReady c.args.parts.now c.args.modules.items c.args.names.now
+the_ready c = ready c.args.parts.now c.args.modules.items c.args.names.now c.requires.kept c.requires.modules c.requires.names
 
 pub module_number-start-requires-clause-few : goal.module_number-start-requires-clause-few
 module_number-start-requires-clause-few c = (the_ready (goal.at.module_number-start-requires-clause-few c).Start).few_names
 
 pub module_number-start-requires-clause-known : goal.module_number-start-requires-clause-known
 module_number-start-requires-clause-known c =
-    subst (λ n. IsIn n c.args.names) (sym c.bytes.ensures) (the_ready (goal.at.module_number-start-requires-clause-known c).Start).start
+    subst (λ n. IsIn n c.args.names.now) (sym c.bytes.ensures) (the_ready (goal.at.module_number-start-requires-clause-known c).Start).start
 
-the_grammar : (c : After-from_vec-3) → AreMade c.args.parts.now (core_of c.module_number-start.result.0 c.from_vec.result c.from_vec-2.result c.from_vec-3.result) c.args.names (numbers_in c.in_ok-productions.field-0.lists.items)
-    (table_of c.in_ok-given.field-0.rows.items) (map (λ p. p.alternative) c.from_vec-2.result)
-the_grammar c =
-    made c.args.parts.now c.args.modules.items c.from_vec.result c.deref.result.now c.deref-2.result.now c.args.names c.module_number-start.result.0 c.bytes.result.now
-    c.in_ok-given.field-0.given.items c.from_vec-3.result c.in_ok-productions.field-0.productions.items c.from_vec-2.result (numbers_in c.in_ok-productions.field-0.lists.items) (table_of c.in_ok-given.field-0.rows.items)
-    c.requires.modules c.requires.names c.from_vec.ensures c.deref.ensures.value c.deref-2.ensures.value c.bytes.ensures c.module_number-start.ensures.place
-    c.in_ok-given.ensures.given c.from_vec-3.ensures c.in_ok-given.ensures.rows c.in_ok-productions.ensures c.from_vec-2.ensures
+pub given_from-requires-clause-few_ports : goal.given_from-requires-clause-few_ports
+given_from-requires-clause-few_ports c = subst HaveFewPorts (sym c.deref.ensures.value) (the_ready (goal.at.given_from-requires-clause-few_ports c).Start).few_ports
 
-pub of_tables-requires-clause-kept : goal.of_tables-requires-clause-kept
-of_tables-requires-clause-kept c = whole_kept c.args.parts.now _ c.args.names _ _ _ c.requires.kept (the_grammar (goal.at.of_tables-requires-clause-kept c).After-from_vec-3)
+pub given_from-requires-clause-known : goal.given_from-requires-clause-known
+given_from-requires-clause-known c = λ d h. (the_ready (goal.at.given_from-requires-clause-known c).Start).deps d (subst (IsIn d) c.items.ensures h)
 
-pub of_tables-requires-clause-versions : goal.of_tables-requires-clause-versions
-of_tables-requires-clause-versions c = no_versions _ c.from_vec-4.result (c.from_vec-4.ensures ∙ c.new.ensures.items)
+pub given_from-requires-clause-pairs : goal.given_from-requires-clause-pairs
+given_from-requires-clause-pairs c = λ d h.
+    subst (λ ms. HasKnownPairs ms d) (sym c.deref.ensures.value) ((the_ready (goal.at.given_from-requires-clause-pairs c).Start).pairs d (subst (IsIn d) c.items.ensures h))
+
+pub rules_from-requires : goal.rules_from-requires
+rules_from-requires c = λ w h.
+    subst (λ ms. IsSound ms w) (sym c.deref-2.ensures.value)
+    (wirings_sound c.args.parts.now c.args.modules.items c.args.wirings.items c.requires.modules (kept_gives c.args.parts.now c.requires.kept) c.requires.wirings w h)
+
+the_lists : (c : In_ok-rules) → AreMade c.args.parts.now c.args.names.now (grammar_of_lists c.module_number-start.result.0 c.args.modules.items c.in_ok-rules.rules.items c.in_ok-given.given.items)
+the_lists c = record {
+  modules = c.requires.modules;
+  names_are = c.requires.names;
+  start = c.module_number-start.ensures.place ∙ ap (place_of c.args.names.now) c.bytes.ensures;
+  productions = rules_read c.args.parts.now c.args.modules.items c.deref-2.result.now c.args.wirings.items c.in_ok-rules.rules.items c.in_ok-rules.rules.items c.requires.kept c.requires.modules c.requires.wirings
+      c.deref-2.ensures.value c.in_ok-rules.ensures refl;
+  given = c.in_ok-given.ensures ∙ (ap (map (given_in c.deref.result.now)) c.items.ensures ∙ ap (λ ms. map (given_in ms) c.args.parts.now.deps) c.deref.ensures.value);
+}
+
+pub of_lists-requires : goal.of_lists-requires
+of_lists-requires c = whole_formed c.args.parts.now c.args.names.now _ c.requires.kept (the_lists (goal.at.of_lists-requires c).In_ok-rules)
 
 pub returns : goal.returns
-returns c = c.of_tables.ensures.core ∙ whole c.args.parts.now _ c.args.names _ _ _ c.requires.kept (the_grammar (goal.at.returns c).After-from_vec-3)
+returns c =
+    subst (λ x. IfOk c.of_lists.result (λ g. g.core ≡ x)) (whole c.args.parts.now c.args.names.now _ (the_lists (goal.at.returns c).In_ok-rules)) c.of_lists.ensures.core

@@ -5,7 +5,8 @@ use Rattle.wf_model.specs.Lists.{IsIn}
 use Rattle.wf_model.specs.Meaning.{position_of}
 use Rattle.wf_spec.specs.Naming.{names_of, place_of}
 use Rattle.wf_form.specs.Forming.{body_in, head_in, placed}
-use Rattle.wf_form.specs.Resolving.{AreOfModules, HasFewPorts}
+use Rattle.wf_spec.specs.FewPorts.{HasFewPorts}
+use Rattle.wf_form.specs.Resolving.{AreOfModules}
 use Rattle.wf_form.proofs.Fitting.{made_body, read_head}
 use Rattle.wf_form.proofs.Placing.{few_there}
 use Rattle.wf_form.proofs.Numbering.{within_modules, modules_known, edges_known, entries_known, exits_known, ports_known, wiring_made}

@@ -1,5 +1,5 @@
 use Rattle.wf_spec.specs.Pairs.{pair_in}
-use Rattle.wf_form.specs.Rows.{pair_of}
+use Rattle.wf_spec.specs.GivenRows.{pair_of}
 use Rattle.wf_spec.proofs.Listing.{made_more, read_in}
 use Rattle.wf_form.proofs.assemble.pairs.pairs_from.Goals as goal
 

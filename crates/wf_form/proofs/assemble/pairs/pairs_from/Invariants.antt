@@ -1,6 +1,6 @@
 use Rattle.std.proofs.Common.{◌≡◌, map, take}
 use Rattle.wf_spec.specs.Pairs.{pair_in}
-use Rattle.wf_form.specs.Rows.{pair_of}
+use Rattle.wf_spec.specs.GivenRows.{pair_of}
 use Rattle.wf_form.proofs.assemble.pairs.pairs_from.Given as goal
 
 abbrev pub invariant-loop-part : goal.invariant-loop-part

@@ -1,8 +1,0 @@
-use Rattle.std.proofs.Common.{◌≡◌, map, take, length}
-use Rattle.wf_form.proofs.assemble.heads.numbered.Given as goal
-
-abbrev pub invariant-loop-rule : goal.invariant-loop-rule
-invariant-loop-rule l = record {
-  cores : map (λ p. p.core) l.list.items ≡ l.yielded;
-  alternatives : map (λ p. p.alternative) l.list.items ≡ take (length l.yielded) l.places;
-}
