@@ -43,7 +43,7 @@ module _ (g : Grammar) (parts : ViewParts) (formed : IsWellFormed g) (viewed : I
   one_part d e i j = same_element (λ (p : DepsPart). p.«module») parts.deps (new_differ (deps_names parts.deps) viewed.1.1.1.1.1.1.0) e d j i
 
   -- it expands composite modules
-  expanded_composite : (m : ℕ) → m < length g.modules → is_expanded g parts m ≡ true → is_composite g m ≡ true
+  pub expanded_composite : (m : ℕ) → m < length g.modules → is_expanded g parts m ≡ true → is_composite g m ≡ true
   expanded_composite m below h = by parts.expand composite_names h
     where
       by : (names : Option (List (List ℕ))) → ((n : List ℕ) → IsIn n (listed names) → IsCompositeName g n) → is_among g names m ≡ true → is_composite g m ≡ true

@@ -1,5 +1,6 @@
 pub mod Again
 pub mod Described
+pub mod FitRows
 pub mod Flagged
 pub mod Heading
 pub mod Holding

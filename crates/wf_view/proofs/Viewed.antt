@@ -37,22 +37,26 @@ expands_is g parts m below = one_truth (expands (view_of g parts) m) (is_expande
 abbrev pub is_it : ℕ → ℕ → ℕ × ℕ → Bool
 is_it i o e = (e.0 == i) && (e.1 == o)
 
-module _ (g : Grammar) (m : ℕ) (test : ℕ → ℕ → Bool) where
-  abbrev row : ℕ → List (ℕ × ℕ)
-  row i = flat_map (λ o. cond (test i o) ((i, o) ∷ []) []) (numbers_from 0 (outputs_of g m))
+-- the pairs of numbers below two that pass a test
+abbrev pub passing : ℕ → ℕ → (ℕ → ℕ → Bool) → List (ℕ × ℕ)
+passing inputs outputs test = flat_map (λ i. flat_map (λ o. cond (test i o) ((i, o) ∷ []) []) (numbers_from 0 outputs)) (numbers_from 0 inputs)
 
-  -- a pair of a module that is in the list passes the test
-  pub in_pairs : (i o : ℕ) → some (is_it i o) (pairs_by g m test) ≡ true → (i < inputs_of g m) × ((o < outputs_of g m) × (test i o ≡ true))
-  in_pairs i o h =
-      let r = some_gives (is_it i o) (pairs_by g m test) h in
+module _ (inputs outputs : ℕ) (test : ℕ → ℕ → Bool) where
+  abbrev row : ℕ → List (ℕ × ℕ)
+  row i = flat_map (λ o. cond (test i o) ((i, o) ∷ []) []) (numbers_from 0 outputs)
+
+  -- a pair that is in the list is below them and passes the test
+  pub in_passing : (i o : ℕ) → some (is_it i o) (passing inputs outputs test) ≡ true → (i < inputs) × ((o < outputs) × (test i o ≡ true))
+  in_passing i o h =
+      let r = some_gives (is_it i o) (passing inputs outputs test) h in
       let both = and_parts (r.0.0 == i) (r.0.1 == o) r.2 in
-      let a = in_flat_map_from row r.0 (numbers_from 0 (inputs_of g m)) r.1 in
-      let b = in_flat_map_from (λ k. cond (test a.0 k) ((a.0, k) ∷ []) []) r.0 (numbers_from 0 (outputs_of g m)) a.2 in
+      let a = in_flat_map_from row r.0 (numbers_from 0 inputs) r.1 in
+      let b = in_flat_map_from (λ k. cond (test a.0 k) ((a.0, k) ∷ []) []) r.0 (numbers_from 0 outputs) a.2 in
       let c = one a.0 b.0 r.0 (test a.0 b.0) refl b.2 in
       let ei : a.0 ≡ i = sym (ap (λ (e : ℕ × ℕ). e.0) c.1) ∙ eqb-true r.0.0 i both.0 in
       let eo : b.0 ≡ o = sym (ap (λ (e : ℕ × ℕ). e.1) c.1) ∙ eqb-true r.0.1 o both.1 in (
-        subst (λ k. k < inputs_of g m) ei (below_all a.0 (inputs_of g m) a.1),
-        (subst (λ k. k < outputs_of g m) eo (below_all b.0 (outputs_of g m) b.1), subst (λ x. test x o ≡ true) ei (subst (λ x. test a.0 x ≡ true) eo c.0)),
+        subst (λ k. k < inputs) ei (below_all a.0 inputs a.1),
+        (subst (λ k. k < outputs) eo (below_all b.0 outputs b.1), subst (λ x. test x o ≡ true) ei (subst (λ x. test a.0 x ≡ true) eo c.0)),
       )
     where
       one : (a b : ℕ) (e : ℕ × ℕ) (t : Bool) → test a b ≡ t → IsIn e (cond t ((a, b) ∷ []) []) → (test a b ≡ true) × (e ≡ (a, b))
@@ -60,17 +64,17 @@ module _ (g : Grammar) (m : ℕ) (test : ℕ → ℕ → Bool) where
       one a b e true q (inr z) = absurd z
       one a b e false q z = absurd z
 
-  -- and one that passes is in it
-  pub pairs_in : (i o : ℕ) → i < inputs_of g m → o < outputs_of g m → test i o ≡ true → some (is_it i o) (pairs_by g m test) ≡ true
-  pairs_in i o hi ho t =
-      some_from (is_it i o) (i, o) (pairs_by g m test)
-      (in_flat_map row i (i, o) (numbers_from 0 (inputs_of g m)) (numbers_in i 0 (inputs_of g m) (omega arith) (omega arith))
-      (in_flat_map (λ k. cond (test i k) ((i, k) ∷ []) []) o (i, o) (numbers_from 0 (outputs_of g m)) (numbers_in o 0 (outputs_of g m) (omega arith) (omega arith))
+  -- and one that is below them and passes is in it
+  pub passing_from : (i o : ℕ) → i < inputs → o < outputs → test i o ≡ true → some (is_it i o) (passing inputs outputs test) ≡ true
+  passing_from i o hi ho t =
+      some_from (is_it i o) (i, o) (passing inputs outputs test)
+      (in_flat_map row i (i, o) (numbers_from 0 inputs) (numbers_in i 0 inputs (omega arith) (omega arith))
+      (in_flat_map (λ k. cond (test i k) ((i, k) ∷ []) []) o (i, o) (numbers_from 0 outputs) (numbers_in o 0 outputs (omega arith) (omega arith))
       (subst (λ b. IsIn {A = ℕ × ℕ} (i, o) (cond b ((i, o) ∷ []) [])) (sym t) (inl refl))))
       (and_from (i == i) (o == o) (eq-eqb i i refl) (eq-eqb o o refl))
 
-  pub pairs_are : (i o : ℕ) → i < inputs_of g m → o < outputs_of g m → some (is_it i o) (pairs_by g m test) ≡ test i o
-  pairs_are i o hi ho = one_truth (some (is_it i o) (pairs_by g m test)) (test i o) (λ h. (in_pairs i o h).1.1) (pairs_in i o hi ho)
+  pub passing_is : (i o : ℕ) → i < inputs → o < outputs → some (is_it i o) (passing inputs outputs test) ≡ test i o
+  passing_is i o hi ho = one_truth (some (is_it i o) (passing inputs outputs test)) (test i o) (λ h. (in_passing i o h).1.1) (passing_from i o hi ho)
 
 -- the pairs that are shown of a module, as the view holds them
 pub shown_at : (g : Grammar) (parts : ViewParts) (m : ℕ) → m < length g.modules → get_or (view_of g parts).shown m [] ≡ shown_pairs g parts m
@@ -82,7 +86,7 @@ shown_at g parts m below =
 pub shows_is : (g : Grammar) (parts : ViewParts) (m i o : ℕ) → m < length g.modules → is_expanded g parts m ≡ false → i < inputs_of g m → o < outputs_of g m → shows (view_of g parts) m i o ≡ is_shown g parts.deps m i o
 shows_is g parts m i o below shut hi ho =
     ap (some (is_it i o)) (shown_at g parts m below ∙ ap (λ b. cond b [] (pairs_by g m (is_shown g parts.deps m))) shut)
-    ∙ pairs_are g m (is_shown g parts.deps m) i o hi ho
+    ∙ passing_is (inputs_of g m) (outputs_of g m) (is_shown g parts.deps m) i o hi ho
 
 -- what is shown are pairs of ports of modules
 pub shows_gives : (g : Grammar) (parts : ViewParts) (m i o : ℕ) → shows (view_of g parts) m i o ≡ true → (m < length g.modules) × (i < inputs_of g m) × (o < outputs_of g m)
@@ -91,7 +95,7 @@ shows_gives g parts m i o h = by (nat_lt m (length g.modules)) refl
     within : m < length g.modules → (b : Bool) → is_expanded g parts m ≡ b → some (is_it i o) (shown_pairs g parts m) ≡ true → (m < length g.modules) × (i < inputs_of g m) × (o < outputs_of g m)
     within below true e t = absurd (true≢false (sym t ∙ ap (λ b. some (is_it i o) (cond b [] (pairs_by g m (is_shown g parts.deps m)))) e))
     within below false e t =
-        let r = in_pairs g m (is_shown g parts.deps m) i o (sym (ap (λ b. some (is_it i o) (cond b [] (pairs_by g m (is_shown g parts.deps m)))) e) ∙ t) in
+        let r = in_passing (inputs_of g m) (outputs_of g m) (is_shown g parts.deps m) i o (sym (ap (λ b. some (is_it i o) (cond b [] (pairs_by g m (is_shown g parts.deps m)))) e) ∙ t) in
         (below, r.0, r.1.0)
 
     by : (b : Bool) → nat_lt m (length g.modules) ≡ b → (m < length g.modules) × (i < inputs_of g m) × (o < outputs_of g m)

@@ -1,5 +1,5 @@
 -- What contracts see of a view, and when it is one of a grammar.
-use Rattle.std.specs.Prelude.{◌≡◌, ◌↔◌, ◌<◌, ◌^◌, ℕ, Bool, false, cond, IsTrue, List, [], ◌∷◌, length, get_or, ◌==◌}
+use Rattle.std.specs.Prelude.{◌≡◌, ◌↔◌, ◌<◌, ◌^◌, ℕ, Bool, false, cond, IsTrue, List, [], ◌∷◌, map, length, get_or, ◌==◌}
 use Rattle.std.specs.List.{All, filter, flat_map}
 use Rattle.wf_model.specs.Lists.{numbers_from}
 use Rattle.wf_model.specs.Grammar.{Grammar, inputs_of, outputs_of}
@@ -30,8 +30,16 @@ pub record IsHeldFor (g : Grammar) (v : HeldView) : Type 0 where
 abbrev pub flagged : List Bool → List ℕ
 flagged flags = filter (λ m. get_or flags m false) (numbers_from 0 (length flags))
 
--- the pairs whose bits are set, by input and output, where there are so many outputs
-abbrev pub pairs_in : ℕ → List ℕ → List (ℕ × ℕ)
-pairs_in outputs rows =
-    flat_map (λ i. flat_map (λ o. cond (bit_at (get_or rows i 0) o == 1) ((i, o) ∷ []) []) (numbers_from 0 outputs))
+-- the pairs whose bits are set, by input and output; a row has 64 bits
+abbrev pub pairs_in : List ℕ → List (ℕ × ℕ)
+pairs_in rows =
+    flat_map (λ i. flat_map (λ o. cond (bit_at (get_or rows i 0) o == 1) ((i, o) ∷ []) []) (numbers_from 0 64))
     (numbers_from 0 (length rows))
+
+-- the view that expands the flagged modules, and shows of each module the pairs in its rows
+abbrev pub view_of_rows : List Bool → List (List ℕ) → View
+view_of_rows flags rows = record { expanded = flagged flags; shown = map pairs_in rows }
+
+-- this view as contracts see it, with flags of the modules that are seen
+abbrev pub held_by : List Bool → List Bool → List (List ℕ) → HeldView
+held_by flags seen rows = record { core = view_of_rows flags rows; seen = seen; rows = rows }

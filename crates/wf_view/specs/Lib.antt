@@ -1,3 +1,4 @@
+pub mod FitRows
 pub mod Held
 pub mod Laws
 pub mod Marks

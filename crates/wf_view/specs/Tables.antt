@@ -1,6 +1,7 @@
--- What a view keeps for its readers: flags of the seen modules, and rows of bits.
-use Rattle.std.specs.Prelude.{◌≡◌, ◌↔◌, ℕ, ◌<◌, ◌≤◌, ◌==◌, ◌&&◌, Bool, true, false, List, [], ◌∷◌, ◌++◌, map, length, get_or, bytes_eq, IsTrue}
+-- What is kept while a view is made: flags of the seen modules, and rows of bits.
+use Rattle.std.specs.Prelude.{◌≡◌, ◌↔◌, ℕ, ◌<◌, ◌≤◌, ◌==◌, ◌&&◌, Bool, true, false, List, Vec, [], ◌∷◌, ◌++◌, length, get_or, bytes_eq, IsTrue}
 use Rattle.std.specs.Int.{bit_at}
+use Rattle.std.specs.declared.alloc.Global.{Global}
 use Rattle.wf_model.specs.declared.parts.DepsPart.{DepsPart}
 use Rattle.wf_model.specs.declared.parts.PairPart.{PairPart}
 use Rattle.wf_model.specs.Lists.{IsIn, IsAt, some}
@@ -8,8 +9,6 @@ use Rattle.wf_model.specs.Grammar.{Grammar, Module, inputs_of, outputs_of}
 use Rattle.wf_model.specs.View.{View, expands, IsSeenModule}
 use Rattle.wf_spec.specs.Pairs.{HasKnownPairs}
 use Rattle.wf_spec.specs.Naming.{IsNewAt}
-use Rattle.wf_view.specs.declared.view.Shown.{Shown}
-use Rattle.wf_view.specs.Held.{HeldView, flagged, pairs_in}
 use Rattle.wf_view.specs.Rules.{deps_names, number_in, IsModuleName}
 use Rattle.wf_view.specs.Viewing.{is_shown}
 
@@ -23,19 +22,18 @@ pub record AreRowsBy (inputs outputs : ℕ) (test : ℕ → ℕ → Bool) (rows 
 abbrev pub names_pair : Module → List PairPart → ℕ → ℕ → Bool
 names_pair m pairs i o = some (λ (e : PairPart). bytes_eq (get_or m.inputs i []) e.input && bytes_eq (get_or m.outputs o []) e.output) pairs
 
--- what is kept of a module: how many outputs it has, and no rows where it is expanded, else those of the pairs that pass a test
-pub record IsKept (g : Grammar) (expanded : Bool) (test : ℕ → ℕ → Bool) (m : ℕ) (s : Shown) : Type 0 where
-  pub outputs : s.outputs ≡ outputs_of g m
-  pub none : expanded ≡ true → s.rows.items ≡ []
-  pub rows : expanded ≡ false → AreRowsBy (inputs_of g m) (outputs_of g m) test s.rows.items
+-- what is kept of a module: no rows where it is expanded, otherwise those of the pairs that pass a test
+pub record IsKept (g : Grammar) (expanded : Bool) (test : ℕ → ℕ → Bool) (m : ℕ) (list : List ℕ) : Type 0 where
+  pub none : expanded ≡ true → list ≡ []
+  pub rows : expanded ≡ false → AreRowsBy (inputs_of g m) (outputs_of g m) test list
 
 -- so of each of the first n modules, with flags of those that are expanded, and the pairs that deps parts show
-pub record AreKept (g : Grammar) (marks : List Bool) (deps : List DepsPart) (n : ℕ) (table : List Shown) : Type 0 where
+pub record AreKept (g : Grammar) (marks : List Bool) (deps : List DepsPart) (n : ℕ) (table : List (Vec ℕ Global)) : Type 0 where
   pub one_each : length table ≡ n
-  pub each : (m : ℕ) (s : Shown) → IsAt s m table → IsKept g (get_or marks m false) (is_shown g deps m) m s
+  pub each : (m : ℕ) (list : Vec ℕ Global) → IsAt list m table → IsKept g (get_or marks m false) (is_shown g deps m) m list.items
 
 -- one deps part more is taken in: one about a module that is not expanded, and that no part before is about
-abbrev pub IsTakenIn : Grammar → DepsPart → List Shown → List Shown → Type 0
+abbrev pub IsTakenIn : Grammar → DepsPart → List (Vec ℕ Global) → List (Vec ℕ Global) → Type 0
 IsTakenIn g d old new =
     (marks : List Bool) (before : List DepsPart) → get_or marks (number_in g d.«module») false ≡ false → ¬ IsIn d.«module» (deps_names before) →
     AreKept g marks before (length g.modules) old → AreKept g marks (before ++ d ∷ []) (length g.modules) new
@@ -51,11 +49,3 @@ pub record AreSound (g : Grammar) (marks : List Bool) (deps : List DepsPart) : T
 abbrev pub AreSeen : Grammar → List Bool → List Bool → Type 0
 AreSeen g marks seen =
     (u : View) → ((m : ℕ) → expands u m ≡ get_or marks m false) → (m : ℕ) → IsTrue (get_or seen m false) ↔ IsSeenModule g u m
-
--- a view as contracts see it, from the flags of the modules that it expands, those of the seen ones, and what is kept of each
-abbrev pub held_by : List Bool → List Bool → List Shown → HeldView
-held_by marks seen table = record {
-  core = record { expanded = flagged marks; shown = map (λ (s : Shown). pairs_in s.outputs s.rows.items) table };
-  seen = seen;
-  rows = map (λ (s : Shown). s.rows.items) table;
-}

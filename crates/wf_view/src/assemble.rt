@@ -6,10 +6,8 @@ ghost use Rattle.wf_view.specs.Rules.{IsViewed};
 ghost use Rattle.wf_view.specs.Viewing.{view_of};
 
 mod rows;
-mod seen;
 mod table;
 
-use crate::assemble::seen::seen_marks;
 use crate::assemble::table::shown_table;
 use crate::view::View;
 use std::alloc::{AllocError, Global};
@@ -30,7 +28,6 @@ pub fn assemble(
     ensures held { IfOk result (λ v. IsHeldFor g.now.core v) }
 {
     let _formed = g.start();
-    let shown = shown_table(alloc, g, parts.deps.items(), &marks)?;
-    let seen = seen_marks(alloc, g, &marks)?;
-    Ok(View::of_tables(marks, seen, shown))
+    let rows = shown_table(alloc, g, parts.deps.items(), &marks)?;
+    View::of_rows(alloc, g, marks, rows)
 }

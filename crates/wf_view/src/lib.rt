@@ -7,6 +7,8 @@ mod checks;
 mod fault;
 mod law;
 mod marks;
+mod of_rows;
+mod seen;
 mod view;
 
 pub use fault::{ViewFault, ViewSpot};

@@ -1,7 +1,7 @@
 // Views.
-ghost use Rattle.std.specs.Prelude.{◌≡◌, ◌<◌, ℕ, [], false, length, get_or};
+ghost use Rattle.std.specs.Prelude.{◌≡◌, ◌<◌, ℕ, [], false, length, get_or, map};
 ghost use Rattle.wf_model.specs.View.{expands};
-ghost use Rattle.wf_view.specs.Tables.{held_by};
+ghost use Rattle.wf_view.specs.Held.{held_by};
 
 use std::marker::Model;
 use wf_spec::ModNo;
@@ -14,38 +14,32 @@ pub(crate) fn is_flagged(flags: &[bool], m: ModNo) -> bool
     m < flags.len() && flags[m]
 }
 
-/// The pairs that are shown of a module: a row for each input, in which bit `o` stands for output `o`, of so many outputs. A module that is expanded has no rows.
-#[derive(Drop)]
-pub(crate) struct Shown {
-    pub(crate) rows: Vec<u64>,
-    pub(crate) outputs: u8,
-}
-
 /// A view of a grammar.
 #[derive(Drop)]
 pub struct View {
     expanded: Vec<bool>,
     seen: Vec<bool>,
-    shown: Vec<Shown>,
+    /// The pairs that are shown of each module: a row for each input, in which bit `o` stands for output `o`. A module that is expanded has no rows.
+    rows: Vec<Vec<u64>>,
 }
 
 impl Model for View {
     ghost use Rattle.std.specs.Prelude.{map};
-    ghost use Rattle.wf_view.specs.Held.{HeldView, flagged, pairs_in};
+    ghost use Rattle.wf_view.specs.Held.{HeldView, held_by};
 
     ghost Value = { HeldView };
 
-    ghost view = { λ v. record { core = record { expanded = flagged v.expanded.items; shown = map (λ s. pairs_in s.outputs s.rows.items) v.shown.items }; seen = v.seen.items; rows = map (λ s. s.rows.items) v.shown.items } };
+    ghost view = { λ v. held_by v.expanded.items v.seen.items (map (λ r. r.items) v.rows.items) };
 }
 
 impl View {
-    pub(crate) fn of_tables(expanded: Vec<bool>, seen: Vec<bool>, shown: Vec<Shown>) -> View
-        ensures { result ≡ held_by expanded.items seen.items shown.items }
+    pub(crate) fn of_tables(expanded: Vec<bool>, seen: Vec<bool>, rows: Vec<Vec<u64>>) -> View
+        ensures { result ≡ held_by expanded.items seen.items (map (λ r. r.items) rows.items) }
     {
         View {
             expanded,
             seen,
-            shown,
+            rows,
         }
     }
 
@@ -77,6 +71,6 @@ impl View {
         requires shown { expands self.now.core m.0 ≡ false }
         ensures { result.now ≡ get_or self.now.rows m.0 [] }
     {
-        &self.shown[m.0 as usize].rows
+        &self.rows[m.0 as usize]
     }
 }

@@ -1,25 +1,18 @@
 // The rows of the pairs that a view shows of each module.
-ghost use Rattle.std.specs.Prelude.{◌≡◌, ◌<◌, [], IfOk, OnOk, MatchBool, length};
-ghost use Rattle.wf_model.specs.Grammar.{inputs_of, is_given, outputs_of};
+ghost use Rattle.std.specs.Prelude.{◌≡◌, ◌<◌, [], IfOk, OnOk, length};
+ghost use Rattle.wf_model.specs.Grammar.{is_given};
 ghost use Rattle.wf_spec.specs.Pairs.{HasKnownPairs};
 ghost use Rattle.wf_view.specs.Rules.{number_in, IsModuleName};
-ghost use Rattle.wf_view.specs.Tables.{AreKept, AreRowsBy, AreSound, IsKept, IsTakenIn};
+ghost use Rattle.wf_view.specs.Tables.{AreKept, AreSound, IsKept, IsTakenIn};
 
 use crate::assemble::rows::{default_rows, named_rows};
-use crate::view::Shown;
 use std::alloc::{AllocError, Global};
 use wf_spec::{DepsPart, Grammar, ModNo};
 
-fn outputs_of(g: &Grammar, m: ModNo) -> u8
-    requires { m.0 < length g.now.core.modules }
-    ensures { result ≡ outputs_of g.now.core m.0 }
-{
-    g.modules()[m.0 as usize].outputs().len() as u8
-}
-
+/// The rows of a module about which there is no deps part; none where it is expanded.
 fn rows_unless(alloc: Global, g: &Grammar, m: ModNo, expanded: bool) -> Result<Vec<u64>, AllocError>
     requires { m.0 < length g.now.core.modules }
-    ensures { IfOk result (λ rows. MatchBool expanded (rows.items ≡ []) (AreRowsBy (inputs_of g.now.core m.0) (outputs_of g.now.core m.0) (is_given g.now.core.given m.0) rows.items)) }
+    ensures { IfOk result (λ rows. IsKept g.now.core expanded (is_given g.now.core.given m.0) m.0 rows.items) }
 {
     if expanded {
         return Ok(Vec::new(alloc));
@@ -27,25 +20,15 @@ fn rows_unless(alloc: Global, g: &Grammar, m: ModNo, expanded: bool) -> Result<V
     default_rows(alloc, g, m)
 }
 
-/// What is shown of a module about which there is no deps part.
-fn default_shown(alloc: Global, g: &Grammar, m: ModNo, expanded: bool) -> Result<Shown, AllocError>
-    requires { m.0 < length g.now.core.modules }
-    ensures { IfOk result (λ s. IsKept g.now.core expanded (is_given g.now.core.given m.0) m.0 s) }
-{
-    let rows = rows_unless(alloc, g, m, expanded)?;
-    let outputs = outputs_of(g, m);
-    Ok(Shown { rows, outputs })
-}
-
-/// What is shown of each module where there is no deps part.
-fn default_table(alloc: Global, g: &Grammar, marks: &[bool]) -> Result<Vec<Shown>, AllocError>
+/// The rows of each module where there is no deps part.
+fn default_table(alloc: Global, g: &Grammar, marks: &[bool]) -> Result<Vec<Vec<u64>>, AllocError>
     requires { length marks.now ≡ length g.now.core.modules }
     ensures { IfOk result (λ table. AreKept g.now.core marks.now [] (length g.now.core.modules) table.items) }
 {
     let mut table = Vec::new(alloc);
     for m in 0..g.modules().len() {
-        let shown = default_shown(alloc, g, ModNo(m as u16), marks[m])?;
-        table.push(shown)?;
+        let rows = rows_unless(alloc, g, ModNo(m as u16), marks[m])?;
+        table.push(rows)?;
     }
     Ok(table)
 }
@@ -63,7 +46,7 @@ fn known_module(g: &Grammar, name: &[u8]) -> ModNo
 fn take_in(
     alloc: Global,
     g: &Grammar,
-    table: &mut [Shown],
+    table: &mut [Vec<u64>],
     part: &DepsPart,
 ) -> Result<(), AllocError>
     requires known { IsModuleName g.now.core part.now.«module» }
@@ -74,7 +57,7 @@ fn take_in(
     let m = known_module(g, part.module.bytes());
     let one = &g.modules()[m.0 as usize];
     let rows = named_rows(alloc, one, part.pairs.items())?;
-    table[m.0 as usize].rows = rows;
+    table[m.0 as usize] = rows;
     Ok(())
 }
 
@@ -82,7 +65,7 @@ fn take_in(
 fn take_all_in(
     alloc: Global,
     g: &Grammar,
-    table: &mut [Shown],
+    table: &mut [Vec<u64>],
     deps: &[DepsPart],
     marks: &[bool],
 ) -> Result<(), AllocError>
@@ -96,7 +79,7 @@ fn take_all_in(
     Ok(())
 }
 
-/// What is shown of each module: no rows where it is expanded, else those of the pairs that a deps part names, and where no part is about it those of the grammar, or all.
+/// The rows of each module: none where it is expanded, otherwise those of the pairs that a deps part names, and where no part is about it those of the grammar, or all.
 ///
 /// Cost: for each module a look at its inputs and outputs and 8 bytes for each input, and for each deps part a look-up by hashing and for each pair a look at no more than 64 inputs and 64 outputs.
 pub fn shown_table(
@@ -104,7 +87,7 @@ pub fn shown_table(
     g: &Grammar,
     deps: &[DepsPart],
     marks: &[bool],
-) -> Result<Vec<Shown>, AllocError>
+) -> Result<Vec<Vec<u64>>, AllocError>
     requires one_each { length marks.now ≡ length g.now.core.modules }
     requires sound { AreSound g.now.core marks.now deps.now }
     ensures { IfOk result (λ table. AreKept g.now.core marks.now deps.now (length g.now.core.modules) table.items) }

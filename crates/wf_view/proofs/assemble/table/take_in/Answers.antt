@@ -34,4 +34,4 @@ returns c =
     part_taken g c.modules.ensures.formed d c.requires.known m (the_number read) rows
     (subst (λ (k : Module). AreRowsBy (length k.inputs) (length k.outputs) (names_pair k d.pairs) rows.items) (the_module read)
     (subst (λ (l : List PairPart). AreRowsBy (length (c.index-modules-m).result.inputs) (length (c.index-modules-m).result.outputs) (names_pair c.index-modules-m.result l) rows.items) c.items.ensures c.in_ok-rows.ensures))
-    c.args.table.now c.index-table-m.result (subst (λ n. m < n) (sym c.requires.one_each) c.known_module-m.ensures.within)
+    c.args.table.now (subst (λ n. m < n) (sym c.requires.one_each) c.known_module-m.ensures.within)

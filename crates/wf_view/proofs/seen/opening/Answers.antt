@@ -2,7 +2,7 @@ use Rattle.std.proofs.Common.{◌<◌, ◌+◌, ◌∙◌, ◌∷◌, [], length
 use Rattle.std.proofs.lemmas.List.{length-append}
 use Rattle.wf_graph.proofs.Rows.{rows_more}
 use Rattle.wf_view.proofs.Opening.{Opens, opening_below}
-use Rattle.wf_view.proofs.assemble.seen.opening.Goals as goal
+use Rattle.wf_view.proofs.seen.opening.Goals as goal
 
 pub loop-m-preserved : goal.loop-m-preserved
 loop-m-preserved c = record {

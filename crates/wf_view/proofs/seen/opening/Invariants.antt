@@ -1,7 +1,7 @@
 use Rattle.std.proofs.Common.{◌≡◌, ◌<◌, ◌↔◌, ℕ, false, get_or, length, true}
 use Rattle.wf_model.specs.Proper.{Makes}
 use Rattle.wf_graph.specs.Graph.{HasEdge}
-use Rattle.wf_view.proofs.assemble.seen.opening.Given as goal
+use Rattle.wf_view.proofs.seen.opening.Given as goal
 
 abbrev pub invariant-loop-m : goal.invariant-loop-m
 invariant-loop-m l = record {

@@ -3,8 +3,8 @@ use Rattle.std.proofs.lemmas.Result.{IfOk-weaker}
 use Rattle.std.specs.declared.alloc.Global.{Global}
 use Rattle.wf_graph.specs.Graph.{HasEdge}
 use Rattle.wf_view.proofs.Opening.{Opens, opened_below, reached_seen}
-use Rattle.wf_view.proofs.assemble.seen.seen_marks.Goals as goal
-use Rattle.wf_view.proofs.assemble.seen.seen_marks.Goals.{After-from}
+use Rattle.wf_view.proofs.seen.seen_marks.Goals as goal
+use Rattle.wf_view.proofs.seen.seen_marks.Goals.{After-from}
 
 edges : (c : After-from) → (a b : ℕ) → HasEdge c.deref.result.now a b ↔ Opens c.args.g.now.core c.args.marks.now a b
 edges c = subst (λ (l : List (Vec ℕ Global)). (a b : ℕ) → HasEdge l a b ↔ Opens c.args.g.now.core c.args.marks.now a b) (sym c.deref.ensures.value) c.in_ok-graph.ensures.edges
