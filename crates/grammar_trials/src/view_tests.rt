@@ -1,13 +1,14 @@
-// Views of one grammar: the modules that they expand and let be seen, the pairs that they show, and texts that describe no view.
+// Views: the modules that they expand and let be seen, the pairs that they show, texts that describe no view, and rows of which a view is made.
+ghost use Rattle.std.specs.Prelude.{IfOk};
 ghost use Rattle.wf_view.specs.Held.{IsHeldFor};
 
 use std::alloc::{AllocError, Global};
 use std::process::Abort;
 use std::test::Fail;
 use wf_json::read_view;
-use wf_samples::{grammar, view};
+use wf_samples::{TWISTING, grammar, view};
 use wf_spec::Grammar;
-use wf_view::{View, ViewFault, ViewSpot};
+use wf_view::{View, ViewFault, ViewSpot, rows_fit};
 
 /// S, A, B, Q and R have no ports, and C and N have the inputs a and b and the outputs c and d. An S is done by an A and a B, an A by a Q, a B by an R, and a C by an N, with a link from each port to that of the same name. The output d of N depends on both inputs, and c on none.
 const LETTERS: &str =
@@ -114,13 +115,66 @@ const FAULTS: [(&str, ViewFault); 13] = [
     ),
 ];
 
-/// The letters of the modules that a view expands, and of those that it lets be seen.
-fn expanded_and_seen(alloc: Global, g: &Grammar, v: &View) -> Result<(Vec<u8>, Vec<u8>), AllocError>
+/// Flags and rows of the modules S, L, W and T, each of two inputs and two outputs, and the letters of those that their view expands, and of those that it lets be seen. An S is done by an L, and an L by a W, an L and a W, or by a T.
+const FLAGS_AND_ROWS: [([bool; 4], [&[u64]; 4], &str, &str); 3] = [
+    (
+        [true, false, false, false],
+        [&[], &[0b01, 0b10], &[0b11, 0b00], &[0b10, 0b01]],
+        "S",
+        "SL",
+    ),
+    (
+        [true, true, false, false],
+        [&[], &[], &[0b10, 0b01], &[0b00, 0b11]],
+        "SL",
+        "SLWT",
+    ),
+    (
+        [false, true, false, false],
+        [&[0b11, 0b01], &[], &[0b00, 0b00], &[0b11, 0b11]],
+        "L",
+        "S",
+    ),
+];
+
+/// Flags and rows of these modules that do not fit: an atomic module is flagged, a flagged one has rows, a row is left out, one is too many, a bit is set past the last output, a module has no flag, one has no list.
+const UNFIT: [(&[bool], &[&[u64]]); 7] = [
+    (&[true, true, false, true], &[&[], &[], &[0b10, 0b01], &[]]),
+    (
+        &[true, true, false, false],
+        &[&[], &[0b10, 0b01], &[0b10, 0b01], &[0b10, 0b01]],
+    ),
+    (
+        &[true, true, false, false],
+        &[&[], &[], &[0b10], &[0b10, 0b01]],
+    ),
+    (
+        &[true, true, false, false],
+        &[&[], &[], &[0b10, 0b01, 0b00], &[0b10, 0b01]],
+    ),
+    (
+        &[true, true, false, false],
+        &[&[], &[], &[0b10, 0b01], &[0b10, 0b101]],
+    ),
+    (
+        &[true, true, false],
+        &[&[], &[], &[0b10, 0b01], &[0b10, 0b01]],
+    ),
+    (&[true, true, false, false], &[&[], &[], &[0b10, 0b01]]),
+];
+
+/// Of these letters, those of the modules that a view expands, and of those that it lets be seen.
+fn expanded_and_seen(
+    alloc: Global,
+    g: &Grammar,
+    v: &View,
+    letters: &[u8],
+) -> Result<(Vec<u8>, Vec<u8>), AllocError>
     requires { IsHeldFor g.now.core v.now }
 {
     let mut expanded = Vec::new(alloc);
     let mut seen = Vec::new(alloc);
-    for letter in b"SABQRCN" {
+    for letter in letters {
         if let Some(m) = g.find(&[*letter]) {
             if v.expanded(m) {
                 expanded.push(*letter)?;
@@ -175,7 +229,7 @@ fn fault_of(alloc: Global, g: &Grammar, text: &str) -> Result<Option<ViewFault>,
 fn are_seen(rt: &impl Abort, alloc: Global, g: &Grammar) -> Result<(), Fail> {
     for (text, expanded, seen) in EXPANDED_AND_SEEN {
         let v = view(alloc, g, text)?;
-        let letters = expanded_and_seen(alloc, g, &v)?;
+        let letters = expanded_and_seen(alloc, g, &v, b"SABQRCN")?;
         are_letters(rt, &letters, expanded, seen);
     }
     Ok(())
@@ -196,6 +250,50 @@ fn are_told(rt: &impl Abort, alloc: Global, g: &Grammar) -> Result<(), Fail> {
     Ok(())
 }
 
+fn lists_of(alloc: Global, rows: &[&[u64]]) -> Result<Vec<Vec<u64>>, AllocError> {
+    let mut lists = Vec::new(alloc);
+    for list in rows {
+        let list = Vec::from_slice(alloc, list)?;
+        lists.push(list)?;
+    }
+    Ok(lists)
+}
+
+/// The view of flags and rows that fit.
+fn made(alloc: Global, g: &Grammar, flags: &[bool], rows: &[&[u64]]) -> Result<Box<View>, Fail>
+    ensures { IfOk result (λ v. IsHeldFor g.now.core v.value) }
+{
+    let lists = lists_of(alloc, rows)?;
+    if !rows_fit(g, flags, &lists) {
+        return Err(Fail::new("flags and rows that fit"));
+    }
+    let flags = Vec::from_slice(alloc, flags)?;
+    let v = View::of_rows(alloc, g, flags, lists)?;
+    Ok(Box::new(alloc, v)?)
+}
+
+fn has_rows(rt: &impl Abort, g: &Grammar, v: &View, rows: &[&[u64]])
+    requires { IsHeldFor g.now.core v.now }
+{
+    for (letter, list) in b"SLWT".iter().zip(rows) {
+        assert_eq!(rt; rows_of(g, v, &[*letter]), *list, "of module {letter}");
+    }
+}
+
+fn are_made(rt: &impl Abort, alloc: Global, g: &Grammar) -> Result<(), Fail> {
+    for (flags, rows, expanded, seen) in FLAGS_AND_ROWS {
+        let v = made(alloc, g, &flags, &rows)?;
+        let letters = expanded_and_seen(alloc, g, &v, b"SLWT")?;
+        are_letters(rt, &letters, expanded, seen);
+        has_rows(rt, g, &v, &rows);
+    }
+    for (flags, rows) in UNFIT {
+        let lists = lists_of(alloc, rows)?;
+        assert!(rt; !rows_fit(g, flags, &lists), "{rows:?}");
+    }
+    Ok(())
+}
+
 #[test]
 fn modules_are_seen_below_those_that_are_expanded(rt: HostRuntime) -> Result<(), Fail> {
     let g = grammar(rt.alloc(), LETTERS)?;
@@ -206,6 +304,12 @@ fn modules_are_seen_below_those_that_are_expanded(rt: HostRuntime) -> Result<(),
 fn pairs_are_those_of_deps_parts(rt: HostRuntime) -> Result<(), Fail> {
     let g = grammar(rt.alloc(), LETTERS)?;
     are_shown(&rt, rt.alloc(), &g)
+}
+
+#[test]
+fn a_view_is_made_of_rows_that_fit(rt: HostRuntime) -> Result<(), Fail> {
+    let g = grammar(rt.alloc(), TWISTING)?;
+    are_made(&rt, rt.alloc(), &g)
 }
 
 #[test]

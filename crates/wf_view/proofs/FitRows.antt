@@ -11,14 +11,15 @@ use Rattle.wf_model.specs.Lists.{some}
 use Rattle.wf_model.specs.Grammar.{Grammar, inputs_of, outputs_of}
 use Rattle.wf_model.specs.View.{expands, shows, IsViewOf}
 use Rattle.wf_model.specs.WellFormed.{IsWellFormed}
-use Rattle.wf_view.specs.FitRows.{AreFitRows, IsViewOfRows}
+use Rattle.wf_model.proofs.Tests.{marked_below}
+use Rattle.wf_view.specs.FitRows.{FitGrammar, IsViewOfRows}
 use Rattle.wf_view.specs.Held.{AreShownRows, IsHeldFor, held_by, pairs_in, view_of_rows}
 use Rattle.wf_view.specs.Tables.{AreSeen}
 use Rattle.wf_view.proofs.Flagged.{flagged_is}
 use Rattle.wf_view.proofs.Naming.{module_formed}
 use Rattle.wf_view.proofs.Viewed.{is_it, in_passing, passing_from}
 
-module _ (g : Grammar) (formed : IsWellFormed g) (flags : List Bool) (rows : List (List ℕ)) (fit : AreFitRows g flags rows) where
+module _ (g : Grammar) (formed : IsWellFormed g) (flags : List Bool) (rows : List (List ℕ)) (fit : FitGrammar g flags rows) where
   -- the bit of a pair is set
   abbrev is_set : ℕ → ℕ → ℕ → Bool
   is_set m i o = bit_at (get_or (get_or rows m []) i 0) o == 1
@@ -41,7 +42,7 @@ module _ (g : Grammar) (formed : IsWellFormed g) (flags : List Bool) (rows : Lis
   not_flagged m i o h = by (get_or flags m false) refl
     where
       by : (b : Bool) → get_or flags m false ≡ b → get_or flags m false ≡ false
-      by true e = absurd (no_rows m i o (fit.none m e) h)
+      by true e = absurd (no_rows m i o ((fit.each m (in_module m i o h)).none e) h)
       by false e = e
 
   in_rows : (m i o : ℕ) → is_set m i o ≡ true → i < length (get_or rows m [])
@@ -53,7 +54,7 @@ module _ (g : Grammar) (formed : IsWellFormed g) (flags : List Bool) (rows : Lis
           absurd (not_set m i o (ap (λ r. bit_at r o) (get_or_past (get_or rows m []) i 0 (ltb-false i (length (get_or rows m [])) e)) ∙ bit_at-zero o) h)
 
   of_input : (m i o : ℕ) → is_set m i o ≡ true → i < inputs_of g m
-  of_input m i o h = subst (λ n. i < n) (fit.one_row_each m (in_module m i o h) (not_flagged m i o h)) (in_rows m i o h)
+  of_input m i o h = subst (λ n. i < n) ((fit.each m (in_module m i o h)).one_row_each (not_flagged m i o h)) (in_rows m i o h)
 
   of_output : (m i o : ℕ) → is_set m i o ≡ true → o < outputs_of g m
   of_output m i o h = by (nat_lt o (outputs_of g m)) refl
@@ -61,7 +62,7 @@ module _ (g : Grammar) (formed : IsWellFormed g) (flags : List Bool) (rows : Lis
       by : (b : Bool) → nat_lt o (outputs_of g m) ≡ b → o < outputs_of g m
       by true e = ltb-true o (outputs_of g m) e
       by false e =
-          let small = All-get_or (λ r. r < 2 ^ outputs_of g m) (get_or rows m []) i 0 (in_rows m i o h) (fit.no_more m (in_module m i o h) (not_flagged m i o h)) in
+          let small = All-get_or (λ r. r < 2 ^ outputs_of g m) (get_or rows m []) i 0 (in_rows m i o h) ((fit.each m (in_module m i o h)).no_more (not_flagged m i o h)) in
           absurd (not_set m i o (bit_at_above (get_or (get_or rows m []) i 0) (outputs_of g m) o small (ltb-false o (outputs_of g m) e)) h)
 
   -- a pair is shown exactly if its bit is set
@@ -85,7 +86,7 @@ module _ (g : Grammar) (formed : IsWellFormed g) (flags : List Bool) (rows : Lis
 
   is_view : IsViewOf g (view_of_rows flags rows)
   is_view = record {
-    expanded = λ m h. fit.composite m (sym (flagged_is flags m) ∙ h);
+    expanded = λ m h. (let set = sym (flagged_is flags m) ∙ h in (fit.each m (subst (λ n. m < n) fit.one_flag_each (marked_below flags m set))).composite set);
     shown = λ m i o h. (let set = sym (shown_is m i o) ∙ h in (in_module m i o set, of_input m i o set, of_output m i o set));
   }
 
@@ -93,9 +94,9 @@ module _ (g : Grammar) (formed : IsWellFormed g) (flags : List Bool) (rows : Lis
   rows_are m below shut =
       let closed : get_or flags m false ≡ false = sym (flagged_is flags m) ∙ shut in
       record {
-        one_each = fit.one_row_each m below closed;
+        one_each = (fit.each m below).one_row_each closed;
         bits = λ i o hi ho. sym (shown_is m i o);
-        no_more = fit.no_more m below closed;
+        no_more = (fit.each m below).no_more closed;
       }
 
   -- so with flags of the seen modules it is held for the grammar

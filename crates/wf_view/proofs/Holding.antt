@@ -1,5 +1,5 @@
 -- Rows that are kept in a table fit the grammar, and their view is the one that the parts describe.
-use Rattle.std.proofs.Common.{◌≡◌, ℕ, zero, suc, ◌+◌, ◌*◌, ◌-◌, ◌/◌, ◌%◌, ◌<◌, ◌≤◌, ◌^◌, ◌==◌, Bool, true, false, cond, IsTrue, List, Vec, [], ◌∷◌, ◌++◌, map, length, get_or, flat_map, refl, sym, ap, ◌∙◌, subst, arith}
+use Rattle.std.proofs.Common.{◌≡◌, ℕ, zero, suc, ◌+◌, ◌*◌, ◌-◌, ◌/◌, ◌%◌, ◌<◌, ◌≤◌, ◌^◌, ◌==◌, Bool, true, false, cond, List, Vec, [], ◌∷◌, ◌++◌, map, length, get_or, flat_map, refl, sym, ap, ◌∙◌, subst, arith}
 use Rattle.std.specs.Int.{bit_at}
 use Rattle.std.specs.List.{filter}
 use Rattle.std.specs.declared.alloc.Global.{Global}
@@ -16,9 +16,8 @@ use Rattle.wf_model.specs.View.{View}
 use Rattle.wf_model.specs.WellFormed.{IsWellFormed}
 use Rattle.wf_model.proofs.Composites.{composite_gives}
 use Rattle.wf_model.proofs.Lists.{filter_same, at_below}
-use Rattle.wf_model.proofs.Tests.{marked_below}
 use Rattle.wf_spec.proofs.Finding.{number_below}
-use Rattle.wf_view.specs.FitRows.{AreFitRows}
+use Rattle.wf_view.specs.FitRows.{FitGrammar}
 use Rattle.wf_view.specs.Held.{flagged, pairs_in, view_of_rows}
 use Rattle.wf_view.specs.Marks.{AreMarks}
 use Rattle.wf_view.specs.Rules.{number_in, IsViewed}
@@ -100,19 +99,18 @@ module _ (g : Grammar) (parts : ViewParts) (marks : List Bool) (table : List (Ve
       let there = at_there m table (subst (λ n. m < n) (sym kept.one_each) below) in
       subst (IsKept g (get_or marks m false) (is_shown g parts.deps m) m) (sym (get_mapped (λ (s : Vec ℕ Global). s.items) there.0 m table [] there.1)) (kept.each m there.0 there.1)
 
-  flagged_below : (m : ℕ) → IsTrue (get_or marks m false) → m < length g.modules
-  flagged_below m h = subst (λ n. m < n) are.one_each (marked_below marks m h)
-
   -- and they fit the grammar
-  pub kept_fit : IsViewed g parts → AreFitRows g marks (map (λ (s : Vec ℕ Global). s.items) table)
+  pub kept_fit : IsViewed g parts → FitGrammar g marks (map (λ (s : Vec ℕ Global). s.items) table)
   kept_fit viewed = record {
     one_flag_each = are.one_each;
-    composite = λ m h. (let below = flagged_below m h in composite_gives g m (expanded_composite g parts formed viewed m below (sym (are.each m below) ∙ h)));
     one_list_each = length-map table (λ (s : Vec ℕ Global). s.items) ∙ kept.one_each;
-    none = λ m h. (kept_at m (flagged_below m h)).none h;
-    one_row_each = λ m below closed. ((kept_at m below).rows closed).one_each;
-    no_more = λ m below closed. All-from_get_or (λ r. r < 2 ^ outputs_of g m) (get_or (map (λ (s : Vec ℕ Global). s.items) table) m []) 0
-        (λ i h. bits_below (get_or (get_or (map (λ (s : Vec ℕ Global). s.items) table) m []) i 0) (outputs_of g m) (((kept_at m below).rows closed).no_more i));
+    each = λ m below. (let k = kept_at m below in record {
+      composite = λ h. composite_gives g m (expanded_composite g parts formed viewed m below (sym (are.each m below) ∙ h));
+      none = k.none;
+      one_row_each = λ closed. (k.rows closed).one_each;
+      no_more = λ closed. All-from_get_or (λ r. r < 2 ^ outputs_of g m) (get_or (map (λ (s : Vec ℕ Global). s.items) table) m []) 0
+          (λ i h. bits_below (get_or (get_or (map (λ (s : Vec ℕ Global). s.items) table) m []) i 0) (outputs_of g m) ((k.rows closed).no_more i));
+    });
   }
 
 -- deps parts that keep the rules are sound

@@ -2,9 +2,11 @@
 #![tactic(auto)]
 
 mod assemble;
+mod bits;
 mod build;
 mod checks;
 mod fault;
+mod fit;
 mod law;
 mod marks;
 mod of_rows;
@@ -12,5 +14,6 @@ mod seen;
 mod view;
 
 pub use fault::{ViewFault, ViewSpot};
+pub use fit::rows_fit;
 pub use law::described_law;
 pub use view::View;
