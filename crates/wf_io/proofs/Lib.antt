@@ -6,3 +6,4 @@ pub mod Standing
 pub mod Seeking
 pub mod Filling
 pub mod Appending
+pub mod FirstBytes

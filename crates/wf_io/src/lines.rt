@@ -8,6 +8,7 @@ ghost use Rattle.wf_io.specs.declared.lines.LineFault.TheVariants.{LineTooLong, 
 
 use crate::outside::Shelf;
 use crate::window::Window;
+use memchr::memchr;
 use std::alloc::{AllocError, Global};
 use std::marker::Model;
 use thiserror::Error;
@@ -36,7 +37,7 @@ const FILE_MOST: u64 = 1073741824;
 fn newline(bytes: &[u8]) -> Option<usize>
     ensures { result ≡ position (λ b. b == 10) bytes.now }
 {
-    bytes.iter().position(|b| *b == b'\n')
+    memchr(b'\n', bytes)
 }
 
 /// The place of the first newline, of which there is none in the first `from` bytes.
