@@ -30,7 +30,7 @@ place_of_name r events at name = ap (position (bytes_eq name)) (names_grown r ev
 -- so the number of the instance that an event expands is what a look-up of it gives
 pub found_for : (r : GrowingSeen) → IsTableOf r.grammar r.run → (e : Event) (number : Option ℕ) → ((events : List Event) → IsGrownBy r events → number ≡ number_of r.grammar events e) → IsFoundFor r.run e number
 found_for r run (Start root) number told = tt
-found_for r run (Expand i p names) number told = let at = record { run = run; events = refl } in told (events_of r.run) at ∙ sym (place_of_name r (events_of r.run) at i)
+found_for r run (Expand i p names) number told = let at : IsGrownBy r (events_of r.run) = record { run = run; events = refl } in told (events_of r.run) at ∙ sym (place_of_name r (events_of r.run) at i)
 
 -- the names of an expansion, and none of no expansion
 abbrev pub names_told : Option Expanded → List (List ℕ)
