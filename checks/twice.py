@@ -22,8 +22,6 @@ EXPLAINED = {
     "wf_form/specs/Assembling:origin, wf_json/specs/Writing:first_port": "each says what its own reader gets where a list has no element",
     "wf_laws/proofs/SkewedGrammar:first, wf_laws/proofs/TwistingGrammar:first": "two worked runs that begin alike by chance",
     "wf_laws/proofs/SkewedGrammar:second, wf_laws/proofs/TwistingGrammar:second": "two worked runs that begin alike by chance",
-    "wf_gen/proofs/Following:unmade_open, wf_laws/proofs/Routes:unmade": "the lemma of the laws is private there, and becomes public when that crate is next proved",
-    "wf_flat/specs/Index:side_place, wf_safe/specs/BodyGraph:side_place": "neither crate stands on the other; it goes down when a crate below both is next proved",
     "bit_pack/proofs/Numbers:digit, wf_inbox/proofs/Times:one_if": "the digit of a bit and the one of a test are two readings of one small function, and neither crate stands on the other",
 }
 

@@ -9,7 +9,8 @@ use Rattle.wf_model.proofs.Lists.{in_append_cases, at_in, is_at}
 use Rattle.wf_flat.specs.declared.graph.Port.{Port}
 use Rattle.wf_flat.specs.declared.graph.Link.{Link}
 use Rattle.wf_flat.specs.contracts.graph.PortPartialEq.TheImpl.{eq-value}
-use Rattle.wf_flat.specs.Index.{side_place, side_of, IsWide, AreWide, number_of, IsNumbered, AreNumbered, IsRising, AreSums}
+use Rattle.wf_spec.specs.Sides.{side_place}
+use Rattle.wf_flat.specs.Index.{side_of, IsWide, AreWide, number_of, IsNumbered, AreNumbered, IsRising, AreSums}
 
 pub port_same : (a b : Port) → (eq-value).it a b ≡ true → a ≡ b
 port_same a b e = grind (arith, nat_tests)

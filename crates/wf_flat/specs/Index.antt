@@ -1,16 +1,10 @@
 -- The ports of a flat graph by number, and the links that leave each.
 use Rattle.std.specs.Prelude.{◌≡◌, ◌<◌, ◌≤◌, ◌+◌, ◌*◌, ◌++◌, ◌∷◌, [], ℕ, suc, List, length, get_or}
 use Rattle.wf_model.specs.Lists.{IsIn}
-use Rattle.wf_model.specs.declared.numbers.Side.{Side}
-use Rattle.wf_model.specs.declared.numbers.Side.TheVariants.{Input, Output}
+use Rattle.wf_spec.specs.Sides.{side_place}
 use Rattle.wf_flat.specs.declared.graph.Port.{Port}
 use Rattle.wf_flat.specs.declared.graph.Link.{Link}
 use Rattle.wf_flat.specs.declared.index.Arc.{Arc}
-
--- inputs come before outputs
-abbrev pub side_place : Side → ℕ
-side_place Input = 0
-side_place Output = 1
 
 -- the side of an instance that a port is on: the inputs of instance k are side 2 k, its outputs side 2 k + 1
 abbrev pub side_of : Port → ℕ

@@ -242,12 +242,7 @@ impl PlainRun {
     /// Takes an event as `take` does, where the instance that it expands was looked up before.
     ///
     /// Cost: one look-up for each name of the event, which is hashed once; where the run has no room for so many instances, each name is also compared with the names before it in the event, at most 63.
-    pub fn take_found(
-        &mut self,
-        g: &Grammar,
-        found: Option<u32>,
-        e: &Event,
-    ) -> Result<(), RunFault>
+    pub fn take_found(&mut self, g: &Grammar, found: Option<u32>, e: &Event) -> Result<(), RunFault>
         requires run { IsTableOf g.now.core self.old }
         requires found { IsFoundFor self.old e.now found }
         ensures taken { OnOk result (events_of self.new ≡ events_of self.old ++ e.now ∷ []) }

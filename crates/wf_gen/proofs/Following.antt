@@ -15,8 +15,8 @@ use Rattle.wf_model.specs.Run.{Instance, Expanded, IsName, named, made, names_of
 use Rattle.wf_model.proofs.Lists.{in_append_left, in_append_right, in_append_cases, in_map, in_map_from, at_in, at_is, at_below, is_at, bytes_same}
 use Rattle.wf_model.proofs.Composites.{composite_gives, composite_is}
 use Rattle.wf_model.proofs.Runs.{made_more, names-named, expansion_kept, expansion_later, expansion_other, name_in, made_kept, made_new, made_cases, named_at, at_named}
-use Rattle.wf_model.proofs.Level.{opening}
 use Rattle.wf_model.proofs.Taking.{extended}
+use Rattle.wf_laws.proofs.Routes.{unmade}
 use Rattle.wf_gen.specs.Draws.{draw, drawn}
 use Rattle.wf_gen.specs.Turns.{Pending, State, no_pending, numbered_name, numbered_names, pending_from, place_picked, instance_picked, stays_on_cycle, child_count, next_turn, draws_after, after_turn, after_draws, first_state}
 use Rattle.wf_gen.specs.Laws.{instance_of, IsUnexpanded}
@@ -46,14 +46,6 @@ open_before b e n h = go (expanded_by b n) refl
     go : (o : Option Expanded) → expanded_by b n ≡ o → expanded_by b n ≡ None
     go None q = q
     go (Some x) q = let z : Some x ≡ None = sym (expansion_kept b (e ∷ []) n x q) ∙ h in absurd (cc)
-
--- a name that is not there is not expanded
-unmade_open : (g : Grammar) (m : ℕ) (b : List Event) → IsRun g m b → (n : List ℕ) → (IsIn n (names_of (made g m b)) → ⊥) → expanded_by b n ≡ None
-unmade_open g m b run n h = go (expanded_by b n) refl
-  where
-    go : (o : Option Expanded) → expanded_by b n ≡ o → expanded_by b n ≡ None
-    go None q = q
-    go (Some x) q = absurd (h (name_in (record { name = n; module_no = head_of g x.production }) (made g m b) (opening g m [] b n x run q).stands))
 
 module _ (g : Grammar) (limit : ℕ) (formed : IsWellFormed g) (small : limit < 2 ^ 64) where
   pub first_follows : (draws : Lcg) → 0 < limit → Follows g limit (Start (numbered_name 0) ∷ []) (first_state g draws)
@@ -185,7 +177,7 @@ module _ (g : Grammar) (limit : ℕ) (formed : IsWellFormed g) (small : limit < 
         subst (λ n. IsUnexpanded g (b ++ event ∷ []) (record { name = numbered_name n; module_no = p.module_no })) (sym r.2) (
           made_new g g.start b event (record { name = numbered_name (s.made + r.0); module_no = p.module_no }) (named_at (numbered_name (s.made + r.0)) p.module_no r.0 new body at r.1),
           composite_gives g p.module_no r.3,
-          still_open (numbered_name (s.made + r.0)) (unmade_open g g.start b f.run (numbered_name (s.made + r.0)) (fresh (numbered_name (s.made + r.0)) is_new)) other,
+          still_open (numbered_name (s.made + r.0)) (unmade g g.start b f.run (numbered_name (s.made + r.0)) (fresh (numbered_name (s.made + r.0)) is_new)) other,
         )
 
     -- what is not expanded after the event is left, or is a child

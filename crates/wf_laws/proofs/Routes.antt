@@ -161,7 +161,8 @@ fits_shut : (e : List Event) (n : List ℕ) (a : List Step) → expanded_by e n 
 fits_shut e n [] h = tt
 fits_shut e n (s ∷ a) h = inl h
 
-unmade : (g : Grammar) (m : ℕ) (e : List Event) → IsRun g m e → (k : List ℕ) → (IsIn k (names_of (made g m e)) → ⊥) → expanded_by e k ≡ None
+-- a name that is not there is not expanded
+pub unmade : (g : Grammar) (m : ℕ) (e : List Event) → IsRun g m e → (k : List ℕ) → (IsIn k (names_of (made g m e)) → ⊥) → expanded_by e k ≡ None
 unmade g m e run k h = go (expanded_by e k) refl
   where
     go : (o : Option Expanded) → expanded_by e k ≡ o → expanded_by e k ≡ None

@@ -12,7 +12,8 @@ use Rattle.wf_model.proofs.Lists.{in_append_cases, at_below, at_in, is_at}
 use Rattle.wf_model.proofs.Walks.{walk_through, walk_one}
 use Rattle.wf_graph.specs.Graph.{InRange, IsReached}
 use Rattle.wf_body.proofs.Feeding.{few_at}
-use Rattle.wf_safe.specs.BodyGraph.{IsGraphOf, owner_place, side_place, vertex_of, vertices_of}
+use Rattle.wf_spec.specs.Sides.{side_place}
+use Rattle.wf_safe.specs.BodyGraph.{IsGraphOf, owner_place, vertex_of, vertices_of}
 
 same_owner : (a b : Option ℕ) → owner_place a ≡ owner_place b → a ≡ b
 same_owner None None e = refl

@@ -2,12 +2,11 @@
 use Rattle.std.specs.Prelude.{◌≡◌, ◌↔◌, ◌⊎◌, ℕ, suc, ◌+◌, ◌*◌, ◌==◌, cond, List, [], ◌∷◌, flat_map, length, get_or, Option, Some, None, option_map, Vec}
 use Rattle.std.specs.Int.{bit_at}
 use Rattle.std.specs.declared.alloc.Global.{Global}
-use Rattle.wf_model.specs.declared.numbers.Side.{Side}
-use Rattle.wf_model.specs.declared.numbers.Side.TheVariants.{Input, Output}
 use Rattle.wf_model.specs.Lists.{IsIn, numbers_from}
 use Rattle.wf_model.specs.Grammar.{Grammar, body_of}
 use Rattle.wf_model.specs.Links.{Port, Link, input, output}
 use Rattle.wf_graph.specs.Graph.{HasEdge}
+use Rattle.wf_spec.specs.Sides.{side_place}
 use Rattle.wf_safe.specs.declared.check.ports.Port.{Port as PortHeld}
 
 -- a port of a body, as the definitions see it
@@ -22,11 +21,6 @@ link_of from to = record { from = port_of from; to = port_of to }
 abbrev pub owner_place : Option ℕ → ℕ
 owner_place None = 0
 owner_place (Some k) = suc k
-
--- the place of a side: the inputs come first
-abbrev pub side_place : Side → ℕ
-side_place Input = 0
-side_place Output = 1
 
 -- the vertex of a port: each owner has 128 vertices, 64 for each side
 abbrev pub vertex_of : Port (Option ℕ) → ℕ

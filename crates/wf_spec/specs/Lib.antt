@@ -6,4 +6,5 @@ pub mod Held
 pub mod Naming
 pub mod Pairs
 pub mod Rows
+pub mod Sides
 pub mod Tables
