@@ -23,6 +23,3 @@ pub use law::{
 };
 pub use reader::BitReader;
 pub use writer::BitWriter;
-
-#[cfg(test)]
-mod tests;

@@ -21,6 +21,3 @@ pub use power::power_table;
 pub use row::{column, has_column, single, union};
 pub use steps::{Steps, row_times};
 pub use transpose::transposed;
-
-#[cfg(test)]
-mod tests;

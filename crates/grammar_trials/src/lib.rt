@@ -4,6 +4,8 @@
 #[cfg(test)]
 mod cycle_tests;
 #[cfg(test)]
+mod event_tests;
+#[cfg(test)]
 mod form_tests;
 #[cfg(test)]
 mod generated_tests;

@@ -8,6 +8,3 @@ mod short;
 pub use item::{cut, split_item};
 pub use law::name_law;
 pub use short::{are_short, is_short};
-
-#[cfg(test)]
-mod tests;

@@ -13,6 +13,3 @@ pub use event::read_event;
 pub use fault::EventFault;
 pub use law::written_law;
 pub use write::write_event;
-
-#[cfg(test)]
-mod tests;

@@ -20,6 +20,3 @@ pub use outside::{Failed, Shelf, Sink};
 pub use plain_shelf::{PlainFile, PlainShelf};
 pub use plain_sink::PlainSink;
 pub use whole::{ReadFault, read_all};
-
-#[cfg(test)]
-mod tests;

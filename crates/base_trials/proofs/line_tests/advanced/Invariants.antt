@@ -1,6 +1,6 @@
 use Rattle.std.proofs.Common.{◌≡◌, true}
 use Rattle.wf_io.specs.Readers.{left_over}
-use Rattle.wf_io.proofs.tests.lent.Given as goal
+use Rattle.base_trials.proofs.line_tests.advanced.Given as goal
 
 abbrev pub invariant-lines : goal.invariant-lines
 invariant-lines g l = l.lines.live ≡ true

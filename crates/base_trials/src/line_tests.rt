@@ -1,80 +1,9 @@
-// Worked values.
-use super::*;
+// Lines of files: where they end, how long they may be, and files that break.
+use crate::file_tests::file;
 use std::alloc::{AllocError, Global};
 use std::test::Fail;
-use wf_model::{Name, Seq};
-
-fn file(alloc: Global, name: &str, bytes: &[u8], broken: bool) -> Result<MemFile, AllocError> {
-    Ok(MemFile {
-        name: Name::from_vec(Vec::from_slice(alloc, name.as_bytes())?),
-        bytes: Seq::from_vec(Vec::from_slice(alloc, bytes)?),
-        broken,
-    })
-}
-
-#[test]
-fn whole_files_are_read_in_pieces(rt: HostRuntime) -> Result<(), Fail> {
-    let alloc = rt.alloc();
-    let mut files = Vec::new(alloc);
-    files.push(file(alloc, "spec", b"hello", false)?)?;
-    files.push(file(alloc, "cut", b"hel", true)?)?;
-    files.push(file(alloc, "spec", b"later", false)?)?;
-    let mut shelf = MemShelf::new(Seq::from_vec(files), 2);
-    let spec = read_all(alloc, &mut shelf, "spec", 5)?;
-    assert_eq!(rt; spec.as_slice(), b"hello".as_slice());
-    assert!(rt;
-        matches!(
-            read_all(alloc, &mut shelf, "spec", 4),
-            Err(ReadFault::TooLong)
-        )
-    );
-    assert!(rt;
-        matches!(
-            read_all(alloc, &mut shelf, "cut", 2),
-            Err(ReadFault::TooLong)
-        )
-    );
-    assert_eq!(rt; shelf.faults(), 0);
-    assert!(rt; matches!(read_all(alloc, &mut shelf, "cut", 3), Err(ReadFault::Fault)));
-    assert!(rt;
-        matches!(
-            read_all(alloc, &mut shelf, "none", 3),
-            Err(ReadFault::Fault)
-        )
-    );
-    assert_eq!(rt; shelf.faults(), 2);
-    Ok(())
-}
-
-#[test]
-fn plain_files_are_whole(rt: HostRuntime) -> Result<(), Fail> {
-    let alloc = rt.alloc();
-    let mut files = Vec::new(alloc);
-    files.push(PlainFile {
-        name: Name::from_vec(Vec::from_slice(alloc, b"spec")?),
-        bytes: Seq::from_vec(Vec::from_slice(alloc, b"hello")?),
-    })?;
-    let mut shelf = PlainShelf::new(Seq::from_vec(files));
-    let spec = read_all(alloc, &mut shelf, "spec", 5)?;
-    assert_eq!(rt; spec.as_slice(), b"hello".as_slice());
-    let none = read_all(alloc, &mut shelf, "none", 0)?;
-    assert_eq!(rt; none.len(), 0);
-    Ok(())
-}
-
-#[test]
-fn a_sink_keeps_what_fits(rt: HostRuntime) -> Result<(), Fail> {
-    let mut sink = MemSink::new(rt.alloc(), 3)?;
-    assert_eq!(rt; sink.put(b"ab"), Ok(()));
-    assert_eq!(rt; sink.put(b"cd"), Err(Failed));
-    assert_eq!(rt; sink.bytes(), b"abc".as_slice());
-    assert_eq!(rt; sink.put(b""), Ok(()));
-    let mut count = PlainSink::new();
-    assert_eq!(rt; count.put(b"ab"), Ok(()));
-    assert_eq!(rt; count.put(b"cde"), Ok(()));
-    assert_eq!(rt; count.length(), 5);
-    Ok(())
-}
+use wf_io::{FuseShelf, LineFault, Lines, MemShelf, Shelf};
+use wf_model::Seq;
 
 /// A shelf with this file alone, named `f`, of which a call reads at most `piece` bytes.
 fn shelf_of(alloc: Global, bytes: &[u8], broken: bool, piece: u32) -> Result<MemShelf, AllocError> {

@@ -1,0 +1,13 @@
+//! Tests of the crates below the grammars, by their public calls: bits, matrices, names, files and lines.
+#![tactic(auto)]
+
+#[cfg(test)]
+mod bit_tests;
+#[cfg(test)]
+mod file_tests;
+#[cfg(test)]
+mod line_tests;
+#[cfg(test)]
+mod matrix_tests;
+#[cfg(test)]
+mod name_tests;
