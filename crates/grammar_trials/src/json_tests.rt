@@ -68,7 +68,7 @@ const DOTTED: &str =
     r#"{"start":"S","modules":[],"productions":[{"head":"S","body":[],"in":[["a","u.x.y"]]}]}"#;
 
 /// Texts of another form, and the first member that has not its form.
-const WRONG_SPECS: [(&str, Member); 20] = [
+const WRONG_SPECS: [(&str, Member); 27] = [
     ("[]", Member::Top),
     ("null", Member::Top),
     (r#"{"modules":null}"#, Member::Start),
@@ -124,6 +124,34 @@ const WRONG_SPECS: [(&str, Member); 20] = [
     (
         r#"{"start":"S","modules":[],"deps":[{"module":"P","pairs":[["a",1]]}]}"#,
         Member::DepsList,
+    ),
+    (
+        r#"{"start":"S","modules":[],"versions":null,"deps":null}"#,
+        Member::DepsList,
+    ),
+    (
+        r#"{"start":"S","modules":[],"versions":null}"#,
+        Member::Versions,
+    ),
+    (
+        r#"{"start":"S","modules":[],"versions":[[3]]}"#,
+        Member::Versions,
+    ),
+    (
+        r#"{"start":"S","modules":[],"versions":[["3",1]]}"#,
+        Member::Versions,
+    ),
+    (
+        r#"{"start":"S","modules":[],"versions":[[3,1],[3.0,1]]}"#,
+        Member::Versions,
+    ),
+    (
+        r#"{"start":"S","modules":[],"versions":[[-0,1]]}"#,
+        Member::Versions,
+    ),
+    (
+        r#"{"start":"S","modules":[],"versions":[[4,18446744073709551616]]}"#,
+        Member::Versions,
     ),
 ];
 

@@ -14,4 +14,6 @@ mod json_tests;
 #[cfg(test)]
 mod proper_tests;
 #[cfg(test)]
+mod version_tests;
+#[cfg(test)]
 mod view_tests;
