@@ -83,18 +83,22 @@ fn stand_of(s: &Accepted, name: &str) -> Result<Option<(u16, u16, u16, u8)>, Fai
     Ok(Some((on.cycle.0, on.place, production.0, position.0)))
 }
 
-/// The same in the grammar of a text.
-fn stand_in(alloc: Global, text: &str, name: &str) -> Result<Option<(u16, u16, u16, u8)>, Fail> {
+/// Whether it stands so in the grammar of a text.
+fn stands_so(
+    alloc: Global,
+    text: &str,
+    name: &str,
+    on: Option<(u16, u16, u16, u8)>,
+) -> Result<bool, Fail> {
     let s = sample(alloc, text)?;
-    stand_of(&s, name)
+    Ok(stand_of(&s, name)? == on)
 }
 
 #[test]
 fn modules_stand_on_their_cycles(rt: HostRuntime) -> Result<(), Fail> {
     for (text, name, on) in STANDS {
-        assert_eq!(rt;
-            stand_in(rt.alloc(), text, name)?,
-            on,
+        assert!(rt;
+            stands_so(rt.alloc(), text, name, on)?,
             "at {name} of {text}"
         );
     }
@@ -122,6 +126,6 @@ fn two_loops_of_a_module_are_told(rt: HostRuntime) -> Result<(), Fail> {
         first: step(2, 1),
         second: step(3, 0),
     };
-    assert_eq!(rt; fault_of(rt.alloc(), TWO_LOOPS)?, Some(fault));
+    assert!(rt; fault_of(rt.alloc(), TWO_LOOPS)? == Some(fault));
     Ok(())
 }

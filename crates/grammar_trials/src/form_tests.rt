@@ -1,6 +1,5 @@
 // Texts whose parts form a grammar, and texts whose parts do not.
 use std::alloc::Global;
-use std::process::Abort;
 use std::test::Fail;
 use wf_form::{FormFault, Spot, build};
 use wf_json::read_spec;
@@ -105,52 +104,47 @@ fn inner(pos: u8, port: u8) -> Inner {
     }
 }
 
-fn has_modules_of_line(rt: &impl Abort, g: &Grammar) -> Result<(), Fail> {
-    assert_eq!(rt; g.start(), ModNo(0));
-    assert_eq!(rt; g.find(b"Q"), Some(ModNo(2)));
-    assert_eq!(rt; g.find(b"R"), None);
+fn has_modules_of_line(g: &Grammar) -> bool {
     let [production] = g.productions() else {
-        return Err(Fail::new("one production"));
+        return false;
     };
     let [u, v] = production.positions() else {
-        return Err(Fail::new("two positions"));
+        return false;
     };
-    assert_eq!(rt; (u.module, v.module), (ModNo(1), ModNo(2)));
-    Ok(())
+    let is_named = g.find(b"Q") == Some(ModNo(2)) && g.find(b"R").is_none();
+    is_named && g.start() == ModNo(0) && (u.module, v.module) == (ModNo(1), ModNo(2))
 }
 
-fn has_links(
-    rt: &impl Abort,
-    g: &Grammar,
-    edges: &[Edge],
-    entries: &[Inner],
-    exits: &[Inner],
-) -> Result<(), Fail> {
+/// Whether the one production has these edges, entries and exits.
+fn has_links(g: &Grammar, edges: &[Edge], entries: &[Inner], exits: &[Inner]) -> bool {
     let [production] = g.productions() else {
-        return Err(Fail::new("one production"));
+        return false;
     };
-    assert_eq!(rt; production.edges(), edges);
-    assert_eq!(rt; production.entries(), entries);
-    assert_eq!(rt; production.exits(), exits);
-    Ok(())
+    production.edges() == edges && production.entries() == entries && production.exits() == exits
 }
 
-#[test]
-fn line_is_built(rt: HostRuntime) -> Result<(), Fail> {
-    let g = grammar(rt.alloc(), LINE)?;
-    has_modules_of_line(&rt, &g)?;
+/// Whether `LINE` has its modules, its edge, its entry and its exit.
+fn is_line_built(alloc: Global) -> Result<bool, Fail> {
     let edge = Edge {
         from: inner(0, 0),
         to: inner(1, 0),
     };
-    has_links(&rt, &g, &[edge], &[inner(0, 0)], &[inner(1, 0)])
+    let g = grammar(alloc, LINE)?;
+    Ok(has_modules_of_line(&g) && has_links(&g, &[edge], &[inner(0, 0)], &[inner(1, 0)]))
+}
+
+/// Whether the entries and exits of `PAIRED` are in the order of the ports.
+fn is_paired(alloc: Global) -> Result<bool, Fail> {
+    let ports = [inner(0, 0), inner(0, 1)];
+    let g = grammar(alloc, PAIRED)?;
+    Ok(has_links(&g, &[], &ports, &ports))
 }
 
 #[test]
-fn entries_and_exits_are_by_port(rt: HostRuntime) -> Result<(), Fail> {
-    let g = grammar(rt.alloc(), PAIRED)?;
-    let ports = [inner(0, 0), inner(0, 1)];
-    has_links(&rt, &g, &[], &ports, &ports)
+fn links_are_by_number(rt: HostRuntime) -> Result<(), Fail> {
+    assert!(rt; is_line_built(rt.alloc())?);
+    assert!(rt; is_paired(rt.alloc())?);
+    Ok(())
 }
 
 /// The rows of an atomic module.
@@ -162,70 +156,73 @@ fn rows_of<'a>(g: &'a Grammar, name: &[u8]) -> Option<&'a [u64]> {
     Some(g.rows(m))
 }
 
-fn has_rows(rt: &impl Abort, g: &Grammar, of_n: &[u64], of_o: &[u64]) {
-    assert_eq!(rt; rows_of(g, b"M"), None);
-    assert_eq!(rt; rows_of(g, b"N"), Some(of_n), "where O has {of_o:?}");
-    assert_eq!(rt; rows_of(g, b"O"), Some(of_o), "where N has {of_n:?}");
+/// Whether N and O have these rows, where these pairs are given in `PAIRED`.
+fn has_rows(alloc: Global, deps: &str, of_n: &[u64], of_o: &[u64]) -> Result<bool, Fail> {
+    let text = PAIRED.replace(alloc, "[]", deps)?;
+    let g = grammar(alloc, &text)?;
+    let is_rowless = rows_of(&g, b"M").is_none();
+    Ok(is_rowless && rows_of(&g, b"N") == Some(of_n) && rows_of(&g, b"O") == Some(of_o))
 }
 
 #[test]
 fn rows_hold_the_pairs_of_all_parts(rt: HostRuntime) -> Result<(), Fail> {
     for (deps, of_n, of_o) in GIVEN {
-        let text = PAIRED.replace(rt.alloc(), "[]", deps)?;
-        let g = grammar(rt.alloc(), &text)?;
-        has_rows(&rt, &g, of_n, of_o);
+        assert!(rt; has_rows(rt.alloc(), deps, of_n, of_o)?, "at {deps}");
     }
     Ok(())
 }
 
-fn has_alternatives(rt: &impl Abort, g: &Grammar) -> Result<(), Fail> {
+/// The alternative numbers of three productions, by their order.
+fn has_alternatives(g: &Grammar) -> bool {
     let [first, second, third] = g.productions() else {
-        return Err(Fail::new("three productions"));
+        return false;
     };
-    assert_eq!(rt;
-        [
-            first.alternative(),
-            second.alternative(),
-            third.alternative()
-        ],
-        [0, 0, 1]
-    );
+    let numbers = [
+        first.alternative(),
+        second.alternative(),
+        third.alternative(),
+    ];
     let (Some(s), Some(q)) = (g.find(b"S"), g.find(b"Q")) else {
-        return Err(Fail::new("modules S and Q"));
+        return false;
     };
-    assert_eq!(rt; g.alternatives(s), [ProdNo(0), ProdNo(2)].as_slice());
-    assert!(rt; g.alternatives(q).is_empty());
-    Ok(())
+    numbers == [0, 0, 1]
+        && g.alternatives(s) == [ProdNo(0), ProdNo(2)].as_slice()
+        && g.alternatives(q).is_empty()
 }
 
 #[test]
 fn alternatives_are_numbered_by_head(rt: HostRuntime) -> Result<(), Fail> {
     let g = grammar(rt.alloc(), ALTERNATIVES)?;
-    has_alternatives(&rt, &g)
+    assert!(rt; has_alternatives(&g));
+    Ok(())
 }
 
-/// The fault of a specification that forms no grammar.
-fn fault_of(alloc: Global, text: &str) -> Result<Option<FormFault>, Fail> {
+/// Whether a specification forms no grammar, for this fault.
+fn is_refused(alloc: Global, text: &str, fault: FormFault) -> Result<bool, Fail> {
     let parts = read_spec(alloc, text.as_bytes())?;
-    Ok(build(alloc, parts).err())
+    Ok(build(alloc, parts).err() == Some(fault))
 }
 
-/// The fault of the line grammar with a piece of its text in another's place.
-fn fault_with(alloc: Global, piece: &str, other: &str) -> Result<Option<FormFault>, Fail> {
+/// The same of the line grammar with a piece of its text in another's place.
+fn is_refused_with(
+    alloc: Global,
+    piece: &str,
+    other: &str,
+    fault: FormFault,
+) -> Result<bool, Fail> {
     let text = LINE.replace(alloc, piece, other)?;
-    fault_of(alloc, &text)
+    is_refused(alloc, &text, fault)
 }
 
 #[test]
 fn faults_are_told(rt: HostRuntime) -> Result<(), Fail> {
     for (piece, other, fault) in FAULTS {
-        assert_eq!(rt;
-            fault_with(rt.alloc(), piece, other)?,
-            Some(fault),
-            "at {fault:?}"
+        assert!(rt;
+            is_refused_with(rt.alloc(), piece, other, fault)?,
+            "at {other}"
         );
     }
     let cycle = FormFault::BodyCycle { production: 0 };
-    assert_eq!(rt; fault_of(rt.alloc(), LOOPED)?, Some(cycle));
+    assert!(rt; is_refused(rt.alloc(), LOOPED, cycle)?);
     Ok(())
 }

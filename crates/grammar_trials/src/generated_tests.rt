@@ -69,60 +69,40 @@ fn tell(alloc: Global, out: &mut Vec<u8>, event: &Event) -> Result<(), Fail> {
     Ok(out.extend_from_slice(b"; ")?)
 }
 
-/// The events of a run, and the draw after them.
-fn told(alloc: Global, asked: Asked) -> Result<(Vec<u8>, u32), Fail> {
-    let (text, n, seed, most) = asked;
+/// The events of a run told in short, their lines, each written from its names, and the draw after them.
+#[derive(Drop)]
+struct Generated {
+    events: Vec<u8>,
+    lines: Vec<u8>,
+    draw: u32,
+}
+
+fn told(alloc: Global, (text, n, seed, most): Asked) -> Result<Generated, Fail> {
     if most < 1 {
         return Err(Fail::new("a limit from 1 on"));
     }
     let s = sample(alloc, text)?;
     let mut run = Gen::new(alloc, &s.grammar, &s.cycles, n, seed, most);
-    let mut out = Vec::new(alloc);
+    let mut events = Vec::new(alloc);
+    let mut lines = Vec::new(alloc);
     for _ in 0..16 {
         let Some(event) = run.next()? else {
-            return Ok((out, run.draw()));
+            let draw = run.draw();
+            return Ok(Generated {
+                events,
+                lines,
+                draw,
+            });
         };
-        tell(alloc, &mut out, &event)?;
-    }
-    Err(Fail::new("a run of fewer than 16 events"))
-}
-
-#[test]
-fn runs_are_generated(rt: HostRuntime) -> Result<(), Fail> {
-    for (asked, events, draw) in RUNS {
-        let (text, next) = told(rt.alloc(), asked)?;
-        assert_eq!(rt; text.as_slice(), events.as_bytes());
-        assert_eq!(rt; next, draw);
-    }
-    Ok(())
-}
-
-/// The lines of the events of the second run above.
-const LINES: &str =
-    "{\"start\":\"n0\"}\n{\"expand\":\"n0\",\"production\":0,\"names\":[\"n1\",\"n2\",\"n3\",\"n4\"]}\n{\"expand\":\"n3\",\"production\":3,\"names\":[\"n5\",\"n6\"]}\n{\"expand\":\"n2\",\"production\":1,\"names\":[\"n7\",\"n8\"]}\n{\"expand\":\"n8\",\"production\":1,\"names\":[\"n9\",\"n10\"]}\n";
-
-/// The lines of the events of a run, each written from its names.
-fn named(alloc: Global, asked: Asked) -> Result<Vec<u8>, Fail> {
-    let (text, n, seed, most) = asked;
-    if most < 1 {
-        return Err(Fail::new("a limit from 1 on"));
-    }
-    let s = sample(alloc, text)?;
-    let mut run = Gen::new(alloc, &s.grammar, &s.cycles, n, seed, most);
-    let mut out = Vec::new(alloc);
-    for _ in 0..16 {
-        let Some(event) = run.next()? else {
-            return Ok(out);
-        };
-        write_event(&event, &mut out)?;
-        out.push(b'\n')?;
+        tell(alloc, &mut events, &event)?;
+        write_event(&event, &mut lines)?;
+        lines.push(b'\n')?;
     }
     Err(Fail::new("a run of fewer than 16 events"))
 }
 
 /// The lines of the events of a run, each written from its numbers, and the draw after them.
-fn numbered(alloc: Global, asked: Asked) -> Result<(Vec<u8>, u32), Fail> {
-    let (text, n, seed, most) = asked;
+fn numbered(alloc: Global, (text, n, seed, most): Asked) -> Result<(Vec<u8>, u32), Fail> {
     if most < 1 {
         return Err(Fail::new("a limit from 1 on"));
     }
@@ -137,16 +117,30 @@ fn numbered(alloc: Global, asked: Asked) -> Result<(Vec<u8>, u32), Fail> {
     Err(Fail::new("a run of fewer than 16 events"))
 }
 
+/// Whether a run has these events and this draw, and lines from numbers as from names.
+fn is_generated(alloc: Global, asked: Asked, events: &str, draw: u32) -> Result<bool, Fail> {
+    let by_names = told(alloc, asked)?;
+    let (lines, next) = numbered(alloc, asked)?;
+    let is_told = by_names.events.as_slice() == events.as_bytes() && by_names.draw == draw;
+    Ok(is_told && lines.as_slice() == by_names.lines.as_slice() && next == draw)
+}
+
+/// The lines of the events of the second run above.
+const LINES: &str =
+    "{\"start\":\"n0\"}\n{\"expand\":\"n0\",\"production\":0,\"names\":[\"n1\",\"n2\",\"n3\",\"n4\"]}\n{\"expand\":\"n3\",\"production\":3,\"names\":[\"n5\",\"n6\"]}\n{\"expand\":\"n2\",\"production\":1,\"names\":[\"n7\",\"n8\"]}\n{\"expand\":\"n8\",\"production\":1,\"names\":[\"n9\",\"n10\"]}\n";
+
+/// Whether these are the lines of a run.
+fn has_lines(alloc: Global, asked: Asked, wanted: &str) -> Result<bool, Fail> {
+    let (lines, _) = numbered(alloc, asked)?;
+    Ok(lines.as_slice() == wanted.as_bytes())
+}
+
 #[test]
-fn lines_are_written_from_numbers(rt: HostRuntime) -> Result<(), Fail> {
-    for (asked, _, draw) in RUNS {
-        let by_names = named(rt.alloc(), asked)?;
-        let (by_numbers, next) = numbered(rt.alloc(), asked)?;
-        assert_eq!(rt; by_numbers.as_slice(), by_names.as_slice());
-        assert_eq!(rt; next, draw);
+fn runs_are_generated(rt: HostRuntime) -> Result<(), Fail> {
+    for (asked, events, draw) in RUNS {
+        assert!(rt; is_generated(rt.alloc(), asked, events, draw)?, "at {draw}");
     }
     let (asked, _, _) = RUNS[1];
-    let (lines, _) = numbered(rt.alloc(), asked)?;
-    assert_eq!(rt; lines.as_slice(), LINES.as_bytes());
+    assert!(rt; has_lines(rt.alloc(), asked, LINES)?);
     Ok(())
 }

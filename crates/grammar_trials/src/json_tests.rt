@@ -1,6 +1,5 @@
 // Texts that are specifications, texts that are views, texts that are neither, and canonical texts.
 use std::alloc::Global;
-use std::process::Abort;
 use std::test::Fail;
 use wf_json::{JsonFault, Member, canonical, digest, read_spec, read_view};
 use wf_model::{EdgePart, EntryPart, ExitPart, Parts, ProdPart, ViewParts};
@@ -253,22 +252,18 @@ const WRONG_VIEWS: [(&str, Member); 30] = [
     (r#"{"deps":[],"deps":null}"#, Member::DepsList),
 ];
 
-fn has_names_of_line(rt: &impl Abort, parts: &Parts) -> Result<(), Fail> {
-    assert_eq!(rt; parts.start.bytes(), b"S".as_slice());
-    assert!(rt; parts.deps.items().is_empty());
-    let [_, _, third] = parts.modules.items() else {
-        return Err(Fail::new("three modules"));
-    };
-    assert_eq!(rt; third.name.bytes(), b"Q".as_slice());
-    let [production] = parts.productions.items() else {
-        return Err(Fail::new("one production"));
+fn has_names_of_line(parts: &Parts) -> bool {
+    let ([_, _, third], [production]) = (parts.modules.items(), parts.productions.items()) else {
+        return false;
     };
     let [first, second] = production.body.items() else {
-        return Err(Fail::new("two positions"));
+        return false;
     };
-    assert_eq!(rt; first.name.bytes(), b"u".as_slice());
-    assert_eq!(rt; second.module.bytes(), b"Q".as_slice());
-    Ok(())
+    parts.start.bytes() == b"S".as_slice()
+        && parts.deps.items().is_empty()
+        && third.name.bytes() == b"Q".as_slice()
+        && first.name.bytes() == b"u".as_slice()
+        && second.module.bytes() == b"Q".as_slice()
 }
 
 fn links_of(production: &ProdPart) -> (&[EdgePart], &[EntryPart], &[ExitPart]) {
@@ -279,42 +274,41 @@ fn links_of(production: &ProdPart) -> (&[EdgePart], &[EntryPart], &[ExitPart]) {
     )
 }
 
-fn has_links_of_line(rt: &impl Abort, parts: &Parts) -> Result<(), Fail> {
+fn has_links_of_line(parts: &Parts) -> bool {
     let [production] = parts.productions.items() else {
-        return Err(Fail::new("one production"));
+        return false;
     };
     let ([edge], [entry], [exit]) = links_of(production) else {
-        return Err(Fail::new("one edge, entry and exit"));
+        return false;
     };
-    assert_eq!(rt; edge.from.pos.bytes(), b"u".as_slice());
-    assert_eq!(rt; edge.to.port.bytes(), b"x".as_slice());
-    assert_eq!(rt; entry.port.bytes(), b"a".as_slice());
-    assert_eq!(rt; exit.from.port.bytes(), b"y".as_slice());
-    Ok(())
+    edge.from.pos.bytes() == b"u".as_slice()
+        && edge.to.port.bytes() == b"x".as_slice()
+        && entry.port.bytes() == b"a".as_slice()
+        && exit.from.port.bytes() == b"y".as_slice()
 }
 
-fn has_sizes_of_phylo(rt: &impl Abort, parts: &Parts) -> Result<(), Fail> {
-    assert_eq!(rt; parts.modules.items().len(), 9);
+fn has_sizes_of_phylo(parts: &Parts) -> bool {
     let [first, _, third, _] = parts.productions.items() else {
-        return Err(Fail::new("four productions"));
+        return false;
     };
-    assert_eq!(rt; first.body.items().len(), 4);
-    assert_eq!(rt; first.edges.items().len(), 5);
-    assert!(rt; third.edges.items().is_empty());
     let [_, second] = parts.deps.items() else {
-        return Err(Fail::new("two parts of dependencies"));
+        return false;
     };
-    assert_eq!(rt; second.pairs.items().len(), 3);
-    Ok(())
+    parts.modules.items().len() == 9
+        && first.body.items().len() == 4
+        && first.edges.items().len() == 5
+        && third.edges.items().is_empty()
+        && second.pairs.items().len() == 3
 }
 
-#[test]
-fn the_parts_of_a_specification_are_read(rt: HostRuntime) -> Result<(), Fail> {
-    let line = read_spec(rt.alloc(), LINE.as_bytes())?;
-    has_names_of_line(&rt, &line)?;
-    has_links_of_line(&rt, &line)?;
-    let phylo = read_spec(rt.alloc(), PHYLO.as_bytes())?;
-    has_sizes_of_phylo(&rt, &phylo)
+fn is_line_read(alloc: Global) -> Result<bool, Fail> {
+    let parts = read_spec(alloc, LINE.as_bytes())?;
+    Ok(has_names_of_line(&parts) && has_links_of_line(&parts))
+}
+
+fn is_phylo_read(alloc: Global) -> Result<bool, Fail> {
+    let parts = read_spec(alloc, PHYLO.as_bytes())?;
+    Ok(has_sizes_of_phylo(&parts))
 }
 
 /// The port that the one entry of the one production leads to.
@@ -327,63 +321,60 @@ fn entry_port(parts: &Parts) -> &[u8] {
     b""
 }
 
+fn is_dotted_read(alloc: Global) -> Result<bool, Fail> {
+    let parts = read_spec(alloc, DOTTED.as_bytes())?;
+    Ok(entry_port(&parts) == b"x.y".as_slice())
+}
+
+/// Whether a text is read as a specification, whatever it says.
+fn is_read(alloc: Global, text: &str) -> bool {
+    read_spec(alloc, text.as_bytes()).is_ok()
+}
+
 #[test]
-fn small_texts_are_read(rt: HostRuntime) -> Result<(), Fail> {
+fn specifications_are_read(rt: HostRuntime) -> Result<(), Fail> {
     for text in SPECS {
-        assert!(rt; read_spec(rt.alloc(), text.as_bytes()).is_ok(), "at {text}");
+        assert!(rt; is_read(rt.alloc(), text), "at {text}");
     }
-    let parts = read_spec(rt.alloc(), DOTTED.as_bytes())?;
-    assert_eq!(rt; entry_port(&parts), b"x.y".as_slice());
+    assert!(rt; is_dotted_read(rt.alloc())?);
+    assert!(rt; is_line_read(rt.alloc())?);
+    assert!(rt; is_phylo_read(rt.alloc())?);
     Ok(())
 }
 
-/// The fault of bytes that are no specification.
-fn spec_fault(alloc: Global, bytes: &[u8]) -> Option<JsonFault> {
-    read_spec(alloc, bytes).err()
+/// Whether bytes are no specification, for this fault.
+fn is_no_spec(alloc: Global, bytes: &[u8], fault: JsonFault) -> bool {
+    read_spec(alloc, bytes).err() == Some(fault)
 }
 
-/// The fault of bytes that are no view.
-fn view_fault(alloc: Global, bytes: &[u8]) -> Option<JsonFault> {
-    read_view(alloc, bytes).err()
+/// Whether bytes are no view, for this fault.
+fn is_no_view(alloc: Global, bytes: &[u8], fault: JsonFault) -> bool {
+    read_view(alloc, bytes).err() == Some(fault)
 }
 
 #[test]
 fn the_first_wrong_member_is_told(rt: HostRuntime) {
     for (text, member) in WRONG_SPECS {
         let fault = JsonFault::WrongShape { member };
-        assert_eq!(rt;
-            spec_fault(rt.alloc(), text.as_bytes()),
-            Some(fault),
-            "at {text}"
-        );
+        assert!(rt; is_no_spec(rt.alloc(), text.as_bytes(), fault), "at {text}");
     }
-}
-
-#[test]
-fn the_first_wrong_member_of_a_view_is_told(rt: HostRuntime) {
     for (text, member) in WRONG_VIEWS {
         let fault = JsonFault::WrongShape { member };
-        assert_eq!(rt;
-            view_fault(rt.alloc(), text.as_bytes()),
-            Some(fault),
-            "at {text}"
-        );
+        assert!(rt; is_no_view(rt.alloc(), text.as_bytes(), fault), "at {text}");
     }
 }
 
 #[test]
 fn other_bytes_are_no_json(rt: HostRuntime) {
     for bytes in NO_SPECS {
-        assert_eq!(rt;
-            spec_fault(rt.alloc(), bytes),
-            Some(JsonFault::NotJson),
+        assert!(rt;
+            is_no_spec(rt.alloc(), bytes, JsonFault::NotJson),
             "at {bytes:?}"
         );
     }
     for bytes in NO_VIEWS {
-        assert_eq!(rt;
-            view_fault(rt.alloc(), bytes),
-            Some(JsonFault::NotJson),
+        assert!(rt;
+            is_no_view(rt.alloc(), bytes, JsonFault::NotJson),
             "at {bytes:?}"
         );
     }
@@ -396,45 +387,43 @@ fn count_expanded(parts: &ViewParts) -> Option<usize> {
     }
 }
 
-/// How many names a view expands, if it has a list of them, and how many parts of dependencies it has.
-fn counts(alloc: Global, text: &str) -> Result<(Option<usize>, usize), Fail> {
+/// Whether a view expands so many names, if it has a list of them, and has so many parts of dependencies.
+fn has_counts(
+    alloc: Global,
+    text: &str,
+    expanded: Option<usize>,
+    deps: usize,
+) -> Result<bool, Fail> {
     let parts = read_view(alloc, text.as_bytes())?;
-    Ok((count_expanded(&parts), parts.deps.items().len()))
+    Ok(count_expanded(&parts) == expanded && parts.deps.items().len() == deps)
+}
+
+fn has_parts_of_view(parts: &ViewParts) -> bool {
+    let (Some(names), [build]) = (&parts.expand, parts.deps.items()) else {
+        return false;
+    };
+    let ([first, second], [_, last]) = (names.items(), build.pairs.items()) else {
+        return false;
+    };
+    first.bytes() == b"Main".as_slice()
+        && second.bytes() == b"Refine".as_slice()
+        && build.module.bytes() == b"Build".as_slice()
+        && last.input.bytes() == b"m".as_slice()
+        && last.output.bytes() == b"n".as_slice()
+}
+
+fn is_view_read(alloc: Global) -> Result<bool, Fail> {
+    let parts = read_view(alloc, VIEW.as_bytes())?;
+    Ok(has_parts_of_view(&parts))
 }
 
 #[test]
 fn views_are_read(rt: HostRuntime) -> Result<(), Fail> {
     for (text, expanded, deps) in VIEWS {
-        assert_eq!(rt; counts(rt.alloc(), text)?, (expanded, deps), "at {text}");
+        assert!(rt; has_counts(rt.alloc(), text, expanded, deps)?, "at {text}");
     }
+    assert!(rt; is_view_read(rt.alloc())?);
     Ok(())
-}
-
-fn has_parts_of_view(rt: &impl Abort, parts: &ViewParts) -> Result<(), Fail> {
-    let Some(names) = &parts.expand else {
-        return Err(Fail::new("names"));
-    };
-    let [first, second] = names.items() else {
-        return Err(Fail::new("two names"));
-    };
-    assert_eq!(rt; first.bytes(), b"Main".as_slice());
-    assert_eq!(rt; second.bytes(), b"Refine".as_slice());
-    let [build] = parts.deps.items() else {
-        return Err(Fail::new("one part of dependencies"));
-    };
-    assert_eq!(rt; build.module.bytes(), b"Build".as_slice());
-    let [_, last] = build.pairs.items() else {
-        return Err(Fail::new("two pairs"));
-    };
-    assert_eq!(rt; last.input.bytes(), b"m".as_slice());
-    assert_eq!(rt; last.output.bytes(), b"n".as_slice());
-    Ok(())
-}
-
-#[test]
-fn the_parts_of_a_view_are_read(rt: HostRuntime) -> Result<(), Fail> {
-    let parts = read_view(rt.alloc(), VIEW.as_bytes())?;
-    has_parts_of_view(&rt, &parts)
 }
 
 /// Whether a grammar has this canonical text.
@@ -444,9 +433,10 @@ fn is_canonical(alloc: Global, text: &str, canonical_text: &str) -> Result<bool,
     Ok(written.as_slice() == canonical_text.as_bytes())
 }
 
-fn digest_of(alloc: Global, text: &str) -> Result<[u8; 32], Fail> {
+/// Whether a grammar has this digest.
+pub fn has_digest(alloc: Global, text: &str, wanted: [u8; 32]) -> Result<bool, Fail> {
     let g = grammar(alloc, text)?;
-    Ok(digest(alloc, &g)?)
+    Ok(digest(alloc, &g)? == wanted)
 }
 
 #[test]
@@ -457,6 +447,6 @@ fn texts_of_a_grammar_have_one_canonical_text(rt: HostRuntime) -> Result<(), Fai
             "at {text}"
         );
     }
-    assert_eq!(rt; digest_of(rt.alloc(), LINE)?, DIGEST);
+    assert!(rt; has_digest(rt.alloc(), LINE, DIGEST)?);
     Ok(())
 }

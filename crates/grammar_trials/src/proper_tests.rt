@@ -2,7 +2,6 @@
 ghost use Rattle.wf_check.specs.Proper.{IsRankingOf};
 
 use std::alloc::Global;
-use std::process::Abort;
 use std::test::Fail;
 use wf_check::{CheckFault, Proper, proper};
 use wf_samples::grammar;
@@ -35,51 +34,69 @@ fn rank_and_choice(g: &Grammar, p: &Proper, name: &[u8]) -> Option<(u32, ProdNo)
     Some((p.rank(m), p.choice(m)))
 }
 
-fn are_ranked(rt: &impl Abort, g: &Grammar, p: &Proper)
+/// Whether all modules of `RANKED` have their ranks and choices.
+fn are_ranked(g: &Grammar, p: &Proper) -> bool
     requires { IsRankingOf g.now.core p.now }
 {
     for (letter, rank, choice) in RANKS {
-        let got = rank_and_choice(g, p, &[letter]);
-        assert_eq!(rt; got, Some((rank, ProdNo(choice))));
+        if rank_and_choice(g, p, &[letter]) != Some((rank, ProdNo(choice))) {
+            return false;
+        }
     }
-    let of_atomic = rank_and_choice(g, p, b"P").map(|(rank, _)| rank);
-    assert_eq!(rt; of_atomic, Some(0));
+    match rank_and_choice(g, p, b"P") {
+        Some((rank, _)) => rank == 0,
+        None => false,
+    }
 }
 
-#[test]
-fn ranks_and_choices_are_least(rt: HostRuntime) -> Result<(), Fail> {
-    let g = grammar(rt.alloc(), RANKED)?;
-    let Ok(p) = proper(rt.alloc(), &g) else {
-        return Err(Fail::new("a proper grammar"));
-    };
-    are_ranked(&rt, &g, &p);
-    Ok(())
+fn is_ranked(alloc: Global) -> Result<bool, Fail> {
+    let g = grammar(alloc, RANKED)?;
+    match proper(alloc, &g) {
+        Ok(p) => Ok(are_ranked(&g, &p)),
+        Err(_) => Err(Fail::new("a proper grammar")),
+    }
 }
 
-/// The fault of a grammar that is not proper.
-fn fault_of(alloc: Global, text: &str) -> Result<Option<CheckFault>, Fail> {
+/// Which of the faults of a grammar that is not proper is told.
+#[derive(Clone, Copy)]
+enum Fault {
+    Unreachable(ModNo),
+    Unproductive(ModNo),
+    UnitCycle(&'static [ProdNo]),
+}
+
+/// Each line: a grammar, and its first fault.
+const FAULTS: [(&str, Fault); 3] = [
+    (UNREACHED, Fault::Unreachable(ModNo(1))),
+    (ENDLESS, Fault::Unproductive(ModNo(2))),
+    (UNIT_CYCLE, Fault::UnitCycle(&[ProdNo(2), ProdNo(6)])),
+];
+
+fn is_fault(found: &CheckFault, wanted: Fault) -> bool {
+    match (found, wanted) {
+        (CheckFault::Unreachable { module }, Fault::Unreachable(m)) => *module == m,
+        (CheckFault::Unproductive { module }, Fault::Unproductive(m)) => *module == m,
+        (CheckFault::UnitCycle { productions }, Fault::UnitCycle(list)) => {
+            productions.items() == list
+        }
+        _ => false,
+    }
+}
+
+/// Whether a grammar is not proper, for this fault.
+fn is_improper(alloc: Global, text: &str, wanted: Fault) -> Result<bool, Fail> {
     let g = grammar(alloc, text)?;
-    Ok(proper(alloc, &g).err())
+    match proper(alloc, &g) {
+        Ok(_) => Ok(false),
+        Err(fault) => Ok(is_fault(&fault, wanted)),
+    }
 }
 
 #[test]
-fn the_first_fault_is_told(rt: HostRuntime) -> Result<(), Fail> {
-    let Some(CheckFault::Unreachable { module }) = fault_of(rt.alloc(), UNREACHED)? else {
-        return Err(Fail::new("a module that is not reached"));
-    };
-    assert_eq!(rt; module, ModNo(1));
-    let Some(CheckFault::Unproductive { module }) = fault_of(rt.alloc(), ENDLESS)? else {
-        return Err(Fail::new("a module without an end"));
-    };
-    assert_eq!(rt; module, ModNo(2));
-    Ok(())
-}
-
-#[test]
-fn a_cycle_of_unit_productions_is_told(rt: HostRuntime) -> Result<(), Fail> {
-    let Some(CheckFault::UnitCycle { productions }) = fault_of(rt.alloc(), UNIT_CYCLE)? else {
-        return Err(Fail::new("a cycle"));
-    };
-    assert_eq!(rt; productions.items(), [ProdNo(2), ProdNo(6)].as_slice());
+fn ranks_and_first_faults_are_told(rt: HostRuntime) -> Result<(), Fail> {
+    assert!(rt; is_ranked(rt.alloc())?);
+    for (text, fault) in FAULTS {
+        assert!(rt; is_improper(rt.alloc(), text, fault)?, "at {text}");
+    }
     Ok(())
 }

@@ -187,17 +187,17 @@ fn expanded_and_seen(
     Ok((expanded, seen))
 }
 
-fn are_letters(rt: &impl Abort, letters: &(Vec<u8>, Vec<u8>), expanded: &str, seen: &str) {
-    assert_eq!(rt;
-        letters.0.as_slice(),
-        expanded.as_bytes(),
-        "where {seen} are seen"
-    );
-    assert_eq!(rt;
-        letters.1.as_slice(),
-        seen.as_bytes(),
-        "where {expanded} are expanded"
-    );
+/// Whether these are the letters of the modules that a view expands, and of those that it lets be seen.
+fn has_letters(
+    alloc: Global,
+    g: &Grammar,
+    text: &str,
+    expanded: &str,
+    seen: &str,
+) -> Result<bool, Fail> {
+    let v = view(alloc, g, text)?;
+    let letters = expanded_and_seen(alloc, g, &v, b"SABQRCN")?;
+    Ok(letters.0.as_slice() == expanded.as_bytes() && letters.1.as_slice() == seen.as_bytes())
 }
 
 /// The rows that a view shows of a module; none of one that it expands.
@@ -213,39 +213,27 @@ fn rows_of<'a>(g: &Grammar, v: &'a View, name: &[u8]) -> &'a [u64]
     v.shown_rows(m)
 }
 
-fn shows(rt: &impl Abort, g: &Grammar, v: &View, of_c: &[u64], of_n: &[u64])
-    requires { IsHeldFor g.now.core v.now }
-{
-    assert_eq!(rt; rows_of(g, v, b"C"), of_c, "where N has {of_n:?}");
-    assert_eq!(rt; rows_of(g, v, b"N"), of_n, "where C has {of_c:?}");
+/// Whether a view shows these rows of C and of N.
+fn shows(alloc: Global, g: &Grammar, text: &str, of_c: &[u64], of_n: &[u64]) -> Result<bool, Fail> {
+    let v = view(alloc, g, text)?;
+    Ok(rows_of(g, &v, b"C") == of_c && rows_of(g, &v, b"N") == of_n)
 }
 
-/// The fault of a text that describes no view.
-fn fault_of(alloc: Global, g: &Grammar, text: &str) -> Result<Option<ViewFault>, Fail> {
+/// Whether a text describes no view, for this fault.
+fn is_refused(alloc: Global, g: &Grammar, text: &str, fault: ViewFault) -> Result<bool, Fail> {
     let parts = read_view(alloc, text.as_bytes())?;
-    Ok(View::build(alloc, g, &parts).err())
+    Ok(View::build(alloc, g, &parts).err() == Some(fault))
 }
 
-fn are_seen(rt: &impl Abort, alloc: Global, g: &Grammar) -> Result<(), Fail> {
+fn are_so(rt: &impl Abort, alloc: Global, g: &Grammar) -> Result<(), Fail> {
     for (text, expanded, seen) in EXPANDED_AND_SEEN {
-        let v = view(alloc, g, text)?;
-        let letters = expanded_and_seen(alloc, g, &v, b"SABQRCN")?;
-        are_letters(rt, &letters, expanded, seen);
+        assert!(rt; has_letters(alloc, g, text, expanded, seen)?, "at {text}");
     }
-    Ok(())
-}
-
-fn are_shown(rt: &impl Abort, alloc: Global, g: &Grammar) -> Result<(), Fail> {
     for (text, of_c, of_n) in SHOWN {
-        let v = view(alloc, g, text)?;
-        shows(rt, g, &v, of_c, of_n);
+        assert!(rt; shows(alloc, g, text, of_c, of_n)?, "at {text}");
     }
-    Ok(())
-}
-
-fn are_told(rt: &impl Abort, alloc: Global, g: &Grammar) -> Result<(), Fail> {
     for (text, fault) in FAULTS {
-        assert_eq!(rt; fault_of(alloc, g, text)?, Some(fault), "at {text}");
+        assert!(rt; is_refused(alloc, g, text, fault)?, "at {text}");
     }
     Ok(())
 }
@@ -272,48 +260,58 @@ fn made(alloc: Global, g: &Grammar, flags: &[bool], rows: &[&[u64]]) -> Result<B
     Ok(Box::new(alloc, v)?)
 }
 
-fn has_rows(rt: &impl Abort, g: &Grammar, v: &View, rows: &[&[u64]])
+/// Whether a view shows these rows of the modules S, L, W and T.
+fn has_rows(g: &Grammar, v: &View, rows: &[&[u64]]) -> bool
     requires { IsHeldFor g.now.core v.now }
 {
     for (letter, list) in b"SLWT".iter().zip(rows) {
-        assert_eq!(rt; rows_of(g, v, &[*letter]), *list, "of module {letter}");
+        if rows_of(g, v, &[*letter]) != *list {
+            return false;
+        }
     }
+    true
+}
+
+/// Whether flags and rows fit, and their view expands the modules of these letters, lets those of these be seen, and shows the rows.
+fn is_made(
+    alloc: Global,
+    g: &Grammar,
+    flags: &[bool],
+    rows: &[&[u64]],
+    expanded: &str,
+    seen: &str,
+) -> Result<bool, Fail> {
+    let v = made(alloc, g, flags, rows)?;
+    let letters = expanded_and_seen(alloc, g, &v, b"SLWT")?;
+    Ok(letters.0.as_slice() == expanded.as_bytes()
+        && letters.1.as_slice() == seen.as_bytes()
+        && has_rows(g, &v, rows))
+}
+
+/// Whether flags and rows do not fit.
+fn is_unfit(alloc: Global, g: &Grammar, flags: &[bool], rows: &[&[u64]]) -> Result<bool, Fail> {
+    let lists = lists_of(alloc, rows)?;
+    Ok(!rows_fit(g, flags, &lists))
 }
 
 fn are_made(rt: &impl Abort, alloc: Global, g: &Grammar) -> Result<(), Fail> {
     for (flags, rows, expanded, seen) in FLAGS_AND_ROWS {
-        let v = made(alloc, g, &flags, &rows)?;
-        let letters = expanded_and_seen(alloc, g, &v, b"SLWT")?;
-        are_letters(rt, &letters, expanded, seen);
-        has_rows(rt, g, &v, &rows);
+        assert!(rt; is_made(alloc, g, &flags, &rows, expanded, seen)?, "at {rows:?}");
     }
     for (flags, rows) in UNFIT {
-        let lists = lists_of(alloc, rows)?;
-        assert!(rt; !rows_fit(g, flags, &lists), "{rows:?}");
+        assert!(rt; is_unfit(alloc, g, flags, rows)?, "at {rows:?}");
     }
     Ok(())
 }
 
 #[test]
-fn modules_are_seen_below_those_that_are_expanded(rt: HostRuntime) -> Result<(), Fail> {
+fn views_show_their_modules_and_pairs_or_are_refused(rt: HostRuntime) -> Result<(), Fail> {
     let g = grammar(rt.alloc(), LETTERS)?;
-    are_seen(&rt, rt.alloc(), &g)
-}
-
-#[test]
-fn pairs_are_those_of_deps_parts(rt: HostRuntime) -> Result<(), Fail> {
-    let g = grammar(rt.alloc(), LETTERS)?;
-    are_shown(&rt, rt.alloc(), &g)
+    are_so(&rt, rt.alloc(), &g)
 }
 
 #[test]
 fn a_view_is_made_of_rows_that_fit(rt: HostRuntime) -> Result<(), Fail> {
     let g = grammar(rt.alloc(), TWISTING)?;
     are_made(&rt, rt.alloc(), &g)
-}
-
-#[test]
-fn the_first_fault_is_told(rt: HostRuntime) -> Result<(), Fail> {
-    let g = grammar(rt.alloc(), LETTERS)?;
-    are_told(&rt, rt.alloc(), &g)
 }
