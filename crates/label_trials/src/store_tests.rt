@@ -9,8 +9,8 @@ use wf_samples::{LINE, sample};
 /// The digests of a grammar and of an earlier version of it: the file has that of the version.
 const DIGESTS: [[u8; 32]; 2] = [[0xcd; 32], [0xab; 32]];
 
-/// Each line: the least and the greatest of some lengths, how many entries a file has that is cut there, and why it is refused.
-const CUT: [(usize, usize, u32, Option<StoreFault>); 7] = [
+/// Each line: the least and the greatest of some lengths, how many entries a file has that is cut there, and why it is refused. The last is that of the whole file.
+const CUT: [(usize, usize, u32, Option<StoreFault>); 8] = [
     (0, 35, 0, Some(StoreFault::NotLabels)),
     (36, 36, 0, None),
     (37, 42, 0, Some(StoreFault::Truncated { offset: 36 })),
@@ -18,6 +18,7 @@ const CUT: [(usize, usize, u32, Option<StoreFault>); 7] = [
     (44, 49, 0, Some(StoreFault::Truncated { offset: 43 })),
     (50, 50, 2, None),
     (51, 57, 0, Some(StoreFault::Truncated { offset: 50 })),
+    (58, 58, 3, None),
 ];
 
 /// Each line: the place of a byte, what is written there, and why the file is refused.
@@ -83,34 +84,35 @@ fn opened(alloc: Global, bytes: &[u8]) -> Result<(u32, bool, Option<StoreFault>)
     }
 }
 
-#[test]
-fn entries_are_found_by_name_and_number(rt: HostRuntime) -> Result<(), Fail> {
-    let bytes = file(rt.alloc())?;
-    assert_eq!(rt; opened(rt.alloc(), &bytes)?, (3, true, None));
-    Ok(())
+/// Whether a store of the first bytes of the file, so many, has so many entries, those of the file where there are three, or is refused so.
+fn is_cut(
+    alloc: Global,
+    end: usize,
+    entries: u32,
+    fault: Option<StoreFault>,
+) -> Result<bool, Fail> {
+    let bytes = file(alloc)?;
+    Ok(opened(alloc, first(&bytes, end))? == (entries, entries == 3, fault))
+}
+
+/// Whether the file with a byte changed is refused so.
+fn is_refused(alloc: Global, at: usize, byte: u8, fault: StoreFault) -> Result<bool, Fail> {
+    let mut bytes = file(alloc)?;
+    if let Some(place) = bytes.get_mut(at) {
+        *place = byte;
+    }
+    Ok(opened(alloc, &bytes)? == (0, false, Some(fault)))
 }
 
 #[test]
-fn a_cut_file_is_read_up_to_a_whole_entry(rt: HostRuntime) -> Result<(), Fail> {
-    let bytes = file(rt.alloc())?;
+fn a_cut_or_changed_file_is_read_or_refused(rt: HostRuntime) -> Result<(), Fail> {
     for (least, greatest, entries, fault) in CUT {
         for end in least..=greatest {
-            let found = opened(rt.alloc(), first(&bytes, end))?;
-            assert_eq!(rt; found, (entries, false, fault), "at {end}");
+            assert!(rt; is_cut(rt.alloc(), end, entries, fault)?, "at {end}");
         }
     }
-    Ok(())
-}
-
-#[test]
-fn a_changed_file_is_refused(rt: HostRuntime) -> Result<(), Fail> {
     for (at, byte, fault) in CHANGED {
-        let mut bytes = file(rt.alloc())?;
-        if let Some(place) = bytes.get_mut(at) {
-            *place = byte;
-        }
-        let found = opened(rt.alloc(), &bytes)?;
-        assert_eq!(rt; found, (0, false, Some(fault)), "at {at}");
+        assert!(rt; is_refused(rt.alloc(), at, byte, fault)?, "at {at}");
     }
     Ok(())
 }
