@@ -1,12 +1,11 @@
 // Queries on the items of label files, worked by hand.
 //
 // Of LINE 20 is the label of the input, 60 that of the output, and B0 that of the edge. Of FORKING B0 is the edge of the first way to do S, and 94 that of the second.
-use crate::called::{Filed, called, called_over_a_fuse, filed};
-use crate::worked::{HEAD, START, WHOLE};
+use crate::called::{Filed, ends, ends_over_a_fuse};
+use crate::worked::{GROWN_WITH_VERSIONS, HEAD, START, UNDONE, WHOLE};
 use std::alloc::{AllocError, Global};
 use std::test::Fail;
-use wf_io::MemShelf;
-use wf_samples::{FORKING, LINE, LOOP};
+use wf_samples::{FORKING, GROWN, LINE, LOOP};
 use wf_top::Status;
 use wf_top::Status::{Done, ReadFault, Refused, WriteFault};
 
@@ -18,10 +17,12 @@ const SHORT: &[u8] =
 const FORGED: &[u8] =
     b"WFL1\x79\x02\xb5\x59\xf3\xf1\x57\xae\x01\xc3\x09\xdf\x9f\x20\xce\x67\xd9\xbf\x00\x68\x65\x09\x7b\xc2\xe9\xda\x25\x03\x0e\x33\x54\x38\x03r.a\x00\x01\x20\x03p.y\x00\x01\xb0\x03q.y\x00\x01\x94";
 
+const ASK: &str = "ask spec view labels queries";
+
 const QUERIES: &str = "r.a i1.y\ni1.y r.b\nr.b r.a\ni1.y i1.y\nr.a i2.y\n";
 
 /// Each line: the specification, the view, the label file, the queries, the status, the answers and the line on err.
-const ROWS: [(&str, &str, &[u8], &str, Status, &str, &str); 11] = [
+const ROWS: [(&str, &str, &[u8], &str, Status, &str, &str); 15] = [
     (
         LINE,
         "{}",
@@ -105,6 +106,43 @@ const ROWS: [(&str, &str, &[u8], &str, Status, &str, &str); 11] = [
         "yes\n",
         "refused: queries line 2: LineWrong\n",
     ),
+    // Label files of the versions of a grammar, and one of a version that it does not name.
+    (
+        GROWN_WITH_VERSIONS,
+        "{}",
+        WHOLE,
+        QUERIES,
+        Done,
+        "yes\nyes\nno\nno\nunknown\n",
+        "",
+    ),
+    (
+        GROWN_WITH_VERSIONS,
+        r#"{"expand":[]}"#,
+        WHOLE,
+        QUERIES,
+        Done,
+        "hidden\nhidden\nno\nhidden\nunknown\n",
+        "",
+    ),
+    (
+        GROWN_WITH_VERSIONS,
+        "{}",
+        UNDONE,
+        "r.a r.b\nr.a i1.y\n",
+        Done,
+        "yes\nunknown\n",
+        "",
+    ),
+    (
+        GROWN,
+        "{}",
+        WHOLE,
+        QUERIES,
+        Refused,
+        "",
+        "refused: labels: OtherSpec\n",
+    ),
 ];
 
 /// Each line: how many bytes are left of the label file of the finished run, the place of a byte, what is written there, and the line on err.
@@ -161,91 +199,52 @@ const FAULTS: [(&str, bool, usize, Status, &str, &str); 5] = [
     ),
 ];
 
-fn shelf(
-    alloc: Global,
-    texts: (&str, &str, &[u8], &str),
-    broken: bool,
-) -> Result<MemShelf, AllocError> {
-    let (spec, view, labels, queries) = texts;
-    let files: [Filed; 4] = [
+/// The files of a call of `ask`.
+fn filed<'a>(spec: &'a str, view: &'a str, labels: &'a [u8], queries: &'a str) -> [Filed<'a>; 4] {
+    [
         ("spec", spec.as_bytes(), false),
         ("view", view.as_bytes(), false),
-        ("labels", labels, broken),
+        ("labels", labels, false),
         ("queries", queries.as_bytes(), false),
-    ];
-    filed(alloc, &files, 1)
-}
-
-/// Whether the queries of a label file are answered so.
-fn are_answered(
-    alloc: Global,
-    texts: (&str, &str, &[u8], &str),
-    status: Status,
-    answers: &str,
-    message: &str,
-) -> Result<bool, AllocError> {
-    let mut shelf = shelf(alloc, texts, false)?;
-    let ended = called(alloc, &mut shelf, "ask spec view labels queries", (64, 64))?;
-    Ok(ended.is(status, answers.as_bytes(), message.as_bytes()))
+    ]
 }
 
 #[test]
 fn labels_answer_queries(rt: HostRuntime) -> Result<(), Fail> {
     for (spec, view, labels, queries, status, answers, message) in ROWS {
-        let texts = (spec, view, labels, queries);
+        let files = filed(spec, view, labels, queries);
+        let end = (status, answers.as_bytes(), message);
         assert!(rt;
-            are_answered(rt.alloc(), texts, status, answers, message)?,
+            ends(rt.alloc(), &files, 1, ASK, (64, 64), end)?,
             "at {queries:?}"
         );
     }
     Ok(())
 }
 
-/// The first so many bytes of the label file of the finished run, with a byte changed.
-fn changed(alloc: Global, end: usize, at: usize, byte: u8) -> Result<Vec<u8>, AllocError> {
+/// Whether the label file of the finished run is refused with this line, where so many bytes are left of it, and one is changed.
+fn is_refused(
+    alloc: Global,
+    count: usize,
+    at: usize,
+    byte: u8,
+    message: &str,
+) -> Result<bool, AllocError> {
     let mut labels = Vec::from_slice(alloc, WHOLE)?;
-    labels.truncate(end);
+    labels.truncate(count);
     if let Some(place) = labels.get_mut(at) {
         *place = byte;
     }
-    Ok(labels)
+    let files = filed(LINE, "{}", &labels, QUERIES);
+    ends(alloc, &files, 1, ASK, (64, 64), (Refused, b"", message))
 }
 
 #[test]
 fn a_cut_or_changed_label_file_is_refused(rt: HostRuntime) -> Result<(), Fail> {
-    for (end, at, byte, message) in CHANGED {
-        let labels = changed(rt.alloc(), end, at, byte)?;
-        let texts = (LINE, "{}", labels.as_slice(), QUERIES);
+    for (count, at, byte, message) in CHANGED {
         assert!(rt;
-            are_answered(rt.alloc(), texts, Refused, "", message)?,
-            "at {end} and {at}"
-        );
-    }
-    Ok(())
-}
-
-/// Whether a call ends so where the label file may break, with room for so many bytes on out.
-fn ends_so(
-    alloc: Global,
-    line: &str,
-    broken: bool,
-    room: usize,
-    status: Status,
-    answers: &str,
-    message: &str,
-) -> Result<bool, AllocError> {
-    let mut shelf = shelf(alloc, (LINE, "{}", WHOLE, QUERIES), broken)?;
-    let ended = called(alloc, &mut shelf, line, (room, 64))?;
-    Ok(ended.is(status, answers.as_bytes(), message.as_bytes()))
-}
-
-#[test]
-fn files_may_break_and_a_sink_may_be_full(rt: HostRuntime) -> Result<(), Fail> {
-    for (line, broken, room, status, answers, message) in FAULTS {
-        let alloc = rt.alloc();
-        assert!(rt;
-            ends_so(alloc, line, broken, room, status, answers, message)?,
-            "at {line:?}"
+            is_refused(rt.alloc(), count, at, byte, message)?,
+            "at {count} and {at}"
         );
     }
     Ok(())
@@ -269,38 +268,22 @@ const FUSES: [(u64, Status, &str, &str); 9] = [
     (8, Done, "yes\nyes\nno\nno\nunknown\n", ""),
 ];
 
-/// Whether a call ends so over a shelf that fails after so many calls.
-fn ends_over_a_fuse(
-    alloc: Global,
-    calls: u64,
-    status: Status,
-    answers: &str,
-    message: &str,
-) -> Result<bool, AllocError> {
-    let files: [Filed; 4] = [
-        ("spec", LINE.as_bytes(), false),
-        ("view", b"{}", false),
-        ("labels", WHOLE, false),
-        ("queries", QUERIES.as_bytes(), false),
-    ];
-    let shelf = filed(alloc, &files, 4096)?;
-    let ended = called_over_a_fuse(
-        alloc,
-        shelf,
-        calls,
-        "ask spec view labels queries",
-        (64, 64),
-    )?;
-    Ok(ended.is(status, answers.as_bytes(), message.as_bytes()))
-}
-
 #[test]
-fn a_device_may_fail_at_each_call(rt: HostRuntime) -> Result<(), Fail> {
+fn devices_may_break_and_a_sink_may_be_full(rt: HostRuntime) -> Result<(), Fail> {
+    let mut files = filed(LINE, "{}", WHOLE, QUERIES);
     for (calls, status, answers, message) in FUSES {
-        let alloc = rt.alloc();
+        let end = (status, answers.as_bytes(), message);
         assert!(rt;
-            ends_over_a_fuse(alloc, calls, status, answers, message)?,
+            ends_over_a_fuse(rt.alloc(), &files, calls, ASK, end)?,
             "at {calls}"
+        );
+    }
+    for (line, broken, room, status, answers, message) in FAULTS {
+        files[2] = ("labels", WHOLE, broken);
+        let end = (status, answers.as_bytes(), message);
+        assert!(rt;
+            ends(rt.alloc(), &files, 1, line, (room, 64), end)?,
+            "at {line:?}"
         );
     }
     Ok(())

@@ -1,22 +1,23 @@
-// Calls of the program over files in memory. `run` is called here alone, once for each kind of shelf.
+// Calls of the program over files in memory.
 ghost use Rattle.std.specs.Prelude.{◌≤◌};
 
 use std::alloc::{AllocError, Global};
-use wf_io::{FuseShelf, MemFile, MemShelf, MemSink, PlainFile, PlainShelf, PlainSink};
+use wf_io::{FuseShelf, MemFile, MemShelf, MemSink, PlainFile, PlainShelf, PlainSink, Shelf};
 use wf_model::{Name, Seq};
+use wf_top::Status::ReadFault;
 use wf_top::{Status, run};
+
+/// What a file of a shelf is: its name, its bytes, and whether reading past them fails.
+pub type Filed<'a> = (&'a str, &'a [u8], bool);
+
+/// How a call ends: its status, and what it puts into out and into err.
+pub type End<'a> = (Status, &'a [u8], &'a str);
 
 fn name(alloc: Global, text: &str) -> Result<Name, AllocError> {
     Ok(Name::from_vec(Vec::from_slice(alloc, text.as_bytes())?))
 }
 
-/// A file of this name and these bytes, and whether reading past them fails.
-pub fn file(
-    alloc: Global,
-    called: &str,
-    bytes: &[u8],
-    broken: bool,
-) -> Result<MemFile, AllocError> {
+fn file(alloc: Global, (called, bytes, broken): Filed) -> Result<MemFile, AllocError> {
     Ok(MemFile {
         name: name(alloc, called)?,
         bytes: Seq::from_vec(Vec::from_slice(alloc, bytes)?),
@@ -24,27 +25,13 @@ pub fn file(
     })
 }
 
-/// A shelf of files of these names and texts, read in pieces of so many bytes.
-pub fn shelf_of(alloc: Global, texts: &[(&str, &str)], piece: u32) -> Result<MemShelf, AllocError>
-    requires { 1 ≤ piece }
-{
-    let mut files = Vec::new(alloc);
-    for (called, text) in texts {
-        files.push(file(alloc, called, text.as_bytes(), false)?)?;
-    }
-    Ok(MemShelf::new(Seq::from_vec(files), piece))
-}
-
-/// What a file of a shelf is: its name, its bytes, and whether reading past them fails.
-pub type Filed<'a> = (&'a str, &'a [u8], bool);
-
 /// A shelf of such files, read in pieces of so many bytes.
-pub fn filed(alloc: Global, files: &[Filed], piece: u32) -> Result<MemShelf, AllocError>
+fn shelf_of(alloc: Global, files: &[Filed], piece: u32) -> Result<MemShelf, AllocError>
     requires { 1 ≤ piece }
 {
     let mut list = Vec::new(alloc);
-    for (called, bytes, broken) in files {
-        list.push(file(alloc, called, bytes, *broken)?)?;
+    for filed in files {
+        list.push(file(alloc, *filed)?)?;
     }
     Ok(MemShelf::new(Seq::from_vec(list), piece))
 }
@@ -57,59 +44,63 @@ fn words<'a>(alloc: Global, line: &'a str) -> Result<Vec<&'a str>, AllocError> {
     Ok(words)
 }
 
-/// How a call ended: its status, and what it put into out and into err.
-#[derive(Drop)]
-pub struct Ended {
-    pub status: Status,
-    pub out: MemSink,
-    pub err: MemSink,
-}
-
-impl Ended {
-    /// Whether the call ended so.
-    pub fn is(&self, status: Status, out: &[u8], err: &[u8]) -> bool {
-        self.status == status && self.out.bytes() == out && self.err.bytes() == err
-    }
-}
-
-/// Calls the program with these words, over sinks with room for so many bytes.
-pub fn called_with(
+/// Whether a call with these words, over sinks with room for so many bytes, ends so.
+fn ends_over<H: Shelf>(
     alloc: Global,
-    shelf: &mut MemShelf,
+    shelf: &mut H,
     words: &[&str],
     rooms: (usize, usize),
-) -> Result<Ended, AllocError> {
+    (status, text, message): End,
+) -> Result<bool, AllocError> {
     let mut out = MemSink::new(alloc, rooms.0)?;
     let mut err = MemSink::new(alloc, rooms.1)?;
-    let status = run(alloc, words, shelf, &mut out, &mut err);
-    Ok(Ended { status, out, err })
+    let found = run(alloc, words, shelf, &mut out, &mut err);
+    Ok(found == status && out.bytes() == text && err.bytes() == message.as_bytes())
+}
+
+/// Whether a call with these words, over files that come in pieces of so many bytes, and sinks with room for so many, ends so. The shelf fails once where a fault of reading ends the call, and else never.
+pub fn ends_with(
+    alloc: Global,
+    files: &[Filed],
+    piece: u32,
+    words: &[&str],
+    rooms: (usize, usize),
+    end: End,
+) -> Result<bool, AllocError>
+    requires { 1 ≤ piece }
+{
+    let mut shelf = shelf_of(alloc, files, piece)?;
+    let is_so = ends_over(alloc, &mut shelf, words, rooms, end)?;
+    Ok(is_so && shelf.faults() == u64::from(end.0 == ReadFault))
 }
 
 /// The same with the words of a line.
-pub fn called(
+pub fn ends(
     alloc: Global,
-    shelf: &mut MemShelf,
+    files: &[Filed],
+    piece: u32,
     line: &str,
     rooms: (usize, usize),
-) -> Result<Ended, AllocError> {
+    end: End,
+) -> Result<bool, AllocError>
+    requires { 1 ≤ piece }
+{
     let words = words(alloc, line)?;
-    called_with(alloc, shelf, &words, rooms)
+    ends_with(alloc, files, piece, &words, rooms, end)
 }
 
-/// The same over a shelf that passes so many calls on, and then fails.
-pub fn called_over_a_fuse(
+/// The same over a shelf that passes so many calls on, each of them for at most 4,096 bytes, and then fails.
+pub fn ends_over_a_fuse(
     alloc: Global,
-    shelf: MemShelf,
+    files: &[Filed],
     calls: u64,
     line: &str,
-    rooms: (usize, usize),
-) -> Result<Ended, AllocError> {
+    end: End,
+) -> Result<bool, AllocError> {
     let words = words(alloc, line)?;
-    let mut shelf = FuseShelf::new(shelf, calls);
-    let mut out = MemSink::new(alloc, rooms.0)?;
-    let mut err = MemSink::new(alloc, rooms.1)?;
-    let status = run(alloc, &words, &mut shelf, &mut out, &mut err);
-    Ok(Ended { status, out, err })
+    let mut shelf = FuseShelf::new(shelf_of(alloc, files, 4096)?, calls);
+    let is_so = ends_over(alloc, &mut shelf, &words, (64, 64), end)?;
+    Ok(is_so && shelf.faults() == u64::from(end.0 == ReadFault))
 }
 
 /// A shelf of plain files of these names and texts.
@@ -136,4 +127,20 @@ pub fn plainly_called(
     let words = words(alloc, line)?;
     let status = run(alloc, &words, &mut shelf, &mut out, &mut err);
     Ok((status, out.length(), err.length()))
+}
+
+/// A text that begins so, then a letter so many times, and this behind it.
+pub fn filled(
+    alloc: Global,
+    before: &str,
+    letter: u8,
+    count: usize,
+    behind: &str,
+) -> Result<Vec<u8>, AllocError> {
+    let mut letters = Vec::new(alloc);
+    letters.resize(count, letter)?;
+    let mut bytes = Vec::from_slice(alloc, before.as_bytes())?;
+    bytes.extend_from_slice(&letters)?;
+    bytes.extend_from_slice(behind.as_bytes())?;
+    Ok(bytes)
 }

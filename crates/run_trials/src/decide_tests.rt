@@ -1,8 +1,7 @@
 // Two labels under a view, worked by hand: words that are no labels, and bytes that are none.
 //
 // Of LINE 20 is the label of the input, 60 that of the output, and B0 that of the edge.
-use crate::called::{called, called_with, shelf_of};
-use std::alloc::{AllocError, Global};
+use crate::called::{Filed, ends, ends_with};
 use std::test::Fail;
 use wf_samples::LINE;
 use wf_top::Status;
@@ -72,35 +71,23 @@ const ROWS: [(&str, Status, &str); 24] = [
     ("decide spec view bO b0", Usage, USAGE),
 ];
 
-/// The files of a shelf.
-const FILES: [(&str, &str); 3] = [("spec", LINE), ("view", "{}"), ("empty", "")];
-
-/// Whether a call ends so, and puts nothing into out.
-fn ends_so(alloc: Global, line: &str, status: Status, message: &str) -> Result<bool, AllocError> {
-    let mut shelf = shelf_of(alloc, &FILES, 7)?;
-    let ended = called(alloc, &mut shelf, line, (16, 64))?;
-    Ok(ended.is(status, b"", message.as_bytes()))
-}
-
 #[test]
 fn words_that_are_no_labels_are_refused(rt: HostRuntime) -> Result<(), Fail> {
+    let files: [Filed; 3] = [
+        ("spec", LINE.as_bytes(), false),
+        ("view", b"{}", false),
+        ("empty", b"", false),
+    ];
     for (line, status, message) in ROWS {
-        assert!(rt; ends_so(rt.alloc(), line, status, message)?, "at {line:?}");
+        let end = (status, b"".as_slice(), message);
+        assert!(rt;
+            ends(rt.alloc(), &files, 7, line, (16, 64), end)?,
+            "at {line:?}"
+        );
     }
-    Ok(())
-}
-
-/// Whether a word of no digits is refused as a label.
-fn is_no_label(alloc: Global) -> Result<bool, AllocError> {
-    let mut shelf = shelf_of(alloc, &FILES, 7)?;
+    // A word of no digits tells no bytes, which are no label.
     let words = ["decide", "spec", "view", "60", ""];
-    let ended = called_with(alloc, &mut shelf, &words, (16, 64))?;
-    Ok(ended.is(Refused, b"", b"refused: label 2: Malformed\n"))
-}
-
-/// A word of no digits tells no bytes, which are no label.
-#[test]
-fn no_bytes_are_no_label(rt: HostRuntime) -> Result<(), Fail> {
-    assert!(rt; is_no_label(rt.alloc())?);
+    let end = (Refused, b"".as_slice(), "refused: label 2: Malformed\n");
+    assert!(rt; ends_with(rt.alloc(), &files, 7, &words, (16, 64), end)?);
     Ok(())
 }

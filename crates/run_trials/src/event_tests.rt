@@ -1,8 +1,9 @@
 // Lines of events that are refused, each for the first fault in the order of trial, with a later fault present too; and reports that are held, repeated or contradicted.
-use crate::called::{Filed, called, filed};
+use crate::called::{Filed, ends, filled};
 use std::alloc::{AllocError, Global};
 use std::test::Fail;
 use wf_samples::LOOP;
+use wf_top::Status::Refused;
 
 /// Two lines that are taken.
 const TAKEN: &str = "{\"start\":\"r\"}\n{\"expand\":\"r\",\"production\":0,\"names\":[\"l0\"]}\n";
@@ -90,21 +91,17 @@ const ROWS: [(&str, &str, &str, &str); 16] = [
     ),
 ];
 
-/// Whether events are refused with this line.
-fn are_refused(alloc: Global, events: &[u8], line: &str) -> Result<bool, AllocError> {
+/// Whether events are refused for this fault, behind no text.
+fn are_refused(alloc: Global, events: &[u8], fault: &str) -> Result<bool, AllocError> {
     let files: [Filed; 3] = [
         ("spec", LOOP.as_bytes(), false),
         ("view", b"{}", false),
         ("events", events, false),
     ];
-    let mut shelf = filed(alloc, &files, 65536)?;
-    let ended = called(
-        alloc,
-        &mut shelf,
-        "trace spec view events queries",
-        (64, 64),
-    )?;
-    Ok(ended.err.bytes() == line.as_bytes())
+    let message = format!(in alloc; "refused: events{fault}\n")?;
+    let end = (Refused, b"".as_slice(), message.as_str());
+    let line = "trace spec view events queries";
+    ends(alloc, &files, 65536, line, (64, 64), end)
 }
 
 /// Whether an event between others is refused for this fault.
@@ -116,24 +113,13 @@ fn is_refused(
     fault: &str,
 ) -> Result<bool, AllocError> {
     let text = format!(in alloc; "{before}{event}\n{behind}\n")?;
-    let line = format!(in alloc; "refused: events{fault}\n")?;
-    are_refused(alloc, text.as_bytes(), &line)
-}
-
-/// A start event, and a line of so many bytes that are no JSON.
-fn with_long_line(alloc: Global, size: usize) -> Result<Vec<u8>, AllocError> {
-    let mut line = Vec::new(alloc);
-    line.resize(size, b'x')?;
-    let mut bytes = Vec::from_slice(alloc, b"{\"start\":\"r\"}\n")?;
-    bytes.extend_from_slice(&line)?;
-    Ok(bytes)
+    are_refused(alloc, text.as_bytes(), fault)
 }
 
 /// Whether a line of so many bytes behind a start event is refused for this fault.
 fn is_long_refused(alloc: Global, size: usize, fault: &str) -> Result<bool, AllocError> {
-    let events = with_long_line(alloc, size)?;
-    let line = format!(in alloc; "refused: events line 2: {fault}\n")?;
-    are_refused(alloc, &events, &line)
+    let events = filled(alloc, "{\"start\":\"r\"}\n", b'x', size, "")?;
+    are_refused(alloc, &events, fault)
 }
 
 #[test]
@@ -144,7 +130,7 @@ fn the_first_refused_event_is_told(rt: HostRuntime) -> Result<(), Fail> {
             "at {event:?}"
         );
     }
-    for (size, fault) in [(65536, "NotJson"), (65537, "LineTooLong")] {
+    for (size, fault) in [(65536, " line 2: NotJson"), (65537, " line 2: LineTooLong")] {
         assert!(rt; is_long_refused(rt.alloc(), size, fault)?, "at {size}");
     }
     Ok(())

@@ -1,10 +1,8 @@
 // Lines of EVENTS and QUERIES of the greatest length and of one byte more, and files that break at their first byte, in a line and between lines.
-use crate::called::{called, file};
+use crate::called::{End, Filed, ends, filled};
 use crate::worked::{EVENTS, HEAD, START, WHOLE};
 use std::alloc::{AllocError, Global};
 use std::test::Fail;
-use wf_io::MemShelf;
-use wf_model::Seq;
 use wf_samples::LINE;
 use wf_top::Status;
 use wf_top::Status::{Done, ReadFault, Refused};
@@ -86,102 +84,83 @@ const QUERIES_CUT: [(&str, &str); 6] = [
     ("r.a r.b\nr.b r.a\nr.a i1.y", "yes\nno\n"),
 ];
 
-/// Whether a call ends so over these events and queries, each with whether reading past it fails.
-fn ends_so(
+/// The calls that read events to their end, or queries.
+const INGEST: &str = "ingest spec events";
+
+const ASK: &str = "ask spec view labels queries";
+
+const TRACE: &str = "trace spec view events queries";
+
+/// Whether two calls end so over these events and queries, each with whether reading past it fails.
+fn both_end(
     alloc: Global,
-    line: &str,
     events: (&[u8], bool),
     queries: (&[u8], bool),
-    end: (Status, &[u8], &str),
+    calls: [(&str, End); 2],
 ) -> Result<bool, AllocError> {
-    let mut files = Vec::new(alloc);
-    files.push(file(alloc, "spec", LINE.as_bytes(), false)?)?;
-    files.push(file(alloc, "view", b"{}", false)?)?;
-    files.push(file(alloc, "labels", WHOLE, false)?)?;
-    files.push(file(alloc, "events", events.0, events.1)?)?;
-    files.push(file(alloc, "queries", queries.0, queries.1)?)?;
-    let mut shelf = MemShelf::new(Seq::from_vec(files), 10000);
-    let ended = called(alloc, &mut shelf, line, (64, 64))?;
-    Ok(ended.is(end.0, end.1, end.2.as_bytes()))
+    let files: [Filed; 5] = [
+        ("spec", LINE.as_bytes(), false),
+        ("view", b"{}", false),
+        ("labels", WHOLE, false),
+        ("events", events.0, events.1),
+        ("queries", queries.0, queries.1),
+    ];
+    let [(first, first_end), (second, second_end)] = calls;
+    let is_first = ends(alloc, &files, 10000, first, (64, 64), first_end)?;
+    let is_second = ends(alloc, &files, 10000, second, (64, 64), second_end)?;
+    Ok(is_first && is_second)
 }
 
 /// Whether events end `ingest` so, with this text, and `trace` so, which answers a query where they are taken to their end.
 fn events_end_so(
     alloc: Global,
     events: (&[u8], bool),
-    end: (Status, &[u8], &str),
+    (status, labels, message): End,
 ) -> Result<bool, AllocError> {
-    let queries = (b"r.a r.b\n".as_slice(), false);
-    let answer = if end.0 == Done {
+    let answer = if status == Done {
         b"yes\n".as_slice()
     } else {
         b"".as_slice()
     };
-    let labelled = ends_so(alloc, "ingest spec events", events, queries, end)?;
-    let traced = ends_so(
-        alloc,
-        "trace spec view events queries",
-        events,
-        queries,
-        (end.0, answer, end.2),
-    )?;
-    Ok(labelled && traced)
+    let calls = [
+        (INGEST, (status, labels, message)),
+        (TRACE, (status, answer, message)),
+    ];
+    both_end(alloc, events, (b"r.a r.b\n", false), calls)
 }
 
 /// Whether queries end `ask` and `trace` so, with these answers.
-fn queries_end_so(
-    alloc: Global,
-    queries: (&[u8], bool),
-    end: (Status, &[u8], &str),
-) -> Result<bool, AllocError> {
-    let events = (EVENTS.as_bytes(), false);
-    let asked = ends_so(alloc, "ask spec view labels queries", events, queries, end)?;
-    let traced = ends_so(
+fn queries_end_so(alloc: Global, queries: (&[u8], bool), end: End) -> Result<bool, AllocError> {
+    both_end(
         alloc,
-        "trace spec view events queries",
-        events,
+        (EVENTS.as_bytes(), false),
         queries,
-        end,
-    )?;
-    Ok(asked && traced)
+        [(ASK, end), (TRACE, end)],
+    )
 }
 
-/// A start event of so many bytes, of which the most are blanks, and this behind it.
-fn long_event(alloc: Global, size: usize, behind: &str) -> Result<Vec<u8>, AllocError> {
-    let mut bytes = Vec::from_slice(alloc, b"{\"start\":\"r\"")?;
-    bytes.resize(size.saturating_sub(1), b' ')?;
-    bytes.push(b'}')?;
-    bytes.extend_from_slice(behind.as_bytes())?;
-    Ok(bytes)
-}
-
-/// A query, a line of so many letters, and this behind it.
-fn long_query(alloc: Global, size: usize, behind: &str) -> Result<Vec<u8>, AllocError> {
-    let mut letters = Vec::new(alloc);
-    letters.resize(size, b'a')?;
-    let mut bytes = Vec::from_slice(alloc, b"r.a r.b\n")?;
-    bytes.extend_from_slice(&letters)?;
-    bytes.extend_from_slice(behind.as_bytes())?;
-    Ok(bytes)
+/// Whether a start event of so many bytes, of which the most are blanks, ends calls so with this behind it, and so does a line of so many letters behind a query.
+fn long_lines_end_so(
+    alloc: Global,
+    size: usize,
+    behind: &str,
+    broken: bool,
+    end: (Status, &[u8], &str, Status, &str),
+) -> Result<bool, AllocError> {
+    let blanks = size.saturating_sub(13);
+    let behind_event = format!(in alloc; "}}{behind}")?;
+    let events = filled(alloc, "{\"start\":\"r\"", b' ', blanks, &behind_event)?;
+    let queries = filled(alloc, "r.a r.b\n", b'a', size, behind)?;
+    let events_so = events_end_so(alloc, (&events, broken), (end.0, end.1, end.2))?;
+    let queries_so = queries_end_so(alloc, (&queries, broken), (end.3, b"yes\n", end.4))?;
+    Ok(events_so && queries_so)
 }
 
 #[test]
 fn long_lines_end_as_they_should(rt: HostRuntime) -> Result<(), Fail> {
-    let answered = b"yes\n".as_slice();
     for (size, behind, broken, end) in LONG {
-        let alloc = rt.alloc();
-        let events = long_event(alloc, size, behind)?;
         assert!(rt;
-            events_end_so(alloc, (events.as_slice(), broken), (end.0, end.1, end.2))?,
-            "at {size} and {behind:?}"
-        );
-        let queries = long_query(alloc, size, behind)?;
-        assert!(rt;
-            queries_end_so(
-                alloc,
-                (queries.as_slice(), broken),
-                (end.3, answered, end.4)
-            )?,
+            long_lines_end_so(rt.alloc(), size, behind, broken, end)?,
             "at {size} and {behind:?}"
         );
     }

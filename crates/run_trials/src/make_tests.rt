@@ -1,11 +1,13 @@
 // `export`, `gen` and `drill`, worked by hand or by another program.
-use crate::called::{called, shelf_of};
+use crate::called::{Filed, ends};
 use crate::worked::EVENTS;
 use std::alloc::{AllocError, Global};
 use std::test::Fail;
 use wf_samples::{FORKING, LINE, PAIR, ROTATING, TWISTING};
 use wf_top::Status;
 use wf_top::Status::{Done, Usage, WriteFault};
+
+const EXPORT: &str = "export spec view events";
 
 /// A module with one input and no productions.
 const DOT: &str = r#"{"start":"S","modules":[{"name":"S","in":["a"]}]}"#;
@@ -150,92 +152,60 @@ const WORDS: [&str; 19] = [
     "drill none none 1 -0",
 ];
 
-/// Whether a call over these files, with room in `out` for so many bytes, ends so and puts this.
-fn ends_so(
-    alloc: Global,
-    files: &[(&str, &str)],
-    line: &str,
-    room: usize,
-    status: Status,
-    out: &[u8],
-    err: &[u8],
-) -> Result<bool, AllocError> {
-    let mut shelf = shelf_of(alloc, files, 1000)?;
-    let ended = called(alloc, &mut shelf, line, (room, 64))?;
-    Ok(ended.is(status, out, err))
+/// The files of a call.
+fn filed<'a>(spec: &'a str, view: &'a str, events: &'a str) -> [Filed<'a>; 3] {
+    [
+        ("spec", spec.as_bytes(), false),
+        ("view", view.as_bytes(), false),
+        ("events", events.as_bytes(), false),
+    ]
 }
 
-fn is_exported(
-    alloc: Global,
-    spec: &str,
-    view: &str,
-    events: &str,
-    text: &str,
-) -> Result<bool, AllocError> {
-    let files = [("spec", spec), ("view", view), ("events", events)];
-    let line = "export spec view events";
-    ends_so(alloc, &files, line, 1000, Done, text.as_bytes(), b"")
+/// Whether a call over these files puts this text.
+fn puts(alloc: Global, files: &[Filed], line: &str, text: &str) -> Result<bool, AllocError> {
+    ends(
+        alloc,
+        files,
+        1000,
+        line,
+        (1000, 64),
+        (Done, text.as_bytes(), ""),
+    )
 }
 
 #[test]
-fn runs_are_exported(rt: HostRuntime) -> Result<(), Fail> {
+fn runs_are_exported_generated_and_drilled(rt: HostRuntime) -> Result<(), Fail> {
     for (spec, view, events, text) in EXPORTS {
-        assert!(rt;
-            is_exported(rt.alloc(), spec, view, events, text)?,
-            "at {text:?}"
-        );
+        let files = filed(spec, view, events);
+        assert!(rt; puts(rt.alloc(), &files, EXPORT, text)?, "at {text:?}");
     }
-    Ok(())
-}
-
-fn is_made(
-    alloc: Global,
-    spec: &str,
-    view: &str,
-    line: &str,
-    text: &str,
-) -> Result<bool, AllocError> {
-    let files = [("spec", spec), ("view", view)];
-    ends_so(alloc, &files, line, 1000, Done, text.as_bytes(), b"")
-}
-
-#[test]
-fn runs_are_generated_and_drilled(rt: HostRuntime) -> Result<(), Fail> {
     for (spec, view, line, text) in RUNS {
-        assert!(rt; is_made(rt.alloc(), spec, view, line, text)?, "at {line:?}");
+        let files = filed(spec, view, "");
+        assert!(rt; puts(rt.alloc(), &files, line, text)?, "at {line:?}");
     }
     Ok(())
-}
-
-fn is_no_call(alloc: Global, line: &str) -> Result<bool, AllocError> {
-    let message = b"usage: wfprov COMMAND WORDS\n";
-    ends_so(alloc, &[], line, 16, Usage, b"", message)
 }
 
 #[test]
 fn words_that_are_no_numbers_are_no_call(rt: HostRuntime) -> Result<(), Fail> {
+    let end = (Usage, b"".as_slice(), "usage: wfprov COMMAND WORDS\n");
     for line in WORDS {
-        assert!(rt; is_no_call(rt.alloc(), line)?, "at {line:?}");
+        assert!(rt;
+            ends(rt.alloc(), &[], 1000, line, (16, 64), end)?,
+            "at {line:?}"
+        );
     }
     Ok(())
 }
 
 /// Whether `export` of a run of LINE puts the first bytes of its text where `out` has room for no more.
 fn is_cut(alloc: Global, text: &str, room: usize) -> Result<bool, AllocError> {
-    let files = [("spec", LINE), ("view", "{}"), ("events", EVENTS)];
-    let line = "export spec view events";
+    let files = filed(LINE, "{}", EVENTS);
     let Some(begun) = text.as_bytes().get(..room) else {
         return Ok(false);
     };
-    ends_so(
-        alloc,
-        &files,
-        line,
-        room,
-        WriteFault,
-        begun,
-        b"fault: writing\n",
-    )
+    let end = (WriteFault, begun, "fault: writing\n");
+    ends(alloc, &files, 1000, EXPORT, (room, 64), end)
 }
 
 #[test]

@@ -1,9 +1,8 @@
 // Worked calls into sinks of each room, and over files that come in pieces of each size, one byte a call among them.
-use crate::called::{Filed, called, filed};
+use crate::called::{Filed, ends};
 use crate::worked::{EVENTS, WHOLE};
 use std::alloc::{AllocError, Global};
 use std::test::Fail;
-use wf_io::MemShelf;
 use wf_samples::LINE;
 use wf_top::Status;
 use wf_top::Status::{Done, ReadFault, WriteFault};
@@ -50,9 +49,9 @@ const CALLS: [(&str, &[u8], Status, &str); 7] = [
     ),
 ];
 
-/// A shelf of which a call reads at most so many bytes.
-fn shelf(alloc: Global, piece: u32) -> Result<MemShelf, AllocError> {
-    let files: [Filed; 7] = [
+/// The files of the calls.
+fn filed() -> [Filed<'static>; 7] {
+    [
         ("spec", LINE.as_bytes(), false),
         ("view", b"{}", false),
         ("labels", WHOLE, false),
@@ -60,17 +59,15 @@ fn shelf(alloc: Global, piece: u32) -> Result<MemShelf, AllocError> {
         ("events-cut", EVENTS_CUT.as_bytes(), true),
         ("queries", QUERIES.as_bytes(), false),
         ("queries-cut", QUERIES_CUT.as_bytes(), true),
-    ];
-    filed(alloc, &files, piece.max(1))
+    ]
 }
 
 /// Whether a call into a sink of so many bytes ends with the first ones of its text, before any fault of reading.
 fn puts_first(alloc: Global, line: &str, text: &[u8], room: usize) -> Result<bool, AllocError> {
-    let mut shelf = shelf(alloc, 11)?;
-    let ended = called(alloc, &mut shelf, line, (room, 64))?;
     match text.get(..room) {
         Some(first) => {
-            Ok(ended.is(WriteFault, first, b"fault: writing\n") && shelf.faults() == 0)
+            let end = (WriteFault, first, "fault: writing\n");
+            ends(alloc, &filed(), 11, line, (room, 64), end)
         }
         None => Ok(false),
     }
@@ -92,26 +89,14 @@ fn a_full_device_has_the_first_bytes(rt: HostRuntime) -> Result<(), Fail> {
 /// How many bytes a call of the shelf reads at most.
 const PIECES: [u32; 8] = [1, 2, 3, 7, 12, 35, 58, 65536];
 
-/// Whether a call over pieces of so many bytes puts its text, which just has room, and ends so.
-fn ends_so(
-    alloc: Global,
-    piece: u32,
-    line: &str,
-    text: &[u8],
-    status: Status,
-    message: &str,
-) -> Result<bool, AllocError> {
-    let mut shelf = shelf(alloc, piece)?;
-    let ended = called(alloc, &mut shelf, line, (text.len(), 64))?;
-    Ok(ended.is(status, text, message.as_bytes()))
-}
-
 #[test]
 fn pieces_of_each_size_have_one_text(rt: HostRuntime) -> Result<(), Fail> {
     for (line, text, status, message) in CALLS {
         for piece in PIECES {
+            let rooms = (text.len(), 64);
+            let end = (status, text, message);
             assert!(rt;
-                ends_so(rt.alloc(), piece, line, text, status, message)?,
+                ends(rt.alloc(), &filed(), piece.max(1), line, rooms, end)?,
                 "at {line:?} and {piece}"
             );
         }

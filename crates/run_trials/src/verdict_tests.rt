@@ -1,6 +1,5 @@
 // Verdicts on labels of four grammars, each worked by hand or by another program. The chain numbers reach the greatest, 2^24 - 1.
-use crate::called::{called, shelf_of};
-use std::alloc::{AllocError, Global};
+use crate::called::{Filed, ends};
 use std::test::Fail;
 use wf_samples::{FORKING, PAIR, ROTATING, TWISTING};
 use wf_top::Status::Done;
@@ -130,24 +129,16 @@ const ROWS: [(&str, &str, &str, &str); 41] = [
     (PAIR, "{}", "decide spec view 20 80000f424060", "yes\n"),
 ];
 
-/// Whether the verdict on the labels of a line is this text.
-fn is_verdict(
-    alloc: Global,
-    spec: &str,
-    view: &str,
-    line: &str,
-    text: &str,
-) -> Result<bool, AllocError> {
-    let mut shelf = shelf_of(alloc, &[("spec", spec), ("view", view)], 1024)?;
-    let ended = called(alloc, &mut shelf, line, (16, 16))?;
-    Ok(ended.is(Done, text.as_bytes(), b""))
-}
-
 #[test]
 fn labels_have_verdicts(rt: HostRuntime) -> Result<(), Fail> {
     for (spec, view, line, text) in ROWS {
+        let files: [Filed; 2] = [
+            ("spec", spec.as_bytes(), false),
+            ("view", view.as_bytes(), false),
+        ];
+        let end = (Done, text.as_bytes(), "");
         assert!(rt;
-            is_verdict(rt.alloc(), spec, view, line, text)?,
+            ends(rt.alloc(), &files, 1024, line, (16, 16), end)?,
             "at {line:?}"
         );
     }

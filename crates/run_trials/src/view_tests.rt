@@ -1,6 +1,5 @@
 // The texts of views, and views that are refused, each worked by hand.
-use crate::called::{called, plainly_called, shelf_of};
-use std::alloc::{AllocError, Global};
+use crate::called::{Filed, ends};
 use std::test::Fail;
 use wf_samples::{LINE, TWISTING};
 use wf_top::Status;
@@ -66,37 +65,18 @@ const ROWS: [(&str, &str, usize, Status, &str, &str); 7] = [
     ),
 ];
 
-/// Whether the command `view` ends so, with room for so many bytes on out.
-fn ends_so(
-    alloc: Global,
-    spec: &str,
-    view: &str,
-    room: usize,
-    status: Status,
-    text: &str,
-    message: &str,
-) -> Result<bool, AllocError> {
-    let mut shelf = shelf_of(alloc, &[("spec", spec), ("view", view)], 7)?;
-    let ended = called(alloc, &mut shelf, "view spec view", (room, 128))?;
-    Ok(ended.is(status, text.as_bytes(), message.as_bytes()))
-}
-
 #[test]
 fn views_are_written_or_refused(rt: HostRuntime) -> Result<(), Fail> {
     for (spec, view, room, status, text, message) in ROWS {
-        let alloc = rt.alloc();
+        let files: [Filed; 2] = [
+            ("spec", spec.as_bytes(), false),
+            ("view", view.as_bytes(), false),
+        ];
+        let end = (status, text.as_bytes(), message);
         assert!(rt;
-            ends_so(alloc, spec, view, room, status, text, message)?,
+            ends(rt.alloc(), &files, 7, "view spec view", (room, 128), end)?,
             "at {view:?}"
         );
     }
-    Ok(())
-}
-
-#[test]
-fn plain_files_have_views(rt: HostRuntime) -> Result<(), Fail> {
-    let files = [("spec", TWISTING), ("view", "{}")];
-    let ended = plainly_called(rt.alloc(), &files, "view spec view")?;
-    assert_eq!(rt; ended, (Done, 86, 0));
     Ok(())
 }

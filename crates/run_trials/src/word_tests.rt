@@ -1,12 +1,9 @@
 // The program over files in memory, with outputs that were worked by hand.
-ghost use Rattle.std.specs.Prelude.{◌≤◌};
-
-use crate::called::{called, file, plainly_called};
+use crate::called::{Filed, ends, plainly_called};
+use crate::worked::GROWN_WITH_VERSIONS;
 use std::alloc::{AllocError, Global};
 use std::test::Fail;
-use wf_io::MemShelf;
-use wf_model::Seq;
-use wf_samples::{LINE, LOOP, PAIR};
+use wf_samples::{GROWN, LINE, LOOP, PAIR, TWISTING};
 use wf_top::Status;
 use wf_top::Status::{Done, ReadFault, Refused, Usage, WriteFault};
 
@@ -41,6 +38,8 @@ const LOOP_QUERIES: &str = "r.a w0.y\nw0.y r.b\nr.a r.b\nr.b w0.y\nr.a w1.y\n";
 const PAIR_CHECKED: &str =
     "A rank 1 production 1 cycle 0 place 0 next 0 m\nB rank 1 production 3 cycle 0 place 1 next 2 m\n";
 
+const GROWN_CHECKED: &str = "S rank 2 production 0 cycle -\nQ rank 1 production 1 cycle -\n";
+
 /// An L is done by two L, one behind the other, or by a P.
 const TWO_LOOPS: &str =
     r#"{"start":"L","modules":[{"name":"L","in":["x"],"out":["y"]},{"name":"P","in":["x"],"out":["y"]}],"productions":[{"head":"L","body":[["l1","L"],["l2","L"]],"edges":[["l1.y","l2.x"]],"in":[["x","l1.x"]],"out":[["l2.y","y"]]},{"head":"L","body":[["w","P"]],"in":[["x","w.x"]],"out":[["w.y","y"]]}]}"#;
@@ -60,48 +59,41 @@ const QUERIES: &str = "r.a i1.y\ni1.y r.b\nr.b r.a\ni1.y i1.y\nr.a i2.y\n";
 const ANSWERS: &str = "yes\nyes\nno\nno\nunknown\n";
 
 /// The files of a shelf: the name, the bytes, and whether reading past them fails.
-const FILES: [(&str, &str, bool); 27] = [
-    ("spec", LINE, false),
-    ("view", "{}", false),
-    ("events", EVENTS, false),
-    ("queries", QUERIES, false),
-    ("spec-cut", LINE, true),
-    ("view-cut", "{}", true),
-    ("events-cut", EVENTS, true),
-    ("queries-cut", QUERIES, true),
-    ("queries-half", "r.a r.b\nr.", true),
-    ("twice-cut", TWICE, true),
-    ("empty", "", false),
-    ("inside-itself", INSIDE_ITSELF, false),
-    ("loosely", LINE_LOOSELY, false),
-    ("steps", STEPS, false),
-    ("dot", DOT, false),
-    ("loop", LOOP, false),
-    ("loop-events", LOOP_EVENTS, false),
-    ("loop-queries", LOOP_QUERIES, false),
-    ("pair", PAIR, false),
-    ("two-loops", TWO_LOOPS, false),
-    ("twice", TWICE, false),
-    (
-        "spaced-out",
-        "\n{\"start\":\"r\"}\n\r\n{\"start\":\"s\"}\nx",
-        false,
-    ),
-    ("view-of-none", "{\"expand\":[]}", false),
-    ("start-alone", "{\"start\":\"r\"}\n", false),
-    ("whole", "r.a r.b\n", false),
-    ("third-wrong", "r.a i1.y\nr.b r.a\nr.a\nr.a r.b\n", false),
-    ("two-ends", "r.a r.b\r\n\nr.b r.b", false),
-];
-
-fn shelf(alloc: Global, piece: u32) -> Result<MemShelf, AllocError>
-    requires { 1 ≤ piece }
-{
-    let mut files = Vec::new(alloc);
-    for (called, text, broken) in FILES {
-        files.push(file(alloc, called, text.as_bytes(), broken)?)?;
-    }
-    Ok(MemShelf::new(Seq::from_vec(files), piece))
+fn filed() -> [Filed<'static>; 28] {
+    [
+        ("spec", LINE.as_bytes(), false),
+        ("view", b"{}", false),
+        ("events", EVENTS.as_bytes(), false),
+        ("queries", QUERIES.as_bytes(), false),
+        ("spec-cut", LINE.as_bytes(), true),
+        ("view-cut", b"{}", true),
+        ("events-cut", EVENTS.as_bytes(), true),
+        ("queries-cut", QUERIES.as_bytes(), true),
+        ("queries-half", b"r.a r.b\nr.", true),
+        ("twice-cut", TWICE.as_bytes(), true),
+        ("empty", b"", false),
+        ("inside-itself", INSIDE_ITSELF.as_bytes(), false),
+        ("loosely", LINE_LOOSELY.as_bytes(), false),
+        ("steps", STEPS.as_bytes(), false),
+        ("dot", DOT.as_bytes(), false),
+        ("loop", LOOP.as_bytes(), false),
+        ("loop-events", LOOP_EVENTS.as_bytes(), false),
+        ("loop-queries", LOOP_QUERIES.as_bytes(), false),
+        ("pair", PAIR.as_bytes(), false),
+        ("grown", GROWN_WITH_VERSIONS.as_bytes(), false),
+        ("two-loops", TWO_LOOPS.as_bytes(), false),
+        ("twice", TWICE.as_bytes(), false),
+        (
+            "spaced-out",
+            b"\n{\"start\":\"r\"}\n\r\n{\"start\":\"s\"}\nx",
+            false,
+        ),
+        ("view-of-none", b"{\"expand\":[]}", false),
+        ("start-alone", b"{\"start\":\"r\"}\n", false),
+        ("whole", b"r.a r.b\n", false),
+        ("third-wrong", b"r.a i1.y\nr.b r.a\nr.a\nr.a r.b\n", false),
+        ("two-ends", b"r.a r.b\r\n\nr.b r.b", false),
+    ]
 }
 
 /// Each line: the words, the status, the text on out and the line on err.
@@ -304,157 +296,126 @@ const ROWS: [(&str, Status, &str, &str); 43] = [
     ),
 ];
 
-/// Whether a call ends so over a shelf that is read in pieces of so many bytes, and meets one fault of reading or none.
-fn ends_so(
-    alloc: Global,
-    piece: u32,
-    line: &str,
-    status: Status,
-    answers: &str,
-    message: &str,
-) -> Result<bool, AllocError>
-    requires { 1 ≤ piece }
-{
-    let mut shelf = shelf(alloc, piece)?;
-    let ended = called(alloc, &mut shelf, line, (128, 64))?;
-    let faults = u64::from(status == ReadFault);
-    let is_told = ended.is(status, answers.as_bytes(), message.as_bytes());
-    Ok(is_told && shelf.faults() == faults)
-}
-
 #[test]
 fn words_end_as_they_should(rt: HostRuntime) -> Result<(), Fail> {
+    let files = filed();
     for (line, status, answers, message) in ROWS {
-        let alloc = rt.alloc();
+        let end = (status, answers.as_bytes(), message);
         assert!(rt;
-            ends_so(alloc, 1, line, status, answers, message)?,
+            ends(rt.alloc(), &files, 1, line, (128, 64), end)?,
             "at {line:?}"
         );
         assert!(rt;
-            ends_so(alloc, 65536, line, status, answers, message)?,
+            ends(rt.alloc(), &files, 65536, line, (128, 64), end)?,
             "at {line:?}"
         );
     }
     Ok(())
 }
+
+/// Each line: the words, a canonical text, and the lines of its composite modules.
+const CHECKED: [(&str, &str, &str); 6] = [
+    ("check spec", LINE, LINE_CHECKED),
+    ("check loosely", LINE, LINE_CHECKED),
+    ("check steps", STEPS, STEPS_CHECKED),
+    ("check loop", LOOP, LOOP_CHECKED),
+    ("check pair", PAIR, PAIR_CHECKED),
+    ("check grown", GROWN, GROWN_CHECKED),
+];
 
 /// Whether `check` writes a canonical text and lines for its composite modules.
 fn is_checked(alloc: Global, line: &str, text: &str, lines: &str) -> Result<bool, AllocError> {
-    let mut shelf = shelf(alloc, 7)?;
-    let ended = called(alloc, &mut shelf, line, (1024, 64))?;
     let expected = format!(in alloc; "{text}\n{lines}")?;
-    Ok(ended.is(Done, expected.as_bytes(), b""))
+    let end = (Done, expected.as_bytes(), "");
+    ends(alloc, &filed(), 7, line, (1024, 64), end)
 }
 
+/// Each line: the words, the room on out and on err, the status, the text on out and what of its line is put on err.
+const FULL: [(&str, usize, usize, Status, &str, &str); 9] = [
+    (
+        "trace spec view events queries",
+        5,
+        64,
+        WriteFault,
+        "yes\ny",
+        "fault: writing\n",
+    ),
+    (
+        "trace spec view events queries",
+        0,
+        64,
+        WriteFault,
+        "",
+        "fault: writing\n",
+    ),
+    (
+        "check spec",
+        9,
+        64,
+        WriteFault,
+        "{\"start\":",
+        "fault: writing\n",
+    ),
+    (
+        "check inside-itself",
+        9,
+        24,
+        Refused,
+        "",
+        "refused: spec: Unproduct",
+    ),
+    (
+        "check inside-itself",
+        9,
+        29,
+        Refused,
+        "",
+        "refused: spec: Unproductive S",
+    ),
+    (
+        "trace spec view events third-wrong",
+        7,
+        64,
+        Refused,
+        "yes\nno\n",
+        "refused: queries line 3: LineWrong\n",
+    ),
+    (
+        "trace spec view queries queries",
+        5,
+        8,
+        Refused,
+        "",
+        "refused:",
+    ),
+    (
+        "trace spec view queries queries",
+        5,
+        11,
+        Refused,
+        "",
+        "refused: ev",
+    ),
+    (
+        "trace spec view events queries",
+        5,
+        3,
+        WriteFault,
+        "yes\ny",
+        "fau",
+    ),
+];
+
 #[test]
-fn check_writes_the_canonical_text_the_ranks_and_the_cycles(rt: HostRuntime) -> Result<(), Fail> {
-    let alloc = rt.alloc();
-    for (line, text, lines) in [
-        ("check spec", LINE, LINE_CHECKED),
-        ("check loosely", LINE, LINE_CHECKED),
-        ("check steps", STEPS, STEPS_CHECKED),
-        ("check loop", LOOP, LOOP_CHECKED),
-        ("check pair", PAIR, PAIR_CHECKED),
-    ] {
-        assert!(rt; is_checked(alloc, line, text, lines)?, "at {line:?}");
+fn texts_are_checked_and_sinks_may_be_full(rt: HostRuntime) -> Result<(), Fail> {
+    for (line, text, lines) in CHECKED {
+        assert!(rt; is_checked(rt.alloc(), line, text, lines)?, "at {line:?}");
     }
-    Ok(())
-}
-
-/// Whether a call ends so over sinks with room for so many bytes.
-fn ends_in(
-    alloc: Global,
-    line: &str,
-    rooms: (usize, usize),
-    status: Status,
-    answers: &str,
-    message: &str,
-) -> Result<bool, AllocError> {
-    let mut shelf = shelf(alloc, 7)?;
-    let ended = called(alloc, &mut shelf, line, rooms)?;
-    Ok(ended.is(status, answers.as_bytes(), message.as_bytes()))
-}
-
-#[test]
-fn sinks_may_be_full(rt: HostRuntime) -> Result<(), Fail> {
-    let alloc = rt.alloc();
-    for (line, out_room, err_room, status, answers, message) in [
-        (
-            "trace spec view events queries",
-            5,
-            64,
-            WriteFault,
-            "yes\ny",
-            "fault: writing\n",
-        ),
-        (
-            "trace spec view events queries",
-            0,
-            64,
-            WriteFault,
-            "",
-            "fault: writing\n",
-        ),
-        (
-            "check spec",
-            9,
-            64,
-            WriteFault,
-            "{\"start\":",
-            "fault: writing\n",
-        ),
-        (
-            "check inside-itself",
-            9,
-            24,
-            Refused,
-            "",
-            "refused: spec: Unproduct",
-        ),
-        (
-            "check inside-itself",
-            9,
-            29,
-            Refused,
-            "",
-            "refused: spec: Unproductive S",
-        ),
-        (
-            "trace spec view events third-wrong",
-            7,
-            64,
-            Refused,
-            "yes\nno\n",
-            "refused: queries line 3: LineWrong\n",
-        ),
-        (
-            "trace spec view queries queries",
-            5,
-            8,
-            Refused,
-            "",
-            "refused:",
-        ),
-        (
-            "trace spec view queries queries",
-            5,
-            11,
-            Refused,
-            "",
-            "refused: ev",
-        ),
-        (
-            "trace spec view events queries",
-            5,
-            3,
-            WriteFault,
-            "yes\ny",
-            "fau",
-        ),
-    ] {
-        let rooms = (out_room, err_room);
+    for (line, room, room_for_message, status, answers, message) in FULL {
+        let rooms = (room, room_for_message);
+        let end = (status, answers.as_bytes(), message);
         assert!(rt;
-            ends_in(alloc, line, rooms, status, answers, message)?,
+            ends(rt.alloc(), &filed(), 7, line, rooms, end)?,
             "at {line:?}"
         );
     }
@@ -469,7 +430,10 @@ fn plain_files_and_sinks_will_do(rt: HostRuntime) -> Result<(), Fail> {
         ("events", EVENTS),
         ("queries", QUERIES),
     ];
-    let ended = plainly_called(rt.alloc(), &files, "trace spec view events queries")?;
-    assert_eq!(rt; ended, (Done, 22, 0));
+    let traced = plainly_called(rt.alloc(), &files, "trace spec view events queries")?;
+    assert_eq!(rt; traced, (Done, 22, 0));
+    let files = [("spec", TWISTING), ("view", "{}")];
+    let viewed = plainly_called(rt.alloc(), &files, "view spec view")?;
+    assert_eq!(rt; viewed, (Done, 86, 0));
     Ok(())
 }

@@ -1,4 +1,4 @@
-// Label files of runs of the line grammar, with bytes that were worked by hand.
+// Label files of runs of the line grammar and of the loop grammar, with bytes that were worked by hand.
 
 /// The label file for no events: the head alone, four letters and the digest of the canonical text of the grammar.
 pub const HEAD: &[u8] =
@@ -15,3 +15,23 @@ pub const WHOLE: &[u8] =
 /// The events of that run.
 pub const EVENTS: &str =
     "{\"start\":\"r\"}\n{\"expand\":\"r\",\"production\":0,\"names\":[\"i1\",\"i2\"]}\n";
+
+/// The label file of a run of the loop grammar in which no L is expanded.
+pub const LOOP_START: &[u8] =
+    b"WFL1\x5f\x9a\x6e\x45\x74\x2e\x36\xa3\xa5\xa6\x1c\x59\x91\x6e\x7e\xc8\x44\x17\x9c\x12\xd8\x2c\xdc\x14\xf6\xef\xe8\x63\xa1\xb2\x81\x6d\x03r.a\x00\x01\x20\x03r.b\x00\x01\x60";
+
+/// The label file of a run of it that goes round once.
+pub const LOOP_ROUND: &[u8] =
+    b"WFL1\x5f\x9a\x6e\x45\x74\x2e\x36\xa3\xa5\xa6\x1c\x59\x91\x6e\x7e\xc8\x44\x17\x9c\x12\xd8\x2c\xdc\x14\xf6\xef\xe8\x63\xa1\xb2\x81\x6d\x03r.a\x00\x01\x20\x03r.b\x00\x01\x60\x04w0.y\x00\x01\xfb";
+
+/// The label file of a run of it that goes round twice.
+pub const LOOP_ROUNDS: &[u8] =
+    b"WFL1\x5f\x9a\x6e\x45\x74\x2e\x36\xa3\xa5\xa6\x1c\x59\x91\x6e\x7e\xc8\x44\x17\x9c\x12\xd8\x2c\xdc\x14\xf6\xef\xe8\x63\xa1\xb2\x81\x6d\x03r.a\x00\x01\x20\x03r.b\x00\x01\x60\x04w0.y\x00\x01\xfb\x04w1.y\x00\x02\xf4\xc0";
+
+/// The grammar `GROWN`, which names two versions: the line grammar, and its modules with no production.
+pub const GROWN_WITH_VERSIONS: &str =
+    r#"{"start":"S","modules":[{"name":"S","in":["a"],"out":["b"]},{"name":"P","in":["x"],"out":["y"]},{"name":"Q","in":["x"],"out":["y"]},{"name":"R","in":["x"],"out":["y"]}],"productions":[{"head":"S","body":[["u","P"],["v","Q"]],"edges":[["u.y","v.x"]],"in":[["a","u.x"]],"out":[["v.y","b"]]},{"head":"Q","body":[["z","R"]],"edges":[],"in":[["x","z.x"]],"out":[["z.y","y"]]}],"versions":[[3,1],[3,0]]}"#;
+
+/// The label file of a run of the second version.
+pub const UNDONE: &[u8] =
+    b"WFL1\xcd\x87\xaf\x7f\x1b\x39\x86\x77\xf1\x85\x08\xd6\xd0\x64\xd1\x34\x26\x56\xa8\xe9\xaa\x1d\xc1\x9c\x96\xc6\x05\xa0\x95\x6f\x36\x98\x03r.a\x00\x01\x20\x03r.b\x00\x01\x60";
