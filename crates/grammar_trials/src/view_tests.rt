@@ -283,9 +283,11 @@ fn is_made(
 ) -> Result<bool, Fail> {
     let v = made(alloc, g, flags, rows)?;
     let letters = expanded_and_seen(alloc, g, &v, b"SLWT")?;
-    Ok(letters.0.as_slice() == expanded.as_bytes()
-        && letters.1.as_slice() == seen.as_bytes()
-        && has_rows(g, &v, rows))
+    Ok(
+        letters.0.as_slice() == expanded.as_bytes()
+            && letters.1.as_slice() == seen.as_bytes()
+            && has_rows(g, &v, rows),
+    )
 }
 
 /// Whether flags and rows do not fit.
@@ -296,7 +298,10 @@ fn is_unfit(alloc: Global, g: &Grammar, flags: &[bool], rows: &[&[u64]]) -> Resu
 
 fn are_made(rt: &impl Abort, alloc: Global, g: &Grammar) -> Result<(), Fail> {
     for (flags, rows, expanded, seen) in FLAGS_AND_ROWS {
-        assert!(rt; is_made(alloc, g, &flags, &rows, expanded, seen)?, "at {rows:?}");
+        assert!(rt;
+            is_made(alloc, g, &flags, &rows, expanded, seen)?,
+            "at {rows:?}"
+        );
     }
     for (flags, rows) in UNFIT {
         assert!(rt; is_unfit(alloc, g, flags, rows)?, "at {rows:?}");
