@@ -92,11 +92,11 @@ const ASK: &str = "ask spec view labels queries";
 const TRACE: &str = "trace spec view events queries";
 
 /// Whether two calls end so over these events and queries, each with whether reading past it fails.
-fn both_end(
+fn both_end<'a>(
     alloc: Global,
-    events: (&[u8], bool),
-    queries: (&[u8], bool),
-    calls: [(&str, End); 2],
+    events: (&'a [u8], bool),
+    queries: (&'a [u8], bool),
+    calls: [(&'a str, End<'a>); 2],
 ) -> Result<bool, AllocError> {
     let files: [Filed; 5] = [
         ("spec", LINE.as_bytes(), false),
