@@ -91,51 +91,43 @@ const ASK: &str = "ask spec view labels queries";
 
 const TRACE: &str = "trace spec view events queries";
 
-/// Whether two calls end so over these events and queries, each with whether reading past it fails.
-fn both_end<'a>(
-    alloc: Global,
-    events: (&'a [u8], bool),
-    queries: (&'a [u8], bool),
-    calls: [(&'a str, End<'a>); 2],
-) -> Result<bool, AllocError> {
-    let files: [Filed; 5] = [
-        ("spec", LINE.as_bytes(), false),
-        ("view", b"{}", false),
-        ("labels", WHOLE, false),
-        ("events", events.0, events.1),
-        ("queries", queries.0, queries.1),
-    ];
-    let [(first, first_end), (second, second_end)] = calls;
-    let is_first = ends(alloc, &files, 10000, first, (64, 64), first_end)?;
-    let is_second = ends(alloc, &files, 10000, second, (64, 64), second_end)?;
-    Ok(is_first && is_second)
-}
-
-/// Whether events end `ingest` so, with this text, and `trace` so, which answers a query where they are taken to their end.
+/// Whether events, with whether reading past them fails, end `ingest` so, with this text, and `trace` so, which answers a query where they are taken to their end.
 fn events_end_so(
     alloc: Global,
     events: (&[u8], bool),
     (status, labels, message): End,
 ) -> Result<bool, AllocError> {
+    let files: [Filed; 4] = [
+        ("spec", LINE.as_bytes(), false),
+        ("view", b"{}", false),
+        ("events", events.0, events.1),
+        ("queries", b"r.a r.b\n", false),
+    ];
     let answer = if status == Done {
         b"yes\n".as_slice()
     } else {
         b"".as_slice()
     };
-    let calls = [
-        (INGEST, (status, labels, message)),
-        (TRACE, (status, answer, message)),
-    ];
-    both_end(alloc, events, (b"r.a r.b\n", false), calls)
+    let ingested = (status, labels, message);
+    let traced = (status, answer, message);
+    Ok(
+        ends(alloc, &files, 10000, INGEST, (64, 64), ingested)?
+            && ends(alloc, &files, 10000, TRACE, (64, 64), traced)?,
+    )
 }
 
-/// Whether queries end `ask` and `trace` so, with these answers.
+/// Whether queries, with whether reading past them fails, end `ask` and `trace` so, with these answers.
 fn queries_end_so(alloc: Global, queries: (&[u8], bool), end: End) -> Result<bool, AllocError> {
-    both_end(
-        alloc,
-        (EVENTS.as_bytes(), false),
-        queries,
-        [(ASK, end), (TRACE, end)],
+    let files: [Filed; 5] = [
+        ("spec", LINE.as_bytes(), false),
+        ("view", b"{}", false),
+        ("labels", WHOLE, false),
+        ("events", EVENTS.as_bytes(), false),
+        ("queries", queries.0, queries.1),
+    ];
+    Ok(
+        ends(alloc, &files, 10000, ASK, (64, 64), end)?
+            && ends(alloc, &files, 10000, TRACE, (64, 64), end)?,
     )
 }
 

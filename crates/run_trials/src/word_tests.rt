@@ -1,5 +1,5 @@
 // The program over files in memory, with outputs that were worked by hand.
-use crate::called::{Filed, ends, plainly_called};
+use crate::called::{End, Filed, ends, plainly_called};
 use crate::worked::GROWN_WITH_VERSIONS;
 use std::alloc::{AllocError, Global};
 use std::test::Fail;
@@ -296,19 +296,19 @@ const ROWS: [(&str, Status, &str, &str); 43] = [
     ),
 ];
 
+/// Whether a call ends so over files that come in pieces of one byte, and over whole ones.
+fn ends_in_any_pieces(alloc: Global, line: &str, end: End) -> Result<bool, AllocError> {
+    Ok(
+        ends(alloc, &filed(), 1, line, (128, 64), end)?
+            && ends(alloc, &filed(), 65536, line, (128, 64), end)?,
+    )
+}
+
 #[test]
 fn words_end_as_they_should(rt: HostRuntime) -> Result<(), Fail> {
-    let files = filed();
     for (line, status, answers, message) in ROWS {
         let end = (status, answers.as_bytes(), message);
-        assert!(rt;
-            ends(rt.alloc(), &files, 1, line, (128, 64), end)?,
-            "at {line:?}"
-        );
-        assert!(rt;
-            ends(rt.alloc(), &files, 65536, line, (128, 64), end)?,
-            "at {line:?}"
-        );
+        assert!(rt; ends_in_any_pieces(rt.alloc(), line, end)?, "at {line:?}");
     }
     Ok(())
 }
