@@ -14,7 +14,7 @@ ghost use Rattle.cmd_ingest.specs.Ingested.{file_head, file_of, WritesFile};
 
 use bumpalo::Bump;
 use std::alloc::Global;
-use wf_inputs::{EVENTS, INSTANCES, Reporting, Spec};
+use wf_inputs::{INSTANCES, Reporting, Spec, events_stop};
 use wf_intake::Grows;
 use wf_io::{Lines, Shelf, Sink};
 use wf_labeller::Labeller;
@@ -22,7 +22,6 @@ use wf_lines::{Due, take_lines};
 use wf_message::Stop;
 use wf_run::{NodeNo, Run};
 use wf_spec::{Event, Name, RunFault};
-use wf_stage::stop_of;
 
 /// A run whose items are labelled, and the entries of the items that the events of the last line made, as they stand in a label file.
 #[derive(Drop)]
@@ -161,6 +160,6 @@ pub fn label_events<H: Shelf, O: Sink>(
     let mut reporting = Reporting::new(alloc, key, &names, labelling);
     match take_lines(&mut reporting, &mut lines, &mut due, shelf, out) {
         Ok(_) => Ok(()),
-        Err(fault) => Err(stop_of(EVENTS, fault)),
+        Err(fault) => Err(events_stop(fault)),
     }
 }

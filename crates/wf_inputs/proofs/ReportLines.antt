@@ -14,7 +14,10 @@ use Rattle.wf_intake.specs.declared.fault.IntakeFault.TheVariants.{Conflict as H
 use Rattle.wf_flat.specs.Table.{Table, IsTableOf, events_of}
 use Rattle.wf_flat.proofs.Steps.{run_none}
 use Rattle.wf_message.specs.Endings.{End}
+use Rattle.wf_stage.specs.Stages.{IsRefusedOrWanting}
 use Rattle.wf_stage.specs.LineEnds.{told_end}
+use Rattle.wf_inputs.specs.declared.event_stop.EventStop.TheVariants.{Report}
+use Rattle.wf_inputs.specs.EventsEnd.{event_end}
 use Rattle.wf_inputs.specs.RunTold.{IsEventText, report_on, report_end}
 use Rattle.wf_inputs.specs.RunTaking.{TakenSoFar, with_state, none_taken_of, IsWrittenBehind, TakesReport, StopsReport, HoldsNone, StopsHolding}
 use Rattle.wf_inputs.specs.Reporting.{IsTakenAs, GrowingSeen, IsGrownBy}
@@ -89,6 +92,13 @@ stop_at_report f d not ends =
     let r = refusal_of f not in
     let is = ends r.0 r.1 in
     (r.0, r.1, is, λ p. told_at r.0 (sym (ap told_end is) ∙ p))
+
+-- a report that is not taken is refused, or memory is
+pub refused_or_wanting : (f : IntakeFault) → IsRefusedOrWanting (event_end (Report f))
+refused_or_wanting (HasConflict line earlier) = tt
+refused_or_wanting (HasRefused line fault) = tt
+refused_or_wanting (HasOrphan line) = tt
+refused_or_wanting WantsMemory = tt
 
 -- a list of reports in which none is held
 none_left : (kept : List Kept) → NoneHeld kept → filter is_held kept ≡ []

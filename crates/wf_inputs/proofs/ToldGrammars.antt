@@ -1,9 +1,7 @@
 -- A grammar that is told is one that commands take.
-use Rattle.std.proofs.Common.{◌≡◌, ℕ, ◌≤◌, List, map, length, sym, ap, subst}
+use Rattle.std.proofs.Common.{ℕ, ◌≤◌, List, map, sym, subst}
 use Rattle.std.proofs.lemmas.List.{length-map}
 use Rattle.wf_model.specs.declared.parts.Parts.{Parts}
-use Rattle.wf_model.specs.declared.parts.VersionPart.{VersionPart}
-use Rattle.wf_model.specs.Lists.{IsIn}
 use Rattle.wf_model.specs.Proper.{IsProper}
 use Rattle.wf_model.specs.Linear.{IsLinear}
 use Rattle.wf_model.specs.WellFormed.{IsWellFormed}
@@ -11,7 +9,7 @@ use Rattle.wf_model.specs.Versions.{IsVersion}
 use Rattle.wf_model.proofs.Lists.{in_map_from}
 use Rattle.wf_spec.specs.declared.version.Version.{Version}
 use Rattle.wf_spec.specs.Held.{HeldGrammar, AreVersionsOf}
-use Rattle.wf_form.specs.Forming.{version_in, held_of, grammar_of, HaveVersions}
+use Rattle.wf_form.specs.Forming.{version_in, grammar_of, HaveVersions}
 use Rattle.wf_inputs.specs.Specification.{TellsGrammar, AllKeepCycles}
 
 -- it is well-formed

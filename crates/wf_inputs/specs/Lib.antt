@@ -2,6 +2,7 @@ pub mod Specification
 pub mod ViewTold
 pub mod Viewed
 pub mod RunTold
+pub mod EventsEnd
 pub mod RunTaking
 pub mod Reporting
 pub mod LabelsTold

@@ -7,7 +7,7 @@ ghost use Rattle.wf_inputs.specs.Inputs.{instance_most};
 ghost use Rattle.wf_inputs.specs.RunTaking.{nothing_written};
 ghost use Rattle.wf_inputs.specs.Reporting.{IsGrownBy, IsChildrenTestIn, ReadsEvents};
 
-use crate::kinds::EVENTS;
+use crate::event_stop::events_stop;
 use crate::reports::Reporting;
 use bumpalo::Bump;
 use std::alloc::Global;
@@ -18,7 +18,6 @@ use wf_io::{Lines, PlainSink, Shelf};
 use wf_lines::{Due, take_lines};
 use wf_message::Stop;
 use wf_spec::{Event, Grammar, Name, ProdNo, RunFault};
-use wf_stage::stop_of;
 
 /// The greatest number of instances of a run.
 pub const INSTANCES: u32 = 16777216;
@@ -180,6 +179,6 @@ pub fn events_stage<H: Shelf>(
     let mut out = PlainSink::new();
     match take_lines(&mut reporting, &mut lines, &mut due, shelf, &mut out) {
         Ok(_) => Ok(reporting.run.into_run()),
-        Err(fault) => Err(stop_of(EVENTS, fault)),
+        Err(fault) => Err(events_stop(fault)),
     }
 }

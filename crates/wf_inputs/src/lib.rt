@@ -1,6 +1,7 @@
 //! The files that commands read: SPEC, VIEW, EVENTS and LABELS, from bytes to values, or refused.
 #![tactic(auto)]
 
+mod event_stop;
 mod events;
 mod faults;
 mod kinds;
@@ -11,6 +12,7 @@ mod specification;
 mod view;
 mod viewed;
 
+pub use event_stop::{EventStop, events_stop};
 pub use events::{INSTANCES, events_stage};
 pub use faults::named;
 pub use kinds::{EVENTS, LABELS, QUERIES, SPEC, VIEW};

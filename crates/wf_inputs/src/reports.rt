@@ -1,69 +1,35 @@
 // Reports of events, line by line: each line is taken as the report of an event, and the events that come to be ready are applied to a run.
-ghost use Rattle.std.specs.Prelude.{◌≡◌, ◌++◌, [], None, Some, IfOk, IfErr, codes, decimal};
-ghost use Rattle.report_model.specs.Intake.{ReportFault};
+ghost use Rattle.std.specs.Prelude.{◌≡◌, [], IfOk, IfErr, codes};
 ghost use Rattle.wf_intake.specs.Reported.{none_reported};
-ghost use Rattle.wf_intake.specs.Intakes.{fault_told};
-ghost use Rattle.wf_message.specs.Endings.{End, end_of, Refused, NoMemory};
-ghost use Rattle.wf_message.specs.Refusals.{refusal_text};
+ghost use Rattle.wf_message.specs.Endings.{End};
 ghost use Rattle.wf_stage.specs.LineEnds.{line_ends, told_end};
 ghost use Rattle.wf_stage.specs.Stages.{AtLine, Declines, IsRefusedOrWanting};
-ghost use Rattle.wf_inputs.specs.RunTold.{IsEventText, RefusesForm, report_end};
+ghost use Rattle.wf_inputs.specs.RunTold.{IsEventText, RefusesForm};
+ghost use Rattle.wf_inputs.specs.EventsEnd.{event_end};
 ghost use Rattle.wf_inputs.specs.RunTaking.{TakenSoFar, TakesReport, StopsReport, HoldsNone, StopsHolding, IsAnyTaken};
 ghost use Rattle.wf_inputs.specs.Reporting.{IsTakenAs};
 
-use crate::faults::{named, run_refusal};
-use crate::kinds::EVENTS;
+use crate::event_stop::EventStop;
 use bumpalo::Bump;
 use std::alloc::Global;
 use wf_events::{EventFault, read_event};
 use wf_inbox::Inbox;
 use wf_intake::{Grows, IntakeFault, Reported, none_held, take_report};
 use wf_lines::Taker;
-use wf_message::{Refusal, Stop, refused_line};
 use wf_spec::Event;
 
-/// The stop at a line of events that is refused, by its number.
-fn refused_event(number: u64, refusal: Refusal) -> Stop
-    ensures { end_of result ≡ Refused (codes "events") (Some number) (refusal_text refusal) }
-{
-    refused_line(EVENTS, number, refusal)
-}
-
 /// The event of a line.
-fn event_of_line(alloc: Global, number: u64, line: &[u8]) -> Result<Event, Stop>
+fn event_of_line(alloc: Global, number: u64, line: &[u8]) -> Result<Event, EventStop>
     ensures ok { IfOk result (λ e. IsEventText line.now e) }
-    ensures declines { IfErr result (λ d. Declines (codes "events") (AtLine RefusesForm number line.now) (end_of d)) }
+    ensures declines { IfErr result (λ d. Declines (codes "events") (AtLine RefusesForm number line.now) (event_end d)) }
 {
     match read_event(alloc, line) {
         Ok(event) => Ok(event),
-        Err(EventFault::NotJson) => Err(refused_event(number, named(b"NotJson"))),
-        Err(EventFault::WrongShape) => Err(refused_event(number, named(b"WrongShape"))),
-        Err(EventFault::NoMemory) => Err(Stop::NoMemory),
-    }
-}
-
-/// The refusal of a report that contradicts the one of an earlier line.
-fn conflict_with(earlier: u64) -> Refusal
-    ensures { refusal_text result ≡ codes "Conflict" ++ (codes " " ++ (codes "with" ++ (codes " " ++ decimal earlier))) }
-{
-    Refusal::Numbered {
-        name: b"Conflict",
-        part: b"with",
-        number: earlier,
-    }
-}
-
-/// The stop at a report that is not taken.
-fn report_stop(fault: IntakeFault) -> Stop
-    ensures refused { (r : ReportFault) → fault_told fault ≡ Some r → end_of result ≡ report_end r }
-    ensures memory { fault_told fault ≡ None → end_of result ≡ NoMemory }
-    ensures either { IsRefusedOrWanting (end_of result) }
-{
-    match fault {
-        IntakeFault::Conflict { line, earlier } => refused_event(line, conflict_with(earlier)),
-        IntakeFault::Refused { line, fault } => refused_event(line, run_refusal(fault)),
-        IntakeFault::Orphan { line } => refused_event(line, named(b"Orphan")),
-        IntakeFault::NoMemory => Stop::NoMemory,
+        Err(EventFault::NotJson) => Err(EventStop::NotJson { line: number }),
+        Err(EventFault::WrongShape) => Err(EventStop::WrongShape { line: number }),
+        Err(EventFault::NoMemory) => Err(EventStop::Report {
+            fault: IntakeFault::NoMemory,
+        }),
     }
 }
 
@@ -93,7 +59,7 @@ impl<'a, R: Grows> Reporting<'a, R> {
 }
 
 impl<R: Grows> Taker for Reporting<'_, R> {
-    type Fault = Stop;
+    type Fault = EventStop;
 
     ghost State = { TakenSoFar };
 
@@ -115,9 +81,9 @@ impl<R: Grows> Taker for Reporting<'_, R> {
 
     ghost ends = { line_ends (codes "events") };
 
-    ghost end_of = { λ stop. told_end (end_of stop) };
+    ghost end_of = { λ stop. told_end (event_end stop) };
 
-    ghost is_fault = { λ stop. IsRefusedOrWanting (end_of stop) };
+    ghost is_fault = { λ stop. IsRefusedOrWanting (event_end stop) };
 
     ghost wants_memory = { Unit {0} };
 
@@ -127,7 +93,7 @@ impl<R: Grows> Taker for Reporting<'_, R> {
 
     ghost is_known = { λ t k. R.is_known t.run k };
 
-    fn take(&mut self, number: u64, text: &[u8]) -> Result<(), Stop> {
+    fn take(&mut self, number: u64, text: &[u8]) -> Result<(), EventStop> {
         self.run.clear();
         let event = match event_of_line(self.alloc, number, text) {
             Ok(event) => event,
@@ -145,18 +111,20 @@ impl<R: Grows> Taker for Reporting<'_, R> {
             Err(fault) => match fault {
                 IntakeFault::NoMemory => {
                     self.run.clear();
-                    Err(Stop::NoMemory)
+                    Err(EventStop::Report {
+                        fault: IntakeFault::NoMemory,
+                    })
                 }
-                _ => Err(report_stop(fault)),
+                _ => Err(EventStop::Report { fault }),
             },
         }
     }
 
-    fn finish(&mut self) -> Result<(), Stop> {
+    fn finish(&mut self) -> Result<(), EventStop> {
         self.run.clear();
         match none_held(&self.inbox) {
             Ok(()) => Ok(()),
-            Err(fault) => Err(report_stop(fault)),
+            Err(fault) => Err(EventStop::Report { fault }),
         }
     }
 

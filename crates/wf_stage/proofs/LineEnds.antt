@@ -6,8 +6,7 @@ use Rattle.wf_lines.specs.declared.fault.Halt.{Halt}
 use Rattle.wf_lines.specs.declared.fault.Halt.TheVariants.{LineTooLong, FileTooLong, ReadFault as ReadingFailed, WriteFault as WritingFailed}
 use Rattle.wf_lines.specs.declared.fault.LinesFault.{LinesFault}
 use Rattle.wf_lines.specs.declared.fault.LinesFault.TheVariants.{Stopped, Halted}
-use Rattle.wf_message.specs.declared.ending.Stop.{Stop}
-use Rattle.wf_message.specs.Endings.{End, Done, Usage, Refused, ReadFault, WriteFault, NoMemory, end_of}
+use Rattle.wf_message.specs.Endings.{End, Done, Usage, Refused, ReadFault, WriteFault, NoMemory}
 use Rattle.wf_stage.specs.Stages.{IsRefusedOrWanting}
 use Rattle.wf_stage.specs.Ends.{IsOfOutcome}
 use Rattle.wf_stage.specs.Causes.{IsCause, IsReadingCause}
@@ -40,9 +39,9 @@ halt_of_outcome word ReadingFailed w = refl
 halt_of_outcome word WritingFailed w = absurd (w.0 refl)
 
 -- so is the end of a fault of lines
-pub fault_of_outcome : (word : List ℕ) (f : LinesFault Stop) → IsOfOutcome (end_of_fault word f) → end_at (line_ends word) (λ stop. told_end (end_of stop)) f ≡ Some (end_of_fault word f)
-fault_of_outcome word (Stopped stop) w = told_of_outcome (end_of stop) w
-fault_of_outcome word (Halted h) w = halt_of_outcome word h w
+pub fault_of_outcome : {F : Type 0} (ends : F → End) (word : List ℕ) (f : LinesFault F) → IsOfOutcome (end_of_fault ends word f) → end_at (line_ends word) (λ x. told_end (ends x)) f ≡ Some (end_of_fault ends word f)
+fault_of_outcome ends word (Stopped x) w = told_of_outcome (ends x) w
+fault_of_outcome ends word (Halted h) w = halt_of_outcome word h w
 
 -- what brought a halt brought the end of the command
 halt_caused : (word : List ℕ) (before after : ℕ) (last : Bool) (old new : ℕ) (out_last : Bool) (h : Halt) → IsCauseOfHalt before after last old new out_last h → IsCause before after last old new out_last (end_of_halt word h)
@@ -68,11 +67,11 @@ refused_caused before after last old new out_last WriteFault same h = absurd h
 refused_caused before after last old new out_last NoMemory same h = same
 
 -- what brought a fault of lines brought the end of the command, where what takes them refuses or wants memory
-pub fault_caused : (word : List ℕ) (before after : ℕ) (last : Bool) (old new : ℕ) (out_last : Bool) (f : LinesFault Stop) → IsStoppedAs (λ stop. IsRefusedOrWanting (end_of stop)) f → IsCauseOf before after last old new out_last f → IsCause before after last old new out_last (end_of_fault word f)
-fault_caused word before after last old new out_last (Stopped stop) h c = refused_caused before after last old new out_last (end_of stop) c h
-fault_caused word before after last old new out_last (Halted halt) h c = halt_caused word before after last old new out_last halt c
+pub fault_caused : {F : Type 0} (ends : F → End) (word : List ℕ) (before after : ℕ) (last : Bool) (old new : ℕ) (out_last : Bool) (f : LinesFault F) → IsStoppedAs (λ x. IsRefusedOrWanting (ends x)) f → IsCauseOf before after last old new out_last f → IsCause before after last old new out_last (end_of_fault ends word f)
+fault_caused ends word before after last old new out_last (Stopped x) h c = refused_caused before after last old new out_last (ends x) c h
+fault_caused ends word before after last old new out_last (Halted halt) h c = halt_caused word before after last old new out_last halt c
 
 -- so where writing does not fail
-pub fault_caused_reading : (word : List ℕ) (before after : ℕ) (last : Bool) (old new : ℕ) (out_last : Bool) (f : LinesFault Stop) → (Rose old new out_last → ⊥) → IsStoppedAs (λ stop. IsRefusedOrWanting (end_of stop)) f → IsCauseOf before after last old new out_last f → IsReadingCause before after last (end_of_fault word f)
-fault_caused_reading word before after last old new out_last (Stopped stop) never h c = refused_cause before after last (end_of stop) c.0 h
-fault_caused_reading word before after last old new out_last (Halted halt) never h c = halt_caused_reading word before after last old new out_last halt never c
+pub fault_caused_reading : {F : Type 0} (ends : F → End) (word : List ℕ) (before after : ℕ) (last : Bool) (old new : ℕ) (out_last : Bool) (f : LinesFault F) → (Rose old new out_last → ⊥) → IsStoppedAs (λ x. IsRefusedOrWanting (ends x)) f → IsCauseOf before after last old new out_last f → IsReadingCause before after last (end_of_fault ends word f)
+fault_caused_reading ends word before after last old new out_last (Stopped x) never h c = refused_cause before after last (ends x) c.0 h
+fault_caused_reading ends word before after last old new out_last (Halted halt) never h c = halt_caused_reading word before after last old new out_last halt never c

@@ -5,8 +5,7 @@ use Rattle.wf_lines.specs.declared.fault.Halt.{Halt}
 use Rattle.wf_lines.specs.declared.fault.Halt.TheVariants.{LineTooLong, FileTooLong, ReadFault as ReadingFailed, WriteFault as WritingFailed}
 use Rattle.wf_lines.specs.declared.fault.LinesFault.{LinesFault}
 use Rattle.wf_lines.specs.declared.fault.LinesFault.TheVariants.{Stopped, Halted}
-use Rattle.wf_message.specs.declared.ending.Stop.{Stop}
-use Rattle.wf_message.specs.Endings.{End, Done, Usage, Refused, ReadFault, WriteFault, NoMemory, end_of}
+use Rattle.wf_message.specs.Endings.{End, Done, Usage, Refused, ReadFault, WriteFault, NoMemory}
 
 -- of a file with this word
 abbrev pub line_ends : List ℕ → LineEnds End
@@ -32,7 +31,7 @@ told_end (ReadFault word) = Some (ReadFault word)
 told_end WriteFault = None
 told_end NoMemory = None
 
--- the end that a fault of lines is, of what takes them with stops of the command
-abbrev pub end_of_fault : List ℕ → LinesFault Stop → End
-end_of_fault word (Stopped stop) = end_of stop
-end_of_fault word (Halted halt) = end_of_halt word halt
+-- the end that a fault of lines is, by the ends that the faults of what takes them are
+abbrev pub end_of_fault : {F : Type 0} → (F → End) → List ℕ → LinesFault F → End
+end_of_fault ends word (Stopped f) = ends f
+end_of_fault ends word (Halted halt) = end_of_halt word halt

@@ -6,7 +6,7 @@ mod kind;
 mod put;
 mod read;
 
-pub use halt::stop_of;
+pub use halt::stop_at;
 pub use kind::FileKind;
 pub use put::put_text;
 pub use read::read_file;

@@ -5,13 +5,13 @@ use Rattle.wf_lines.specs.Taking.{end_at}
 use Rattle.wf_lines.proofs.Openings.{told_opened}
 use Rattle.cmd_ingest.specs.declared.label_lines.Labelling.{Labelling}
 use Rattle.wf_run.specs.Runs.{IsRunOf}
-use Rattle.wf_message.specs.Endings.{end_of}
 use Rattle.wf_stage.specs.Ends.{EndsBehind}
 use Rattle.wf_stage.specs.Causes.{IsCause}
 use Rattle.wf_stage.specs.LineEnds.{line_ends, end_of_fault, told_end}
 use Rattle.wf_stage.proofs.LineEnds.{fault_of_outcome, fault_caused}
 use Rattle.wf_stage.proofs.Obeying.{obeys_wanting}
 use Rattle.wf_inputs.specs.RunTaking.{none_taken_of}
+use Rattle.wf_inputs.specs.EventsEnd.{event_end}
 use Rattle.wf_inputs.specs.Reporting.{IsTakenAs}
 use Rattle.wf_inputs.proofs.EventStages.{events_one_way, events_closed_one_way}
 use Rattle.cmd_ingest.specs.Ingested.{file_head, file_of}
@@ -65,11 +65,11 @@ returns g c =
     record {
       obeys = record {
         ends = λ f told.
-            subst (λ e. EndsBehind (file_head h) (Made h (lines_in (f c.args.name.now))) e (g.O.Sink.put_bytes c.args.out.now) (g.O.Sink.put_bytes c.take_lines.new.out)) (sym c.stop_of.ensures)
-            (stopped_at h (lines_in (f c.args.name.now)) (end_at (line_ends word) (λ stop. told_end (end_of stop)) fault) (end_of_fault word fault) _ _ (fault_of_outcome word fault)
-            (told_opened (λ (file : FileLines). AreLabelledTo h file (end_at (line_ends word) (λ stop. told_end (end_of stop)) fault) (g.O.Sink.put_bytes c.args.out.now) (g.O.Sink.put_bytes c.take_lines.new.out)) f c.args.name.now c.in-Ok.lines c.in-Ok.ensures
+            subst (λ e. EndsBehind (file_head h) (Made h (lines_in (f c.args.name.now))) e (g.O.Sink.put_bytes c.args.out.now) (g.O.Sink.put_bytes c.take_lines.new.out)) (sym c.events_stop.ensures)
+            (stopped_at h (lines_in (f c.args.name.now)) (end_at (line_ends word) (λ stop. told_end (event_end stop)) fault) (end_of_fault event_end word fault) _ _ (fault_of_outcome event_end word fault)
+            (told_opened (λ (file : FileLines). AreLabelledTo h file (end_at (line_ends word) (λ stop. told_end (event_end stop)) fault) (g.O.Sink.put_bytes c.args.out.now) (g.O.Sink.put_bytes c.take_lines.new.out)) f c.args.name.now c.in-Ok.lines c.in-Ok.ensures
             (λ st. c.in-Err.ensures.stopped f told st (none_taken_of h) at (events_one_way file_of) events_closed_one_way tt)));
-        cause = subst (IsCause _ _ _ _ _ _) (sym c.stop_of.ensures) (fault_caused word _ _ _ _ _ _ fault c.in-Err.ensures.fault c.in-Err.ensures.cause);
+        cause = subst (IsCause _ _ _ _ _ _) (sym c.events_stop.ensures) (fault_caused event_end word _ _ _ _ _ _ fault c.in-Err.ensures.fault c.in-Err.ensures.cause);
         same = c.take_lines.ensures.files;
         later = c.take_lines.ensures.later;
         put_later = c.take_lines.ensures.put_later;

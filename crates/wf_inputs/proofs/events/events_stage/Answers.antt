@@ -8,6 +8,7 @@ use Rattle.wf_stage.specs.Causes.{IsReadingCause}
 use Rattle.wf_stage.specs.LineEnds.{end_of_fault}
 use Rattle.wf_stage.proofs.LineEnds.{fault_of_outcome, fault_caused_reading}
 use Rattle.wf_inputs.specs.Inputs.{instance_most}
+use Rattle.wf_inputs.specs.EventsEnd.{event_end}
 use Rattle.wf_inputs.specs.RunTold.{StopsEvents}
 use Rattle.wf_inputs.specs.RunTaking.{nothing_written, none_taken_of}
 use Rattle.wf_inputs.specs.Reporting.{GrowingSeen, IsTakenAs, IsGrownBy}
@@ -48,14 +49,14 @@ returns-clause-reads g c =
     let first = c.new-reporting.result in
     let start = plain_at_start h first.inbox.kept first.reported first.run c.new-reporting.ensures.kept c.new-reporting.ensures.reported (ap (λ (r : GrowingSeen). r.grammar) c.new-reporting.ensures.run ∙ made.grammar) (ap (λ (r : GrowingSeen). r.run) c.new-reporting.ensures.run ∙ made.run) in
     let word = codes "events" in
-    let e = end_of_fault word c.in-Err.fault in
+    let e = end_of_fault event_end word c.in-Err.fault in
     record {
       stops = λ f told w.
-          let is = fault_of_outcome word c.in-Err.fault (subst IsOfOutcome c.stop_of.ensures w) in
-          subst (StopsEvents h instance_most _) (sym c.stop_of.ensures)
+          let is = fault_of_outcome event_end word c.in-Err.fault (subst IsOfOutcome c.events_stop.ensures w) in
+          subst (StopsEvents h instance_most _) (sym c.events_stop.ensures)
           (stopped_stops h e _ (told_opened (AreStoppedAt h (Some e)) f c.args.name.now c.in-Ok.lines c.in-Ok.ensures
           (λ st. subst (λ o. AreStoppedAt h o (left_in (f c.in-Ok.lines.name) c.in-Ok.lines)) is (c.in-Err.ensures.stopped f told st (none_taken_of h) start (events_one_way nothing_written) events_closed_one_way tt))));
-      cause = subst (IsReadingCause _ _ _) (sym c.stop_of.ensures) (fault_caused_reading word _ _ _ 0 0 _ c.in-Err.fault (λ r. absurd (let x = r refl in omega (arith, x))) c.in-Err.ensures.fault c.in-Err.ensures.cause);
+      cause = subst (IsReadingCause _ _ _) (sym c.events_stop.ensures) (fault_caused_reading event_end word _ _ _ 0 0 _ c.in-Err.fault (λ r. absurd (let x = r refl in omega (arith, x))) c.in-Err.ensures.fault c.in-Err.ensures.cause);
       same = c.take_lines.ensures.files;
       later = c.take_lines.ensures.later;
     }

@@ -1,7 +1,8 @@
-use Rattle.std.proofs.Common.{◌∙◌}
-use Rattle.wf_message.specs.Endings.{end_of}
+use Rattle.std.proofs.Common.{ap, ◌∙◌}
 use Rattle.wf_stage.proofs.LineEnds.{told_is}
-use Rattle.wf_inputs.proofs.ReportLines.{still_taken, report_taken, report_refused, stop_at_report}
+use Rattle.wf_inputs.specs.declared.event_stop.EventStop.TheVariants.{Report}
+use Rattle.wf_inputs.specs.EventsEnd.{intake_end, event_end}
+use Rattle.wf_inputs.proofs.ReportLines.{still_taken, report_taken, report_refused, stop_at_report, refused_or_wanting}
 use Rattle.wf_inputs.proofs.reports.ReportingTaker.take.Goals as goal
 
 pub returns-in-Ok-taken-clause-taken : goal.returns-in-Ok-taken-clause-taken
@@ -19,16 +20,17 @@ returns-in_default g c =
     let r = g.R.Grows in
     let old = c.args.self.now in
     let clear = c.clear.ensures in
-    let stop = stop_at_report c.in-Err-taken.fault (end_of c.report_stop.result) c.in_default.not-NoMemory c.report_stop.ensures.refused in
+    let fault = c.in-Err-taken.fault in
+    let stop = stop_at_report fault (event_end (Report fault)) c.in_default.not-NoMemory (λ r told. ap intake_end told) in
     record {
       ready = tt;
       taken = tt;
       stopped = λ e told s at.
           report_refused r.written (r.grammar c.clear.new.self) (r.most c.clear.new.self) old.inbox.kept old.reported (r.is_run c.clear.new.self) c.args.number c.args.text.now c.in-Ok.event c.in-Ok.ensures.ok
           (r.text c.clear.new.self) (r.text c.take_report-taken.new.run) clear.text
-          (r.is_run c.take_report-taken.new.run) stop.0 e (told_is (end_of c.report_stop.result) e told ∙ stop.2) (c.in-Err-taken.ensures.stopped stop.0 stop.1) s
+          (r.is_run c.take_report-taken.new.run) stop.0 e (told_is (event_end (Report fault)) e told ∙ stop.2) (c.in-Err-taken.ensures.stopped stop.0 stop.1) s
           (still_taken (r.grammar old.run) (r.grammar c.clear.new.self) (r.most old.run) (r.most c.clear.new.self) old.inbox.kept old.reported (r.is_run old.run) (r.is_run c.clear.new.self) clear.grammar clear.most clear.run s at);
       memory = λ none. absurd (stop.3 none);
-      fault = c.report_stop.ensures.either;
+      fault = refused_or_wanting fault;
       known = λ k h. c.take_report-taken.ensures.known k (clear.known k h);
     }
