@@ -1,5 +1,5 @@
 -- The end at which the lines of a file stop, and the end of the command.
-use Rattle.std.proofs.Common.{◌≡◌, ℕ, Bool, List, Option, Some, refl, sym, ap, ◌∙◌, subst, arith}
+use Rattle.std.proofs.Common.{◌≡◌, ℕ, Bool, List, Some, refl}
 use Rattle.wf_io.specs.Told.{Rose}
 use Rattle.wf_lines.specs.Taking.{halt_end, end_at, IsCauseOfHalt, IsCauseOf, IsStoppedAs}
 use Rattle.wf_lines.specs.declared.fault.Halt.{Halt}
