@@ -1,7 +1,7 @@
 -- The longer grammar, worked: it is accepted, and the line grammar is a version of it that has its verdicts.
 use Rattle.std.proofs.Common.{◌≡◌, ◌↔◌, ℕ, zero, suc, ◌<◌, ◌≤◌, true, false, IsTrue, [], ◌∷◌, length, None, count_by, refl, sym, subst, inl, inr, ⊎_elim, arith, lit<, lit≤, true≢false}
 use Rattle.wf_model.specs.Lists.{IsIn, IsAt, Walk, here, onward}
-use Rattle.wf_model.specs.Grammar.{Grammar, Module, Position, Inner, inputs_of, outputs_of, head_of, body_of, IsAtomic}
+use Rattle.wf_model.specs.Grammar.{Grammar, Given, Module, Position, Inner, inputs_of, outputs_of, head_of, body_of, IsAtomic}
 use Rattle.wf_model.specs.WellFormed.{IsWellFormed, IsWellFormedBody, IsWellFormedModule, IsShortName, IsInnerInput, IsInnerOutput, same_inner}
 use Rattle.wf_model.specs.Proper.{Makes, Derives, Becomes, RankWithin, IsProper}
 use Rattle.wf_model.specs.Linear.{IsOnCycle, IsLinear}
@@ -115,6 +115,10 @@ q_body = record {
     used zero i m h l = one i (subst (λ z. i < outputs_of longer z) h l)
     used (suc k) i m h l = absurd h
 
+-- R heads no production
+r_is_atomic : IsAtomic longer 3
+r_is_atomic = two_productions (λ p. head_of longer p ≡ 3 → ⊥) (λ e. let z : 0 ≡ 3 = e in absurd (omega arith)) (λ e. let z : 2 ≡ 3 = e in absurd (omega arith))
+
 pub longer_formed : IsWellFormed longer
 longer_formed = record {
   start = lit< tt;
@@ -126,9 +130,12 @@ longer_formed = record {
   small = lit≤ tt;
   heads = two_productions (λ p. head_of longer p < 4) (lit< tt) (lit< tt);
   bodies = two_productions (IsWellFormedBody longer) (body_back longer 3 1 (longer_version 3 (lit≤ tt) (lit≤ tt)) 0 (lit< tt) (line_grammar_is_worked.well_formed.bodies 0 (lit< tt))) q_body;
-  given_atomic = λ d h. absurd h;
-  given_pairs = λ d e h. absurd h;
+  given_atomic = λ d h. ⊎_elim (λ q. subst (λ (z : Given). (z.module_no < 4) × IsAtomic longer z.module_no) (sym q) (lit< tt, r_is_atomic)) (λ q. absurd q) h;
+  given_pairs = λ d e h. ⊎_elim (λ q. subst (λ (z : Given). IsIn e z.pairs → (e.0 < inputs_of longer z.module_no) × (e.1 < outputs_of longer z.module_no)) (sym q) (one_pair e)) (λ q. absurd q) h;
 }
+  where
+    one_pair : (e : ℕ × ℕ) → IsIn e ((0, 0) ∷ []) → (e.0 < inputs_of longer 3) × (e.1 < outputs_of longer 3)
+    one_pair e i = ⊎_elim (λ q. subst (λ (z : ℕ × ℕ). (z.0 < inputs_of longer 3) × (z.1 < outputs_of longer 3)) (sym q) (lit< tt, lit< tt)) (λ q. absurd q) i
 
 pub longer_linear : IsLinear longer
 longer_linear m s t a b = absurd (not_on_cycle longer longer_rises m (s, a))

@@ -5,7 +5,7 @@ use Rattle.wf_model.specs.Grammar.{Grammar}
 use Rattle.wf_model.specs.declared.event.Event.{Event}
 use Rattle.wf_model.specs.declared.event.Event.TheVariants.{Start, Expand}
 use Rattle.wf_model.specs.declared.event.RunFault.{RunFault}
-use Rattle.wf_model.specs.Run.{made, names_of, IsAccepted}
+use Rattle.wf_model.specs.Run.{names_of, IsAccepted}
 use Rattle.wf_model.specs.Faults.{is_one_of, fault_of}
 use Rattle.wf_model.specs.Versions.{version_of, IsVersion}
 use Rattle.wf_model.proofs.Taking.{taking_law}

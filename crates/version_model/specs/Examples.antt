@@ -17,7 +17,7 @@ use Rattle.verdict_model.specs.Verdicts.{IsVerdict}
 use Rattle.wf_model.specs.Versions.{version_of, IsVersion, GetsOnCycle, KeepsCycles}
 use Rattle.version_model.specs.Versions.{ShowAlike}
 
--- as the line grammar, with a module R that has input x and output y; Q is expanded to z of R
+-- as the line grammar, with a module R that has input x and output y, and its pair; Q is expanded to z of R
 abbrev pub longer : Grammar
 longer = record {
   start = 0;
@@ -27,7 +27,7 @@ longer = record {
   productions =
       record { head = 0; positions = at "u" 1 ∷ at "v" 2 ∷ []; edges = edge 0 0 1 0 ∷ []; entries = port 0 0 ∷ []; exits = port 1 0 ∷ [] } ∷
       record { head = 2; positions = at "z" 3 ∷ []; edges = []; entries = port 0 0 ∷ []; exits = port 0 0 ∷ [] } ∷ [];
-  given = [];
+  given = record { module_no = 3; pairs = (0, 0) ∷ [] } ∷ [];
 }
 
 -- as the longer one, and Q is expanded to s of S first, which closes a cycle of S and Q
