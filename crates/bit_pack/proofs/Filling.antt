@@ -203,12 +203,11 @@ filled_holds bytes n f = record {
   is = sym (take-append-drop n (bits_of bytes)) ∙ ap (λ z. first_bits bytes n ++ z) f.free.zeros;
 }
 
--- the bytes that bits fill are filled with them
-pub packed_filled : (bits : List Bool) → IsFilled (packed bits) (length bits)
-packed_filled bits =
-    let h = (packed_law bits).holds in
-    let whole : 8 * length (packed bits) ≡ length bits + h.padding = omega (arith, length-bits_of (packed bits), ap length h.is, length-append bits (replicate h.padding false), length-replicate h.padding false) in
-    let left : h.padding ≡ 8 * length (packed bits) - length bits = omega arith in
+-- bytes that hold bits are filled with them
+pub holds_filled : (bytes : List ℕ) (bits : List Bool) → Holds bytes bits → IsFilled bytes (length bits)
+holds_filled bytes bits h =
+    let whole : 8 * length bytes ≡ length bits + h.padding = omega (arith, length-bits_of bytes, ap length h.is, length-append bits (replicate h.padding false), length-replicate h.padding false) in
+    let left : h.padding ≡ 8 * length bytes - length bits = omega arith in
     record {
       free = record {
         inside = omega arith;
@@ -216,6 +215,10 @@ packed_filled bits =
       };
       few = omega (arith, h.few);
     }
+
+-- the bytes that bits fill are filled with them
+pub packed_filled : (bits : List Bool) → IsFilled (packed bits) (length bits)
+packed_filled bits = holds_filled (packed bits) bits (packed_law bits).holds
 
 -- and these are the first bits of the bytes
 pub first_packed : (bits : List Bool) → first_bits (packed bits) (length bits) ≡ bits

@@ -1,4 +1,5 @@
 pub mod EntryFronts
+pub mod EntryParts
 pub mod HeadReadings
 pub mod NamedEntries
 pub mod ReadSoFar

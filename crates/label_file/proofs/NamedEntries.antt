@@ -1,110 +1,123 @@
--- Look-ups by name among the entries of a table.
-use Rattle.std.proofs.Common.{◌≡◌, ◌↔◌, ℕ, zero, suc, Bool, true, false, List, [], ◌∷◌, ◌++◌, bytes_eq, cond, ◌&&◌, ◌==◌, if◌then◌else◌, get_or, slice_get, Option, Some, None, is_some, refl, sym, ap, ◌∙◌, subst, inl, inr, ⊎_elim, true≢false}
-use Rattle.label_file.specs.declared.key.HashedName.{HashedName}
-use Rattle.label_file.specs.Hashed.{IsHashed, AreHashed, name_hash}
+-- Look-ups by name among the keys of a table.
+use Rattle.std.proofs.Common.{◌≡◌, ◌↔◌, ℕ, Bool, true, false, not, List, [], ◌∷◌, ◌++◌, bytes_eq, cond, ◌&&◌, ◌||◌, ◌==◌, if◌then◌else◌, get_or, slice_get, map, zero, suc, Some, None, refl, sym, ap, ◌∙◌, inl, inr, true≢false}
+use Rattle.std.specs.List.{list_any, find}
+use Rattle.std.proofs.lemmas.Bool.{eq-eqb, and_right}
+use Rattle.std.proofs.lemmas.List.{map-append}
+use Rattle.indexmap.specs.IndexSet.{insert_key}
+use Rattle.wf_model.specs.Lists.{IsIn, some}
+use Rattle.wf_model.proofs.Lists.{among_gives, among_from, same_bytes}
 use Rattle.wf_names.specs.declared.keyed.KeyedHash.{KeyedHash}
-use Rattle.std.proofs.lemmas.Bool.{eq-eqb}
-use Rattle.std.specs.Map.{lookup, values_of}
-use Rattle.indexmap.specs.IndexMap.{insert_entry}
-use Rattle.wf_model.specs.Lists.{IsIn}
-use Rattle.wf_model.proofs.Lists.{in_map, same_bytes, bytes_same}
-use Rattle.label_file.specs.Stored.{EntryHeld, names_held, no_entry}
-use Rattle.label_file.specs.Adding.{held}
+use Rattle.wf_names.proofs.Found.{some_through}
+use Rattle.label_file.specs.Stored.{names_held, no_entry}
+use Rattle.label_file.specs.Keys.{EntryKey, held}
+use Rattle.label_file.specs.Hashed.{IsKeyed, AreKeyed, name_hash}
 
 -- whether a key has this name
-abbrev named : List ℕ → HashedName → Bool
-named name k = bytes_eq name k.bytes.now
+abbrev pub named : List ℕ → EntryKey → Bool
+named name k = bytes_eq name k.held.name
 
--- the first entry decides
-first : (name : List ℕ) (e : HashedName × List Bool) (es : List (HashedName × List Bool)) (b : Bool) → named name e.0 ≡ b → lookup (named name) (e ∷ es) ≡ cond b (Some e.1) (lookup (named name) es)
-first name e es b h = ap (λ c. cond c (Some e.1) (lookup (named name) es)) h
+-- whether it has this hash as well
+abbrev pub has : ℕ → List ℕ → EntryKey → Bool
+has hash name k = (hash == k.hash) && named name k
 
--- an entry that is found is held
-pub found_held : (name : List ℕ) (es : List (HashedName × List Bool)) (bits : List Bool) → lookup (named name) es ≡ Some bits → IsIn (record { name = name; bits = bits }) (held es)
-found_held name [] bits h = absurd (cc)
-found_held name (e ∷ es) bits h = by (named name e.0) refl (λ q. found_held name es bits q)
-  where
-    by : (b : Bool) → named name e.0 ≡ b → (lookup (named name) es ≡ Some bits → IsIn (record { name = name; bits = bits }) (held es)) → IsIn (record { name = name; bits = bits }) (held (e ∷ es))
-    by true t more =
-        let n = same_bytes name e.0.bytes.now t in
-        let l : Some e.1 ≡ Some bits = sym (first name e es true t) ∙ h in
-        let m : bits ≡ e.1 = cc in
-        inl (λ i. record { name = n i; bits = m i })
-    by false f more = inr (more (sym (first name e es false f) ∙ h))
-
--- a name that is not found is none of those that are held
-pub none_held : (name : List ℕ) (es : List (HashedName × List Bool)) → lookup (named name) es ≡ None → IsIn name (names_held (held es)) → ⊥
-none_held name [] h i = i
-none_held name (e ∷ es) h i = by (named name e.0) refl (λ q. none_held name es q)
-  where
-    by : (b : Bool) → named name e.0 ≡ b → (lookup (named name) es ≡ None → IsIn name (names_held (held es)) → ⊥) → ⊥
-    by true t more = let l : Some e.1 ≡ None = sym (first name e es true t) ∙ h in absurd (cc)
-    by false f more = ⊎_elim (λ q. absurd (true≢false (sym (bytes_same name e.0.bytes.now q) ∙ f))) (more (sym (first name e es false f) ∙ h)) i
+-- the names of keys
+names-held : (ks : List EntryKey) → names_held (held ks) ≡ map (λ (k : EntryKey). k.held.name) ks
+names-held [] = refl
+names-held (k ∷ ks) = ap (λ ns. k.held.name ∷ ns) (names-held ks)
 
 -- a look-up tells whether a name is held
-pub tells_held : (name : List ℕ) (es : List (HashedName × List Bool)) → (is_some (lookup (named name) es) ≡ true) ↔ IsIn name (names_held (held es))
-tells_held name es = by (lookup (named name) es) refl
+told : (name : List ℕ) (ks : List EntryKey) → list_any (named name) ks ≡ some (bytes_eq name) (names_held (held ks))
+told name ks = sym (some_through (bytes_eq name) (λ k. k.held.name) ks) ∙ ap (some (bytes_eq name)) (sym (names-held ks))
+
+pub tells_held : (name : List ℕ) (ks : List EntryKey) → (list_any (named name) ks ≡ true) ↔ IsIn name (names_held (held ks))
+tells_held name ks = ((λ t. among_gives name (names_held (held ks)) (sym (told name ks) ∙ t)), (λ i. told name ks ∙ among_from name (names_held (held ks)) i))
+
+-- the entry of a key that is found is held
+pub found_held : (name : List ℕ) (ks : List EntryKey) (k : EntryKey) → find (named name) ks ≡ Some k → IsIn (record { name = name; bits = k.held.bits }) (held ks)
+found_held name [] k h = absurd (cc)
+found_held name (x ∷ xs) k h = by (named name x) refl (λ q. found_held name xs k q)
   where
-    by : (r : Option (List Bool)) → lookup (named name) es ≡ r → (is_some (lookup (named name) es) ≡ true) ↔ IsIn name (names_held (held es))
-    by None h = ((λ t. absurd (true≢false (sym t ∙ ap is_some h))), (λ i. absurd (none_held name es h i)))
-    by (Some bits) h = ((λ t. in_map (λ (e : EntryHeld). e.name) (record { name = name; bits = bits }) (held es) (found_held name es bits h)), (λ i. ap is_some h))
+    by : (b : Bool) → named name x ≡ b → (find (named name) xs ≡ Some k → IsIn (record { name = name; bits = k.held.bits }) (held xs)) → IsIn (record { name = name; bits = k.held.bits }) (held (x ∷ xs))
+    by true t more =
+        let n = same_bytes name x.held.name t in
+        let l : Some x ≡ Some k = sym (ap (λ c. cond c (Some x) (find (named name) xs)) t) ∙ h in
+        let m : k ≡ x = cc in
+        inl (λ i. record { name = n i; bits = (m i).held.bits })
+    by false f more = inr (more (sym (ap (λ c. cond c (Some x) (find (named name) xs)) f) ∙ h))
 
--- an entry with a new name goes last
-pub held-insert_entry : (name : HashedName) (bits : List Bool) (es : List (HashedName × List Bool)) → (IsIn name.bytes.now (names_held (held es)) → ⊥) →
-    held (insert_entry (λ k. named k.bytes.now) es name bits) ≡ held es ++ record { name = name.bytes.now; bits = bits } ∷ []
-held-insert_entry name bits [] h = refl
-held-insert_entry name bits (e ∷ es) h = by (named name.bytes.now e.0) refl (held-insert_entry name bits es (λ i. h (inr i)))
+-- where none is found, no entry has the name
+find_any : (name : List ℕ) (ks : List EntryKey) → find (named name) ks ≡ None → list_any (named name) ks ≡ false
+find_any name [] h = refl
+find_any name (x ∷ xs) h = by (named name x) refl (λ q. find_any name xs q)
   where
-    put : List (HashedName × List Bool)
-    put = insert_entry (λ k. named k.bytes.now) es name bits
+    by : (b : Bool) → named name x ≡ b → (find (named name) xs ≡ None → list_any (named name) xs ≡ false) → list_any (named name) (x ∷ xs) ≡ false
+    by true t more = let l : Some x ≡ None = sym (ap (λ c. cond c (Some x) (find (named name) xs)) t) ∙ h in absurd (cc)
+    by false f more = ap (λ b. b || list_any (named name) xs) f ∙ more (sym (ap (λ c. cond c (Some x) (find (named name) xs)) f) ∙ h)
 
-    by : (b : Bool) → named name.bytes.now e.0 ≡ b → held put ≡ held es ++ record { name = name.bytes.now; bits = bits } ∷ [] → held (insert_entry (λ k. named k.bytes.now) (e ∷ es) name bits) ≡ held (e ∷ es) ++ record { name = name.bytes.now; bits = bits } ∷ []
-    by true t more = absurd (h (inl (same_bytes name.bytes.now e.0.bytes.now t)))
-    by false f more = ap (λ b. held (if b then (e.0, bits) ∷ es else e ∷ put)) f ∙ ap (λ hs. record { name = e.0.bytes.now; bits = e.1 } ∷ hs) more
+pub none_held : (name : List ℕ) (ks : List EntryKey) → find (named name) ks ≡ None → IsIn name (names_held (held ks)) → ⊥
+none_held name ks h i = absurd (true≢false (sym ((tells_held name ks).1 i) ∙ find_any name ks h))
 
--- the bits of the entry at a number
-pub bits_at : (es : List (HashedName × List Bool)) (i : ℕ) (bits : List Bool) → slice_get (values_of es) i ≡ Some bits → (get_or (held es) i no_entry).bits ≡ bits
-bits_at [] i bits h = absurd (cc)
-bits_at (e ∷ es) zero bits h = cc
-bits_at (e ∷ es) (suc i) bits h = bits_at es i bits h
+module _ (keyed : KeyedHash) (hash : ℕ) (name : List ℕ) (hashed : hash ≡ name_hash keyed name) where
+  -- where a key has the hash of its name, the names decide
+  names_decide : (k : EntryKey) → IsKeyed keyed k → has hash name k ≡ named name k
+  names_decide k i = by (named name k) refl
+    where
+      by : (b : Bool) → named name k ≡ b → has hash name k ≡ named name k
+      by true t =
+          let same : hash ≡ k.hash = hashed ∙ (ap (name_hash keyed) (same_bytes name k.held.name t) ∙ sym i) in
+          ap (λ b. b && named name k) (eq-eqb hash k.hash same)
+      by false f = and_right (hash == k.hash) (named name k) f ∙ sym f
 
--- whether a key is this name with its hash
-abbrev pub is_key : HashedName → HashedName → Bool
-is_key n k = (n.hash == k.hash) && bytes_eq n.bytes.now k.bytes.now
+  -- so a look-up is one by the name
+  pub find-named : (ks : List EntryKey) → AreKeyed keyed ks → find (has hash name) ks ≡ find (named name) ks
+  find-named [] i = refl
+  find-named (k ∷ ks) i = ap (λ b. cond b (Some k) (find (has hash name) ks)) (names_decide k i.0) ∙ ap (λ r. cond (named name k) (Some k) r) (find-named ks i.1)
 
-and_false : (b : Bool) → b && false ≡ false
-and_false true = refl
-and_false false = refl
+  pub any-named : (ks : List EntryKey) → AreKeyed keyed ks → list_any (has hash name) ks ≡ list_any (named name) ks
+  any-named [] i = refl
+  any-named (k ∷ ks) i = ap (λ b. b || list_any (has hash name) ks) (names_decide k i.0) ∙ ap (λ r. named name k || r) (any-named ks i.1)
 
--- where both have their hashes, the names decide
-names_decide : (keyed : KeyedHash) (n k : HashedName) → IsHashed keyed n → IsHashed keyed k → is_key n k ≡ named n.bytes.now k
-names_decide keyed n k h i = by (named n.bytes.now k) refl
-  where
-    by : (b : Bool) → named n.bytes.now k ≡ b → is_key n k ≡ named n.bytes.now k
-    by true t =
-        let same : n.hash ≡ k.hash = h ∙ (ap (name_hash keyed) (same_bytes n.bytes.now k.bytes.now t) ∙ sym i) in
-        let e : (n.hash == k.hash) ≡ true = eq-eqb n.hash k.hash same in
-        ap (λ b. b && named n.bytes.now k) e
-    by false f = ap (λ b. (n.hash == k.hash) && b) f ∙ (and_false (n.hash == k.hash) ∙ sym f)
+-- a name was new exactly if it was not there
+flipped : (a b : Bool) → a ≡ not b → b ≡ not a
+flipped a true h = sym (ap not h)
+flipped a false h = sym (ap not h)
 
--- so a look-up is one by the name
-pub lookup-named : (keyed : KeyedHash) (n : HashedName) (es : List (HashedName × List Bool)) → IsHashed keyed n → AreHashed keyed es → lookup (is_key n) es ≡ lookup (named n.bytes.now) es
-lookup-named keyed n [] h i = refl
-lookup-named keyed n (e ∷ es) h i =
-    ap (λ b. cond b (Some e.1) (lookup (is_key n) es)) (names_decide keyed n e.0 h i.0) ∙ ap (λ r. cond (named n.bytes.now e.0) (Some e.1) r) (lookup-named keyed n es h i.1)
+-- whether two keys are equal
+abbrev pub same_key : EntryKey → EntryKey → Bool
+same_key a b = has a.hash a.held.name b
 
--- and so is where an entry is put
-pub insert_entry-named : (keyed : KeyedHash) (n : HashedName) (bits : List Bool) (es : List (HashedName × List Bool)) → IsHashed keyed n → AreHashed keyed es → insert_entry is_key es n bits ≡ insert_entry (λ k. named k.bytes.now) es n bits
-insert_entry-named keyed n bits [] h i = refl
-insert_entry-named keyed n bits (e ∷ es) h i =
-    ap (λ b. if b then (e.0, bits) ∷ es else e ∷ insert_entry is_key es n bits) (names_decide keyed n e.0 h i.0) ∙
-    ap (λ r. if named n.bytes.now e.0 then (e.0, bits) ∷ es else e ∷ r) (insert_entry-named keyed n bits es h i.1)
+-- the keys that have their hashes, and one behind them
+keyed_behind : (keyed : KeyedHash) (k : EntryKey) (ks : List EntryKey) → IsKeyed keyed k → AreKeyed keyed ks → AreKeyed keyed (ks ++ k ∷ [])
+keyed_behind keyed k [] h i = (h, tt)
+keyed_behind keyed k (x ∷ xs) h i = (i.0, keyed_behind keyed k xs h i.1)
 
--- the keys keep their hashes where an entry is put
-pub hashed-insert_entry : (keyed : KeyedHash) (n : HashedName) (bits : List Bool) (es : List (HashedName × List Bool)) → IsHashed keyed n → AreHashed keyed es → AreHashed keyed (insert_entry is_key es n bits)
-hashed-insert_entry keyed n bits [] h i = (h, tt)
-hashed-insert_entry keyed n bits (e ∷ es) h i = by (is_key n e.0) refl (hashed-insert_entry keyed n bits es h i.1)
-  where
-    by : (b : Bool) → is_key n e.0 ≡ b → AreHashed keyed (insert_entry is_key es n bits) → AreHashed keyed (if is_key n e.0 then (e.0, bits) ∷ es else e ∷ insert_entry is_key es n bits)
-    by true t more = subst (λ b. AreHashed keyed (if b then (e.0, bits) ∷ es else e ∷ insert_entry is_key es n bits)) (sym t) (i.0, i.1)
-    by false f more = subst (λ b. AreHashed keyed (if b then (e.0, bits) ∷ es else e ∷ insert_entry is_key es n bits)) (sym f) (i.0, more)
+module _ (keyed : KeyedHash) (k : EntryKey) (ks : List EntryKey) (one : IsKeyed keyed k) (all : AreKeyed keyed ks) where
+  -- a key is put behind the others, if its name is new
+  abbrev put_by : Bool → List EntryKey
+  put_by b = if b then ks else ks ++ k ∷ []
+
+  -- the keys keep their hashes
+  pub keyed-insert_key : AreKeyed keyed (insert_key same_key ks k)
+  keyed-insert_key = by (list_any (same_key k) ks)
+    where
+      by : (b : Bool) → AreKeyed keyed (put_by b)
+      by true = all
+      by false = keyed_behind keyed k ks one all
+
+  module _ (is_new : Bool) (told : is_new ≡ not (list_any (same_key k) ks)) where
+    -- it is new exactly if no entry has its name
+    pub is_free : is_new ≡ true → IsIn k.held.name (names_held (held ks)) → ⊥
+    is_free t i = absurd (true≢false (sym (any-named keyed k.hash k.held.name one ks all ∙ (tells_held k.held.name ks).1 i) ∙ (flipped is_new _ told ∙ ap not t)))
+
+    pub is_taken : is_new ≡ false → IsIn k.held.name (names_held (held ks))
+    is_taken f = (tells_held k.held.name ks).0 (sym (any-named keyed k.hash k.held.name one ks all) ∙ (flipped is_new _ told ∙ ap not f))
+
+    -- a new one goes last
+    pub held-insert_key : is_new ≡ true → held (insert_key same_key ks k) ≡ held ks ++ k.held ∷ []
+    held-insert_key t = ap (λ b. held (put_by b)) (flipped is_new _ told ∙ ap not t) ∙ map-append (λ (x : EntryKey). x.held) ks (k ∷ [])
+
+-- the entry at a number
+pub entry_at : (ks : List EntryKey) (i : ℕ) (k : EntryKey) → slice_get ks i ≡ Some k → get_or (held ks) i no_entry ≡ k.held
+entry_at [] i k h = absurd (cc)
+entry_at (x ∷ xs) zero k h = cc
+entry_at (x ∷ xs) (suc i) k h = entry_at xs i k h

@@ -1,6 +1,5 @@
--- Entries in a table, and what is told of an entry that is to follow them.
-use Rattle.std.specs.Prelude.{◌≡◌, Bool, List, [], ◌∷◌, ◌++◌, map, length}
-use Rattle.label_file.specs.declared.key.HashedName.{HashedName}
+-- What is told of an entry that is to follow those that are held.
+use Rattle.std.specs.Prelude.{◌≡◌, Bool, List, [], ◌∷◌, ◌++◌, length}
 use Rattle.wf_model.specs.Lists.{IsIn}
 use Rattle.wf_model.specs.Grammar.{Grammar}
 use Rattle.wf_model.specs.Items.{IsItemName}
@@ -11,10 +10,6 @@ use Rattle.wf_label.specs.Values.{AreLabelBits}
 use Rattle.label_file.specs.Stored.{EntryHeld, names_held}
 use Rattle.label_file.specs.declared.fault.StoreFault.{StoreFault}
 use Rattle.label_file.specs.declared.fault.StoreFault.TheVariants.{NotLabels as IsNoLabels, OtherSpec as IsOfOther, Truncated as IsTruncated, BadName as HasBadName, NameTwice as HasNameTwice, BadLabel as HasBadLabel, NoMemory as HasNoMemory}
-
--- the entries of a table
-abbrev pub held : List (HashedName × List Bool) → List EntryHeld
-held es = map (λ e. record { name = e.0.bytes.now; bits = e.1 }) es
 
 -- An entry with the name of an item, which is new, and a label of the grammar, is held behind the others
 pub record IsAdded (g : Grammar) (old : List EntryHeld) (e : Entry) (new : List EntryHeld) : Type 0 where

@@ -1,3 +1,5 @@
 pub mod Stored
+pub mod Layout
+pub mod Keys
 pub mod Hashed
 pub mod Adding

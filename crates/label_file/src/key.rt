@@ -1,4 +1,4 @@
-// A name with its hash, as a key of a table.
+// A name with its hash, by which an entry is looked up.
 ghost use Rattle.std.specs.Prelude.{◌≡◌, ◌==◌, ◌&&◌, bytes_eq};
 ghost use Rattle.std.specs.Hash as fed;
 ghost use Rattle.std.specs.Cmp.Rules.{comparing, hashing};
@@ -8,11 +8,11 @@ ghost use Rattle.label_file.specs.Hashed.{name_hash};
 use std::hash::{BuildHasher, Hash, Hasher};
 use wf_names::{KeyedHash, NameKey};
 
-/// A name and its hash with the key of a table. The hash is made once, and before the table is looked at: so two look-ups wait for memory at one time.
+/// A name and 32 bits of its hash with the key of a table. The hash is made once, and before the table is looked at: so two look-ups wait for memory at one time.
 #[derive(Clone, Copy)]
 pub struct HashedName<'a> {
     pub bytes: &'a [u8],
-    pub hash: u64,
+    pub hash: u32,
 }
 
 impl<'a> HashedName<'a> {
@@ -21,7 +21,7 @@ impl<'a> HashedName<'a> {
         ensures bytes { result.bytes.now ≡ bytes.now }
         ensures hash { result.hash ≡ name_hash keyed.now bytes.now }
     {
-        let hash = keyed.hash_one(NameKey { bytes });
+        let hash = (keyed.hash_one(NameKey { bytes }) % (1 << 32)) as u32;
         HashedName { bytes, hash }
     }
 }
@@ -41,11 +41,11 @@ impl<'a> Eq for HashedName<'a> {
 }
 
 impl<'a> Hash for HashedName<'a> {
-    ghost hash_input = { λ a. fed.u64 a.hash };
+    ghost hash_input = { λ a. fed.u32 a.hash };
 
     ghost respects_eq = { Prim.search (hashing, rules) };
 
     fn hash<H: Hasher>(&self, state: &mut H) {
-        state.write_u64(self.hash);
+        state.write_u32(self.hash);
     }
 }

@@ -5,6 +5,7 @@ mod append;
 mod fault;
 mod front;
 mod head;
+mod held;
 mod key;
 mod store;
 

@@ -4,14 +4,17 @@ ghost use Rattle.wf_model.specs.Lists.{IsIn};
 ghost use Rattle.wf_model.specs.Linear.{IsLinear};
 ghost use Rattle.wf_recur.specs.Cycles.{AreCyclesOf};
 ghost use Rattle.label_file.specs.Stored.{IsStoreFault, IsStoreOf, names_held, no_entry};
-ghost use Rattle.label_file.specs.Adding.{held, IsAdded, IsRefused};
-ghost use Rattle.label_file.specs.Hashed.{AreHashed, IsHashed};
+ghost use Rattle.label_file.specs.Layout.{IsCut};
+ghost use Rattle.label_file.specs.Keys.{held};
+ghost use Rattle.label_file.specs.Adding.{IsAdded, IsRefused};
+ghost use Rattle.label_file.specs.Hashed.{AreKeyed, IsHashed, IsKeyed};
 
 use crate::fault::StoreFault;
-use crate::front::{count_entries, cut_front};
+use crate::front::{Front, count_entries, cut_front};
 use crate::head::behind_head;
+use crate::held::HeldEntry;
 use crate::key::HashedName;
-use indexmap::IndexMap;
+use indexmap::IndexSet;
 use name_text::split_item;
 use std::alloc::{AllocError, Global};
 use std::marker::Model;
@@ -21,73 +24,70 @@ use wf_recur::Cycles;
 use wf_spec::Grammar;
 
 /// Whether an entry has this name.
-fn holds(keyed: &KeyedHash, entries: &IndexMap<HashedName, LabelRef>, name: HashedName<'_>) -> bool
-    requires entries { AreHashed keyed.now entries.now.entries }
+fn holds(keyed: &KeyedHash, entries: &IndexSet<HeldEntry>, name: HashedName<'_>) -> bool
+    requires entries { AreKeyed keyed.now entries.now.keys }
     requires name { IsHashed keyed.now name }
-    ensures { IsTrue result ↔ IsIn name.entry.bytes.now (names_held (held entries.now.entries)) }
+    ensures { IsTrue result ↔ IsIn name.entry.bytes.now (names_held (held entries.now.keys)) }
 {
     let _keyed = keyed;
-    entries.contains_key(&name)
+    entries.contains(&name)
 }
 
-/// Adds an entry behind the others, if its name is new, and tells whether it is. Where it is not, the entry of this name has the label now. The only error is that memory is refused.
+/// Adds an entry behind the others, if its name is new, and tells whether it is. The only error is that memory is refused.
 fn put<'a>(
     keyed: &KeyedHash,
-    entries: &mut IndexMap<HashedName<'a>, LabelRef<'a>>,
-    name: HashedName<'a>,
-    label: LabelRef<'a>,
+    entries: &mut IndexSet<HeldEntry<'a>>,
+    entry: HeldEntry<'a>,
 ) -> Result<bool, AllocError>
-    requires entries { AreHashed keyed.now entries.old.entries }
-    requires name { IsHashed keyed.now name }
-    ensures free { IfOk result (λ is_new. is_new ≡ true → IsIn name.entry.bytes.now (names_held (held entries.old.entries)) → ⊥) }
-    ensures added { IfOk result (λ is_new. is_new ≡ true → held entries.new.entries ≡ held entries.old.entries ++ record { name = name.entry.bytes.now; bits = label.entry } ∷ []) }
-    ensures taken { IfOk result (λ is_new. is_new ≡ false → IsIn name.entry.bytes.now (names_held (held entries.old.entries))) }
-    ensures few { length entries.new.entries ≤ length entries.old.entries + 1 }
-    ensures entries { AreHashed keyed.now entries.new.entries }
+    requires entries { AreKeyed keyed.now entries.old.keys }
+    requires entry { IsKeyed keyed.now entry }
+    ensures free { IfOk result (λ is_new. is_new ≡ true → IsIn entry.entry.held.name (names_held (held entries.old.keys)) → ⊥) }
+    ensures added { IfOk result (λ is_new. is_new ≡ true → held entries.new.keys ≡ held entries.old.keys ++ entry.entry.held ∷ []) }
+    ensures taken { IfOk result (λ is_new. is_new ≡ false → IsIn entry.entry.held.name (names_held (held entries.old.keys))) }
+    ensures few { length entries.new.keys ≤ length entries.old.keys + 1 }
+    ensures entries { AreKeyed keyed.now entries.new.keys }
 {
     let _keyed = keyed;
-    match entries.insert(name, label) {
-        Ok(None) => Ok(true),
-        Ok(Some(_)) => Ok(false),
-        Err(_) => Err(AllocError),
-    }
+    let is_new = entries.insert(entry)?;
+    Ok(is_new)
 }
 
 /// The label of the entry of this name; None where no entry has it.
 fn find<'a>(
     keyed: &KeyedHash,
-    entries: &IndexMap<HashedName<'a>, LabelRef<'a>>,
+    entries: &IndexSet<HeldEntry<'a>>,
     name: HashedName<'_>,
 ) -> Option<LabelRef<'a>>
-    requires entries { AreHashed keyed.now entries.now.entries }
+    requires entries { AreKeyed keyed.now entries.now.keys }
     requires name { IsHashed keyed.now name }
-    ensures found { IfSome result (λ l. IsIn (record { name = name.entry.bytes.now; bits = l }) (held entries.now.entries)) }
-    ensures none { IfNone result (IsIn name.entry.bytes.now (names_held (held entries.now.entries)) → ⊥) }
+    ensures found { IfSome result (λ l. IsIn (record { name = name.entry.bytes.now; bits = l }) (held entries.now.keys)) }
+    ensures none { IfNone result (IsIn name.entry.bytes.now (names_held (held entries.now.keys)) → ⊥) }
 {
     let _keyed = keyed;
-    let Some(label) = entries.get(&name) else {
+    let Some(entry) = entries.get(&name) else {
         return None;
     };
-    Some(label.copied())
+    Some(entry.label())
 }
 
-/// The entries of a label file, in the order of the file, found by name. It keeps no copy of a name or of a label: all are parts of the bytes of the file.
+/// The entries of a label file, in the order of the file, found by name. It keeps no copy of a name or of a label: all are parts of the bytes of the file. An entry takes 24 bytes, and its place in the table some 18.
 #[derive(Drop)]
 pub struct Store<'a> {
     keyed: KeyedHash,
-    entries: IndexMap<HashedName<'a>, LabelRef<'a>>,
+    entries: IndexSet<HeldEntry<'a>>,
 }
 
 impl<'a> Model for Store<'a> {
-    ghost use Rattle.std.specs.Prelude.{◌<◌, ◌^◌, List, length, map};
+    ghost use Rattle.std.specs.Prelude.{◌<◌, ◌^◌, List, length};
     ghost use Rattle.label_file.specs.Stored.{EntryHeld};
-    ghost use Rattle.label_file.specs.Hashed.{AreHashed};
+    ghost use Rattle.label_file.specs.Keys.{held};
+    ghost use Rattle.label_file.specs.Hashed.{AreKeyed};
 
     ghost Value = { List EntryHeld };
 
-    ghost view = { λ s. map (λ e. record { name = e.0.bytes.now; bits = e.1 }) s.entries.entries };
+    ghost view = { λ s. held s.entries.keys };
 
-    ghost invariant = { λ s. (length s.entries.entries < 2 ^ 32) × AreHashed s.keyed s.entries.entries };
+    ghost invariant = { λ s. (length s.entries.keys < 2 ^ 32) × AreKeyed s.keyed s.entries.keys };
 }
 
 impl<'a> Store<'a> {
@@ -131,7 +131,7 @@ impl<'a> Store<'a> {
         let count = count_entries(rest);
         let mut store = Store {
             keyed: KeyedHash::new(key),
-            entries: IndexMap::with_capacity(alloc, count)?,
+            entries: IndexSet::with_capacity(alloc, count)?,
         };
         while !rest.is_empty() {
             let Some(front) = cut_front(rest) else {
@@ -139,39 +139,40 @@ impl<'a> Store<'a> {
                     offset: (bytes.len() - rest.len()) as u64,
                 });
             };
-            store.add(g, cycles, front.name, front.label)?;
+            store.add(g, cycles, front)?;
             rest = front.rest;
         }
         Ok(store)
     }
 
     /// Adds an entry behind the others, if its name is that of an item, no entry before has the name, and its label is one of the grammar. The first of these that is wrong is told in this order. After an error the entries are good for nothing.
-    fn add(
-        &mut self,
-        g: &Grammar,
-        cycles: &Cycles,
-        name: &'a [u8],
-        label: &'a [u8],
-    ) -> Result<(), StoreFault>
+    fn add(&mut self, g: &Grammar, cycles: &Cycles, front: Front<'a>) -> Result<(), StoreFault>
         requires linear { IsLinear g.now.core }
         requires cycles { AreCyclesOf g.now.core cycles.now }
+        requires cut { IsCut front }
         requires room { length self.old + 1 < 2 ^ 32 }
-        ensures added { OnOk result (IsAdded g.now.core self.old (record { name = name.now; label = label.now }) self.new) }
-        ensures refused { IfErr result (λ f. IsRefused g.now.core self.old (record { name = name.now; label = label.now }) f) }
+        ensures added { OnOk result (IsAdded g.now.core self.old (record { name = front.entry.name.now; label = front.entry.label.now }) self.new) }
+        ensures refused { IfErr result (λ f. IsRefused g.now.core self.old (record { name = front.entry.name.now; label = front.entry.label.now }) f) }
     {
         let entry = self.length();
-        if split_item(name).is_none() {
+        if split_item(front.name).is_none() {
             return Err(StoreFault::BadName { entry });
         }
-        let name = HashedName::new(&self.keyed, name);
+        let name = HashedName::new(&self.keyed, front.name);
         // What is read of the table here is at hand when the entry is put.
         if holds(&self.keyed, &self.entries, name) {
             return Err(StoreFault::NameTwice { entry });
         }
-        let Ok(label) = LabelRef::check(g, cycles, label) else {
+        let Ok(label) = LabelRef::check(g, cycles, front.label) else {
             return Err(StoreFault::BadLabel { entry });
         };
-        if !put(&self.keyed, &mut self.entries, name, label)? {
+        let held = HeldEntry::new(
+            front.bytes,
+            front.name.len() as u8,
+            label.length(),
+            name.hash,
+        );
+        if !put(&self.keyed, &mut self.entries, held)? {
             return Err(StoreFault::NameTwice { entry });
         }
         Ok(())
@@ -221,10 +222,7 @@ impl<'a> Store<'a> {
         requires { entry < length self.now }
         ensures { result.now ≡ (get_or self.now entry no_entry).name }
     {
-        match self.entries.get_index(entry as usize) {
-            Some((name, _)) => name.bytes,
-            None => &[],
-        }
+        self.entries[entry as usize].name()
     }
 
     /// The label of the entry of this number, from 0. Takes no memory.
@@ -232,6 +230,6 @@ impl<'a> Store<'a> {
         requires { entry < length self.now }
         ensures { result ≡ (get_or self.now entry no_entry).bits }
     {
-        self.entries[entry as usize].copied()
+        self.entries[entry as usize].label()
     }
 }

@@ -5,7 +5,7 @@ ghost use Rattle.bit_pack.specs.Written.{first_bits, IsWhole};
 
 use std::marker::Model;
 
-/// A label in bytes that were checked. A caller sees it as its bits.
+/// The bits of a label, in bytes that they fill. A caller sees it as its bits.
 #[derive(Drop)]
 pub struct LabelRef<'a> {
     bytes: &'a [u8],
@@ -24,8 +24,8 @@ impl<'a> Model for LabelRef<'a> {
 }
 
 impl<'a> LabelRef<'a> {
-    /// The first bits of bytes, which only fewer than eight zero bits follow.
-    pub(crate) fn new(bytes: &'a [u8], end: u32) -> LabelRef<'a>
+    /// The first bits of bytes, so many, which only fewer than eight zero bits follow. Whether they are a label is not tried.
+    pub fn new(bytes: &'a [u8], end: u32) -> LabelRef<'a>
         requires { IsWhole bytes.now end }
         ensures { result ≡ first_bits bytes.now end }
     {

@@ -2,7 +2,7 @@ use Rattle.std.proofs.Common.{◌≡◌, ◌≢◌, ◌∙◌, [], length, sym, 
 use Rattle.std.proofs.lemmas.Bool.{eqb-true, eq-eqb}
 use Rattle.std.proofs.lemmas.List.{nil_from_length}
 use Rattle.std.proofs.lemmas.Result.{err_from_is_err_and}
-use Rattle.label_file.specs.Adding.{held}
+use Rattle.label_file.specs.Keys.{held}
 use Rattle.label_file.proofs.ReadSoFar.{AreReadSoFar, none_read, one_more, all_read, none_whole, refused}
 use Rattle.label_file.proofs.store.Store.open_with_key.Goals as goal
 
@@ -12,7 +12,7 @@ returns-in_err-rest-clause-fault c =
 
 pub loop-rest-init : goal.loop-rest-init
 loop-rest-init c =
-    let entries = c.in_ok-with_capacity.field-0.entries in
+    let entries = c.in_ok-with_capacity.field-0.keys in
     let none : entries ≡ [] = nil_from_length entries c.in_ok-with_capacity.ensures.len in
     let found = c.in_ok-rest.ensures.head in
     subst (λ es. AreReadSoFar c.args.g.now.core c.args.digests.now c.args.bytes.now c.in_ok-rest.rest.now (held es)) (sym none)
