@@ -1,5 +1,5 @@
 -- Nodes that are appended, one after another.
-use Rattle.std.proofs.Common.{◌≡◌, ℕ, suc, ◌+◌, ◌-◌, ◌≤◌, ◌∙◌, List, [], ◌∷◌, ◌++◌, map, length, take, refl, sym, ap, subst, ⊎_elim, arith, append_assoc, append-nil}
+use Rattle.std.proofs.Common.{◌≡◌, ℕ, suc, ◌+◌, ◌∙◌, List, [], ◌∷◌, ◌++◌, map, length, take, refl, sym, ap, subst, ⊎_elim, arith, append_assoc, append-nil}
 use Rattle.std.proofs.lemmas.List.{map-append, take_at}
 use Rattle.wf_model.specs.Lists.{numbers_from}
 use Rattle.wf_model.specs.Grammar.{Grammar}
@@ -37,10 +37,3 @@ adds_one g p parent j old mid new n a e w is = record {
 
 pub adds_begins : (g : Grammar) (p : ℕ) (parent : Prefix) (j : ℕ) (old new : List NodeHeld) → AddsChildren g p parent j old new → take (length old) new ≡ old
 adds_begins g p parent j old new a = ap (take (length old)) a.is ∙ take_at old a.more (length old) refl
-
--- a list of the numbers from one on, and one more
-pub listed_more : {A : Type 0} (f : A → ℕ) (xs new : List A) (x : A) (first k : ℕ) → first ≤ k → map f xs ≡ numbers_from first (k - first) → f x ≡ k → new ≡ xs ++ x ∷ [] → map f new ≡ numbers_from first (k + 1 - first)
-listed_more f xs new x first k h e d is =
-    let n : first + (k - first) ≡ k = omega arith in
-    let m : k - first + 1 ≡ k + 1 - first = omega arith in
-    ap (map f) is ∙ (map-append f xs (x ∷ []) ∙ (ap (λ l. l ++ f x ∷ []) e ∙ (ap (λ y. numbers_from first (k - first) ++ y ∷ []) (d ∙ sym n) ∙ (sym (numbers_more first (k - first)) ∙ ap (numbers_from first) m))))

@@ -6,7 +6,7 @@ pub mod Expanded
 pub mod Started
 pub mod NamedInstances
 pub mod Numbering
-pub mod Children
+pub mod ChildInstances
 pub mod OpenedNodes
 pub mod OpenedRun
 pub mod NextEvents

@@ -29,7 +29,7 @@ use Rattle.wf_run.specs.Runs.{Node, Prefix, RunSeen, node_at, name_at, names_at,
 use Rattle.wf_run.specs.Opening.{prefix_by, child_node, with_children, opened_run}
 use Rattle.wf_run.proofs.Numbering.{read_last}
 use Rattle.wf_run.proofs.NamedInstances.{instance_of, instances_of, names_count, names_differ, instance_at}
-use Rattle.wf_run.proofs.Children.{children_there}
+use Rattle.wf_run.proofs.ChildInstances.{children_there}
 use Rattle.wf_run.proofs.OpenedNodes.{no_node, length-opened, node_expanded, node_other, node_new}
 
 -- the modules of instances that get names

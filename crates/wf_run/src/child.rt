@@ -1,5 +1,5 @@
 // The nodes of children.
-ghost use Rattle.std.specs.Prelude.{◌≡◌, ◌<◌, ◌+◌, ◌^◌, ◌++◌, None, length, option_map, get_or, IfOk, IfSome};
+ghost use Rattle.std.specs.Prelude.{◌≡◌, ◌<◌, ◌≤◌, ◌+◌, ◌^◌, ◌++◌, None, length, option_map, get_or, IfOk, IfSome};
 ghost use Rattle.wf_model.specs.Grammar.{body_of};
 ghost use Rattle.wf_model.specs.Linear.{IsLinear};
 ghost use Rattle.bit_pack.specs.Written.{first_bits, IsWhole};
@@ -12,6 +12,7 @@ ghost use Rattle.wf_run.specs.Nodes.{node_of};
 ghost use Rattle.wf_run.specs.Opening.{child_prefix, child_node};
 ghost use Rattle.wf_run.specs.Growing.{prefix_of, CanGoOn};
 
+use crate::chain::Chain;
 use crate::node::Node;
 use crate::prefix::PrefixRef;
 use bumpalo::Bump;
@@ -34,7 +35,8 @@ fn is_continuing(cycles: &Cycles, m: ModNo, step: Step) -> bool
 /// The chain number with which a chain begins at a module; None where it is on no cycle.
 pub(crate) fn begun(cycles: &Cycles, m: ModNo) -> Option<u32>
     requires { m.0 < length cycles.now.on }
-    ensures { result ≡ chain_by (option_map (λ o. o.step) (get_or cycles.now.on m.0 None)) 0 }
+    ensures chain { result ≡ chain_by (option_map (λ o. o.step) (get_or cycles.now.on m.0 None)) 0 }
+    ensures few { IfSome result (λ c. c ≤ 2 ^ 24) }
 {
     match cycles.on(m) {
         Some(_) => Some(0),
@@ -45,7 +47,8 @@ pub(crate) fn begun(cycles: &Cycles, m: ModNo) -> Option<u32>
 /// The chain number after a continuing step more.
 fn raised(chain: Option<u32>) -> Option<u32>
     requires { IfSome chain (λ c. c < 2 ^ 24) }
-    ensures { result ≡ option_map (λ c. c + 1) chain }
+    ensures chain { result ≡ option_map (λ c. c + 1) chain }
+    ensures few { IfSome result (λ c. c ≤ 2 ^ 24) }
 {
     match chain {
         Some(c) => Some(c + 1),
@@ -89,6 +92,7 @@ fn child_prefix<'a>(
     requires parent { CanGoOn parent }
     ensures prefix { IfOk result (λ r. prefix_of r ≡ child_prefix g.now.core (step_of step) (prefix_of parent.entry)) }
     ensures whole { IfOk result (λ r. IsWhole r.bytes.now r.length) }
+    ensures chain { IfOk result (λ r. IfSome r.chain (λ c. c ≤ 2 ^ 24)) }
 {
     let m = target(g, step);
     if !g.is_composite(m) {
@@ -141,9 +145,10 @@ pub(crate) fn child<'a>(
     let prefix = child_prefix(alloc, arena, g, cycles, parent, step)?;
     Ok(Node {
         bytes: prefix.bytes,
-        children: None,
-        chain: prefix.chain,
+        chain: Chain::new(prefix.chain),
         length: prefix.length,
+        first_child: 0,
         module: target(g, step),
+        children: 0,
     })
 }

@@ -1,6 +1,6 @@
 // An expansion, added to the fields of a run.
-ghost use Rattle.std.specs.Prelude.{◌≡◌, ℕ, ◌<◌, ◌≤◌, ◌+◌, ◌^◌, ◌++◌, Some, false, length, take, map, IfOk, IfErr, IfSome, OnOk, OnErr};
-ghost use Rattle.wf_model.specs.Lists.{IsIn, numbers_from};
+ghost use Rattle.std.specs.Prelude.{◌≡◌, ◌<◌, ◌≤◌, ◌+◌, ◌^◌, ◌++◌, false, length, take, map, IfErr, IfSome, OnOk, OnErr};
+ghost use Rattle.wf_model.specs.Lists.{IsIn};
 ghost use Rattle.wf_model.specs.Grammar.{body_of};
 ghost use Rattle.wf_model.specs.Linear.{IsLinear};
 ghost use Rattle.wf_model.specs.Faults.{some_twice};
@@ -17,7 +17,6 @@ use crate::names::PlacedNames;
 use crate::node::{Node, NodeNo};
 use crate::prefix::PrefixRef;
 use bumpalo::Bump;
-use bumpalo::collections::into_bump_slice;
 use std::alloc::{AllocError, Global};
 use wf_recur::Cycles;
 use wf_spec::{Grammar, Name, PosNo, ProdNo, RunFault, Step};
@@ -50,18 +49,6 @@ fn append_children<'a>(
     Ok(())
 }
 
-/// A list of instances, the numbers from one on, so many, in the arena.
-fn place_list<'a>(arena: &'a Bump, first: u32, count: u32) -> Result<&'a [NodeNo], AllocError>
-    requires { first + count < 2 ^ 32 }
-    ensures { IfOk result (λ ks. map (λ k. k.0) ks.now ≡ numbers_from first count) }
-{
-    let mut list = Vec::with_capacity(arena, count as usize)?;
-    for k in first..first + count {
-        list.push(NodeNo(k))?;
-    }
-    Ok(into_bump_slice(list))
-}
-
 /// An expansion of an instance by a production, with a name for each child.
 #[derive(Clone, Copy, Drop)]
 pub(crate) struct Expansion<'n> {
@@ -70,9 +57,9 @@ pub(crate) struct Expansion<'n> {
     pub(crate) names: &'n [Name],
 }
 
-/// Adds an expansion: the nodes of the children, their names, and to the instance the list of them. After an error all is as it was.
+/// Adds an expansion: the nodes of the children, their names, and to the instance the number of the first and how many there are. After an error all is as it was.
 ///
-/// Errors: `NameTwice` where a name is taken already, or stands twice among them; `NoMemory`. The list is set last, and nothing after it can be refused.
+/// Errors: `NameTwice` where a name is taken already, or stands twice among them; `NoMemory`.
 pub(crate) fn grow<'a>(
     alloc: Global,
     arena: &'a Bump,
@@ -99,24 +86,23 @@ pub(crate) fn grow<'a>(
     ensures same_nodes { OnErr result (nodes.new.items ≡ nodes.old.items) }
 {
     let before = nodes.len();
+    let count = g.production(e.production).positions().len() as u8;
     let node = nodes[e.instance.0 as usize];
     let parent = PrefixRef {
         bytes: node.bytes,
         length: node.length,
-        chain: node.chain,
+        chain: node.chain.number(),
     };
     if let Err(_) = append_children(alloc, arena, g, cycles, nodes, parent, e.production) {
         nodes.truncate(before);
         return Err(RunFault::NoMemory);
     }
-    let Ok(list) = place_list(arena, before as u32, e.names.len() as u32) else {
-        nodes.truncate(before);
-        return Err(RunFault::NoMemory);
-    };
     if let Err(fault) = taken.add_all(e.names) {
         nodes.truncate(before);
         return Err(fault);
     }
-    nodes[e.instance.0 as usize].children = Some(list);
+    let opened = &mut nodes[e.instance.0 as usize];
+    opened.first_child = before as u32;
+    opened.children = count;
     Ok(())
 }

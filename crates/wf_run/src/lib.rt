@@ -4,6 +4,7 @@
 //! The idea is that of Bao, Davidson and Milo, "Labeling Workflow Views with Fine-Grained Dependencies", VLDB 2012, section 4 (compressed parse trees).
 #![tactic(auto)]
 
+mod chain;
 mod child;
 mod grow;
 mod names;
@@ -12,6 +13,6 @@ mod prefix;
 mod root;
 mod run;
 
-pub use node::NodeNo;
+pub use node::{Children, NodeNo};
 pub use prefix::PrefixRef;
 pub use run::Run;

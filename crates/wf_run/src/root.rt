@@ -7,6 +7,7 @@ ghost use Rattle.wf_recur.specs.Cycles.{AreCyclesOf};
 ghost use Rattle.wf_run.specs.Nodes.{node_of, IsFilledPrefix};
 ghost use Rattle.wf_run.specs.Opening.{closed_node, root_prefix};
 
+use crate::chain::Chain;
 use crate::child::begun;
 use crate::names::PlacedNames;
 use crate::node::Node;
@@ -25,18 +26,20 @@ pub(crate) fn root<'a>(g: &Grammar, cycles: &Cycles) -> Node<'a>
     if !g.is_composite(start) {
         return Node {
             bytes: &[],
-            children: None,
-            chain: None,
+            chain: Chain::new(None),
             length: 0,
+            first_child: 0,
             module: start,
+            children: 0,
         };
     }
     Node {
         bytes: &[128],
-        children: None,
-        chain: begun(cycles, start),
+        chain: Chain::new(begun(cycles, start)),
         length: 1,
+        first_child: 0,
         module: start,
+        children: 0,
     }
 }
 

@@ -1,10 +1,11 @@
 // Runs.
-ghost use Rattle.std.specs.Prelude.{◌≡◌, ◌⊎◌, ◌<◌, ◌≤◌, ◌^◌, ◌+◌, ◌++◌, ◌∷◌, [], ℕ, true, false, List, Option, Some, None, length, map, option_map, position, bytes_eq, is_some, IfOk, IfErr, IfSome, IfNone, OnOk, OnErr};
+ghost use Rattle.std.specs.Prelude.{◌≡◌, ◌⊎◌, ◌<◌, ◌≤◌, ◌^◌, ◌+◌, ◌++◌, ◌∷◌, [], ℕ, true, false, List, Option, Some, None, length, option_map, position, bytes_eq, is_some, IfOk, IfErr, IfSome, IfNone, OnOk, OnErr};
 ghost use Rattle.wf_model.specs.declared.event.Event.{Event};
 ghost use Rattle.wf_model.specs.declared.event.Event.TheVariants.{Start, Expand};
 ghost use Rattle.wf_model.specs.declared.event.RunFault.TheVariants.{NoMemory};
 ghost use Rattle.wf_model.specs.Faults.{fault_of, some_twice};
 ghost use Rattle.wf_model.specs.Linear.{IsLinear};
+ghost use Rattle.wf_model.specs.Lists.{numbers_from};
 ghost use Rattle.wf_model.specs.WellFormed.{IsWellFormed};
 ghost use Rattle.bit_pack.specs.Bits.{packed};
 ghost use Rattle.run_faults.specs.Standing.{IsFound, Fits};
@@ -18,7 +19,7 @@ ghost use Rattle.wf_run.specs.Growing.{IsExpandFault, IsFaultAt, CanOpen};
 
 use crate::grow::{Expansion, grow};
 use crate::names::PlacedNames;
-use crate::node::{Node, NodeNo};
+use crate::node::{Children, Node, NodeNo};
 use crate::prefix::PrefixRef;
 use crate::root::{plant, root};
 use bumpalo::Bump;
@@ -28,7 +29,7 @@ use std::marker::Model;
 use wf_recur::Cycles;
 use wf_spec::{Grammar, ModNo, Name, ProdNo, RunFault};
 
-/// A run of a strictly linear grammar. Its instances are numbered from 0 in order of making. Names, prefixes and lists of children lie in an arena, and are placed there once and never written again.
+/// A run of a strictly linear grammar. Its instances are numbered from 0 in order of making. Names and prefixes lie in an arena, and are placed there once and never written again.
 #[derive(Drop)]
 pub struct Run<'a> {
     alloc: Global,
@@ -131,11 +132,18 @@ impl<'a> Run<'a> {
     }
 
     /// The children of an instance, in order of the positions; None before it is expanded.
-    pub fn children(&self, n: NodeNo) -> Option<&'a [NodeNo]>
+    pub fn children(&self, n: NodeNo) -> Option<Children>
         requires { n.0 < length self.now.nodes }
-        ensures { option_map (λ ks. map (λ k. k.0) ks.now) result ≡ (node_at self.now n.0).children }
+        ensures { option_map (λ ks. numbers_from ks.first ks.count) result ≡ (node_at self.now n.0).children }
     {
-        self.nodes[n.0 as usize].children
+        let node = self.nodes[n.0 as usize];
+        if node.first_child == 0 {
+            return None;
+        }
+        Some(Children {
+            first: node.first_child,
+            count: node.children,
+        })
     }
 
     /// The prefix of the labels that an instance may come to make: fewer than 2^17 bits. It is placed once and never written again.
@@ -150,7 +158,7 @@ impl<'a> Run<'a> {
         PrefixRef {
             bytes: node.bytes,
             length: node.length,
-            chain: node.chain,
+            chain: node.chain.number(),
         }
     }
 

@@ -13,11 +13,11 @@ returns-then-is_continuing-clause-prefix c =
     let rule = c.production-rule.ensures in
     let head = c.head.ensures ∙ ap (λ (r : Production). r.head) rule.core in
     child_goes_on c.args.g.now.core c.args.cycles.now (step_of c.args.step) (prefix_of c.args.parent) rule.formed c.requires.linear c.requires.cycles c.requires.production
-    _ _ c.target-m.ensures.target c.is_composite.ensures.test c.if-not-is_composite.false _ _ head c.is_continuing.ensures _ c.if-is_continuing.true c.raised.ensures
+    _ _ c.target-m.ensures.target c.is_composite.ensures.test c.if-not-is_composite.false _ _ head c.is_continuing.ensures _ c.if-is_continuing.true c.raised.ensures.chain
 
 pub returns-clause-prefix : goal.returns-clause-prefix
 returns-clause-prefix c =
     let rule = c.production-rule.ensures in
     let head = c.head.ensures ∙ ap (λ (r : Production). r.head) rule.core in
     child_leaves c.args.g.now.core c.args.cycles.now (step_of c.args.step) (prefix_of c.args.parent) rule.formed c.requires.linear c.requires.cycles c.requires.production
-    _ _ c.target-m.ensures.target c.is_composite.ensures.test c.if-not-is_composite.false _ _ head c.is_continuing.ensures _ _ _ c.if-is_continuing.false (c.alternative.ensures ∙ rule.alternative) c.in_ok-bytes.ensures.bits c.target-m.ensures.in_range c.begun.ensures
+    _ _ c.target-m.ensures.target c.is_composite.ensures.test c.if-not-is_composite.false _ _ head c.is_continuing.ensures _ _ _ c.if-is_continuing.false (c.alternative.ensures ∙ rule.alternative) c.in_ok-bytes.ensures.bits c.target-m.ensures.in_range c.begun.ensures.chain

@@ -11,7 +11,8 @@ returns-clause-node c =
     let s = c.start-start.ensures in
     let there = subst (λ k. k < length g.modules) (sym s.start) s.formed.start in
     let step = step_told g c.args.cycles.now s.formed c.requires.linear c.requires.cycles m there in
-    composite_root g m c.begun.result s.start (sym c.is_composite.ensures.test ∙ c.if-not-is_composite.false) (c.begun.ensures ∙ ap (λ o. chain_by o 0) step)
+    let chain = c.new-2.ensures ∙ (c.begun.ensures.chain ∙ ap (λ o. chain_by o 0) step) in
+    composite_root g m _ s.start (sym c.is_composite.ensures.test ∙ c.if-not-is_composite.false) chain
 
 pub returns-clause-filled : goal.returns-clause-filled
 returns-clause-filled c = record { whole = one_whole; few = omega arith }
