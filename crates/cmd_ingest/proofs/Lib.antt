@@ -1,4 +1,5 @@
 pub mod HeadFirst
 pub mod Ingesting
 pub mod Labelling
+pub mod NamedChildren
 pub mod SomeIngestion

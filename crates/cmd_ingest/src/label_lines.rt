@@ -1,7 +1,8 @@
 // Lines of events, whose items are labelled and put line by line.
-ghost use Rattle.std.specs.Prelude.{◌≡◌, [], ℕ, List, Some, map, option_map, position, bytes_eq};
+ghost use Rattle.std.specs.Prelude.{◌≡◌, [], ℕ, List, Some, option_map, position, bytes_eq};
 ghost use Rattle.std.specs.Cmp.Lexicographic.{pointwise};
 ghost use Rattle.wf_model.specs.declared.event.Event.{Event};
+ghost use Rattle.wf_model.specs.Lists.{numbers_from};
 ghost use Rattle.wf_model.specs.Run.{Expanded, made, names_of, expanded_by};
 ghost use Rattle.wf_io.specs.Told.{File};
 ghost use Rattle.wf_io.specs.Lines.{lines_in};
@@ -20,7 +21,7 @@ use wf_io::{Lines, Shelf, Sink};
 use wf_labeller::Labeller;
 use wf_lines::{Due, take_lines};
 use wf_message::Stop;
-use wf_run::{NodeNo, Run};
+use wf_run::{Children, NodeNo, Run};
 use wf_spec::{Event, Name, RunFault};
 
 /// A run whose items are labelled, and the entries of the items that the events of the last line made, as they stand in a label file.
@@ -41,33 +42,35 @@ fn node_of(number: Option<u32>) -> Option<NodeNo>
 }
 
 /// The name of the instance of a number, and no bytes where there is none.
-fn name_of<'r>(run: &Run<'r>, n: NodeNo) -> &'r [u8]
-    ensures { (events : List Event) → IsRunOf run.now events → result.now ≡ name_at run.now n.0 }
+fn name_of<'r>(run: &Run<'r>, n: u64) -> &'r [u8]
+    ensures { (events : List Event) → IsRunOf run.now events → result.now ≡ name_at run.now n }
 {
-    if n.0 < run.instances() {
-        run.name(n)
+    if n < run.instances() as u64 {
+        run.name(NodeNo(n as u32))
     } else {
         &[]
     }
 }
 
-/// Whether instances have these names, one for each.
-fn have_names(run: &Run<'_>, instances: &[NodeNo], names: &[Name]) -> bool
-    ensures { (events : List Event) → IsRunOf run.now events → result ≡ pointwise bytes_eq (names_at run.now (map (λ n. n.0) instances.now)) names.now }
+/// Whether children have these names, one for each.
+fn have_names(run: &Run<'_>, children: Children, names: &[Name]) -> bool
+    ensures { (events : List Event) → IsRunOf run.now events → result ≡ pointwise bytes_eq (names_at run.now (numbers_from children.first children.count)) names.now }
 {
-    let mut left = instances;
+    let mut next = children.first as u64;
+    let mut left = children.count;
     let mut wanted = names;
     while let [name, more @ ..] = wanted {
-        let [n, rest @ ..] = left else {
-            return false;
-        };
-        if name_of(run, *n) != name.bytes() {
+        if left == 0 {
             return false;
         }
-        left = rest;
+        if name_of(run, next) != name.bytes() {
+            return false;
+        }
+        next += 1;
+        left -= 1;
         wanted = more;
     }
-    left.is_empty()
+    left == 0
 }
 
 /// Whether an instance was expanded into instances of these names.
@@ -103,7 +106,7 @@ impl Grows for Labelling<'_> {
     }
 
     fn is_root(&self, name: &[u8]) -> bool {
-        name_of(self.labeller.run(), NodeNo(0)) == name
+        name_of(self.labeller.run(), 0) == name
     }
 
     fn find(&self, name: &[u8]) -> Option<u32> {
