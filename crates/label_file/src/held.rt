@@ -13,6 +13,7 @@ use crate::key::HashedName;
 use indexmap::Equivalent;
 use std::hash::{Hash, Hasher};
 use std::marker::Model;
+use std::mem::size_of;
 use wf_label::LabelRef;
 
 /// An entry of a label file whose label was tried: its bytes there from the name on to the end of the label, how many of them are the name, how many zero bits fill the last byte, and the hash of the name. It takes 24 bytes. A caller sees the name, the bits of the label and the hash.
@@ -23,6 +24,9 @@ pub struct HeldEntry<'a> {
     name: u8,
     padding: u8,
 }
+
+// A store holds millions of entries.
+const _: () = prove!(size_of::<HeldEntry<'static>>() == 24);
 
 impl<'a> Model for HeldEntry<'a> {
     ghost use Rattle.label_file.specs.Layout.{entry_in, IsEntryIn};

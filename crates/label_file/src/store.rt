@@ -70,7 +70,7 @@ fn find<'a>(
     Some(entry.label())
 }
 
-/// The entries of a label file, in the order of the file, found by name. It keeps no copy of a name or of a label: all are parts of the bytes of the file. An entry takes 24 bytes, and its place in the table some 18.
+/// The entries of a label file, in the order of the file, found by name. It keeps no copy of a name or of a label: all are parts of the bytes of the file. An entry takes 24 bytes, and its place in the table 15 to 23 more.
 #[derive(Drop)]
 pub struct Store<'a> {
     keyed: KeyedHash,
