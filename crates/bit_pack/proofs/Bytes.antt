@@ -1,5 +1,5 @@
 -- The bits of bytes by their places.
-use Rattle.std.proofs.Common.{◌≡◌, ℕ, suc, ◌+◌, ◌-◌, ◌*◌, ◌/◌, ◌%◌, ◌^◌, ◌<◌, ◌≤◌, Bool, true, false, eqb, List, [], ◌∷◌, ◌++◌, length, get_or, take, drop, replicate, sym, ap, ◌∙◌, subst, arith, append_assoc, append-nil, length-append}
+use Rattle.std.proofs.Common.{◌≡◌, ℕ, suc, ◌+◌, ◌-◌, ◌*◌, ◌/◌, ◌%◌, ◌^◌, ◌<◌, ◌≤◌, Bool, true, false, List, [], ◌∷◌, ◌++◌, length, get_or, take, drop, replicate, sym, ap, ◌∙◌, subst, arith, append_assoc, append-nil, length-append}
 use Rattle.std.proofs.lemmas.List.{drop-drop, take_more, take_at, drop_at, drop_all, drop-append-le, drop_more, take-append-drop, length-take-le, length-drop, length-replicate, replicate-append-replicate}
 use Rattle.std.proofs.lemmas.Nat.{and_mask, pow_pos, mod_below}
 use Rattle.std.proofs.lemmas.Nat.Bits.{ones_shr}
@@ -8,7 +8,7 @@ use Rattle.std.specs.Int.Count.{count_leading_zeros}
 use Rattle.bit_pack.specs.Bits.{low_bits, bits_of}
 use Rattle.bit_pack.specs.Reading.{IsNextOne, IsPadding}
 use Rattle.bit_pack.proofs.Fronts.{no_one}
-use Rattle.bit_pack.proofs.LowBits.{length-low_bits, low_bits-add, low_bits-suc, low_bits-mod, low_bits-zero, leading_zeros}
+use Rattle.bit_pack.proofs.LowBits.{length-low_bits, low_bits-add, low_bits-mod, low_bits-zero, leading_zeros}
 use Rattle.bit_pack.proofs.Packing.{length-bits_of, bits_of-append}
 
 -- the bits before a byte, its own, and those behind it

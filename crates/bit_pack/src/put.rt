@@ -12,8 +12,12 @@ fn make_room(bytes: &mut Vec<u8>, at: u32, count: u32) -> Result<(), AllocError>
     ensures ok { OnOk result (HasRoom bytes.old.items bytes.new.items at count) }
     ensures err { OnErr result (bytes.new.items ≡ bytes.old.items) }
 {
-    let end = at as usize + count as usize;
-    bytes.resize((end + 7) / 8, 0)?;
+    let wanted = (at as usize + count as usize + 7) / 8;
+    // A short code often ends in the last byte.
+    if bytes.len() == wanted {
+        return Ok(());
+    }
+    bytes.resize(wanted, 0)?;
     Ok(())
 }
 
