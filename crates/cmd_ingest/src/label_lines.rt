@@ -4,7 +4,6 @@ ghost use Rattle.std.specs.Cmp.Lexicographic.{pointwise};
 ghost use Rattle.wf_model.specs.declared.event.Event.{Event};
 ghost use Rattle.wf_model.specs.Lists.{numbers_from};
 ghost use Rattle.wf_model.specs.Run.{Expanded, made, names_of, expanded_by};
-ghost use Rattle.wf_io.specs.Told.{File};
 ghost use Rattle.wf_io.specs.Lines.{lines_in};
 ghost use Rattle.wf_run.specs.Runs.{IsRunOf, name_at, names_at};
 ghost use Rattle.wf_message.specs.Endings.{end_after};
