@@ -23,6 +23,9 @@ use wf_names::KeyedHash;
 use wf_recur::Cycles;
 use wf_spec::Grammar;
 
+/// How many entries are looked up at one time.
+const AHEAD: u32 = 16;
+
 /// Whether an entry has this name.
 fn holds(keyed: &KeyedHash, entries: &IndexSet<HeldEntry>, name: HashedName<'_>) -> bool
     requires entries { AreKeyed keyed.now entries.now.keys }
@@ -133,20 +136,48 @@ impl<'a> Store<'a> {
             keyed: KeyedHash::new(key),
             entries: IndexSet::with_capacity(alloc, count)?,
         };
+        let mut are_new = false;
         while !rest.is_empty() {
+            if store.length() % AHEAD == 0 {
+                are_new = store.are_new(rest);
+            }
             let Some(front) = cut_front(rest) else {
                 return Err(StoreFault::Truncated {
                     offset: (bytes.len() - rest.len()) as u64,
                 });
             };
-            store.add(g, cycles, front)?;
+            store.add(g, cycles, front, are_new)?;
             rest = front.rest;
         }
         Ok(store)
     }
 
+    /// Whether the names of the next entries, as many as are looked up at one time, are new. What is read of the table for them is at hand when they are put.
+    fn are_new(&self, bytes: &[u8]) -> bool {
+        let mut left = bytes;
+        for _ in 0..AHEAD {
+            let Some(front) = cut_front(left) else {
+                return true;
+            };
+            let name = HashedName::new(&self.keyed, front.name);
+            if holds(&self.keyed, &self.entries, name) {
+                return false;
+            }
+            left = front.rest;
+        }
+        true
+    }
+
     /// Adds an entry behind the others, if its name is that of an item, no entry before has the name, and its label is one of the grammar. The first of these that is wrong is told in this order. After an error the entries are good for nothing.
-    fn add(&mut self, g: &Grammar, cycles: &Cycles, front: Front<'a>) -> Result<(), StoreFault>
+    ///
+    /// Where the name is likely new, it is looked up no sooner than it is put, or its label is found wrong.
+    fn add(
+        &mut self,
+        g: &Grammar,
+        cycles: &Cycles,
+        front: Front<'a>,
+        is_likely_new: bool,
+    ) -> Result<(), StoreFault>
         requires linear { IsLinear g.now.core }
         requires cycles { AreCyclesOf g.now.core cycles.now }
         requires cut { IsCut front }
@@ -159,11 +190,13 @@ impl<'a> Store<'a> {
             return Err(StoreFault::BadName { entry });
         }
         let name = HashedName::new(&self.keyed, front.name);
-        // What is read of the table here is at hand when the entry is put.
-        if holds(&self.keyed, &self.entries, name) {
+        if !is_likely_new && holds(&self.keyed, &self.entries, name) {
             return Err(StoreFault::NameTwice { entry });
         }
         let Ok(label) = LabelRef::check(g, cycles, front.label) else {
+            if holds(&self.keyed, &self.entries, name) {
+                return Err(StoreFault::NameTwice { entry });
+            }
             return Err(StoreFault::BadLabel { entry });
         };
         let held = HeldEntry::new(

@@ -1,4 +1,4 @@
-use Rattle.std.proofs.Common.{◌∙◌, [], ◌∷◌, ◌++◌, length, sym, subst, true≢false, rules}
+use Rattle.std.proofs.Common.{◌∙◌, [], ◌∷◌, ◌++◌, length, sym, subst, rules}
 use Rattle.wf_model.specs.Lists.{IsIn}
 use Rattle.bit_pack.specs.Written.{first_bits, IsFilled}
 use Rattle.bit_pack.proofs.Filling.{holds_filled}
@@ -24,7 +24,7 @@ returns-clause-added c =
     let behind = label_last front.bytes.now front.name.now front.label.now _ _ c.requires.cut.bytes in
     let bits = held.bits ∙ ((λ i. first_bits (behind i) (c.length.ensures i)) ∙ (held_law front.label.now c.in-Ok.label c.in-Ok.ensures.label.1).first) in
     let fresh : IsIn front.name.now (names_held c.args.self.now) → ⊥ = λ i.
-    true≢false (sym (c.holds.ensures.1 (subst (λ n. IsIn n (names_held (keys c.self.inside.entries.keys))) (sym c.new-name.ensures.bytes) (subst (λ hs. IsIn front.name.now (names_held hs)) (sym c.self.view_is) i))) ∙ c.if-holds.false) in
+    c.in_ok-put.ensures.free c.if-not-branch.false (subst (λ n. IsIn n (names_held (keys c.self.inside.entries.keys))) (sym name) (subst (λ hs. IsIn front.name.now (names_held hs)) (sym c.self.view_is) i)) in
     record {
       named = search rules;
       first = fresh;
