@@ -24,7 +24,7 @@ use wf_recur::Cycles;
 use wf_spec::Grammar;
 
 /// How many entries are looked up at one time.
-const AHEAD: u32 = 16;
+const AHEAD: usize = 16;
 
 /// Whether an entry has this name.
 fn holds(keyed: &KeyedHash, entries: &IndexSet<HeldEntry>, name: HashedName<'_>) -> bool
@@ -138,7 +138,7 @@ impl<'a> Store<'a> {
         };
         let mut are_new = false;
         while !rest.is_empty() {
-            if store.length() % AHEAD == 0 {
+            if store.length() as usize % AHEAD == 0 {
                 are_new = store.are_new(rest);
             }
             let Some(front) = cut_front(rest) else {
@@ -154,18 +154,20 @@ impl<'a> Store<'a> {
 
     /// Whether the names of the next entries, as many as are looked up at one time, are new. What is read of the table for them is at hand when they are put.
     fn are_new(&self, bytes: &[u8]) -> bool {
+        let mut names = [HashedName {
+            bytes: &[],
+            hash: 0,
+        }; AHEAD];
         let mut left = bytes;
-        for _ in 0..AHEAD {
+        for i in 0..AHEAD {
             let Some(front) = cut_front(left) else {
-                return true;
+                break;
             };
-            let name = HashedName::new(&self.keyed, front.name);
-            if holds(&self.keyed, &self.entries, name) {
-                return false;
-            }
+            names[i] = HashedName::new(&self.keyed, front.name);
             left = front.rest;
         }
-        true
+        // Nothing stands between these look-ups, so they wait for memory at one time.
+        !names.iter().any(|name| self.entries.contains(name))
     }
 
     /// Adds an entry behind the others, if its name is that of an item, no entry before has the name, and its label is one of the grammar. The first of these that is wrong is told in this order. After an error the entries are good for nothing.
