@@ -53,7 +53,8 @@ fn name_of<'r>(run: &Run<'r>, n: u64) -> &'r [u8]
 
 /// Whether children have these names, one for each.
 fn have_names(run: &Run<'_>, children: Children, names: &[Name]) -> bool
-    ensures { (events : List Event) → IsRunOf run.now events → result ≡ pointwise bytes_eq (names_at run.now (numbers_from children.first children.count)) names.now }
+    ensures { (events : List Event) → IsRunOf run.now events →
+        result ≡ pointwise bytes_eq (names_at run.now (numbers_from children.first children.count)) names.now }
 {
     let mut next = children.first as u64;
     let mut left = children.count;
