@@ -60,7 +60,8 @@ pub fn obey<H: Shelf, O: Sink>(
     ensures obeys { Obeys H.files H.faults H.at_last O.put_bytes O.faults O.at_last []
         (λ f. Does f (meant command.now))
         shelf.old shelf.new out.old out.new (end_after result) }
-    ensures untouched { end_after result ≡ NoMemory → IsAsk (meant command.now) → (O.put_bytes out.new ≡ O.put_bytes out.old) × (O.faults out.new ≡ O.faults out.old) }
+    ensures untouched { end_after result ≡ NoMemory → IsAsk (meant command.now) →
+        (O.put_bytes out.new ≡ O.put_bytes out.old) × (O.faults out.new ≡ O.faults out.old) }
 {
     match command {
         Command::Trace { words } => trace(alloc, words, shelf, out),

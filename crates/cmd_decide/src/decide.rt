@@ -53,7 +53,8 @@ fn bytes_of(alloc: Global, word: &str) -> Result<Vec<u8>, Stop>
 /// The label that bytes are, of the grammar of a view, refused as Malformed at its place among the words.
 fn label_of<'a>(v: &Viewed, place: Place, bytes: &'a [u8]) -> Result<LabelRef<'a>, Stop>
     ensures label { IfOk result (λ r. AreLabelBits v.now.spec.grammar.core r × Holds bytes.now r) }
-    ensures malformed { IfErr result (λ e. (IsLabelBytes v.now.spec.grammar.core bytes.now → ⊥) × (end_of e ≡ Refused place.word.now None (codes "Malformed"))) }
+    ensures malformed { IfErr result (λ e. (IsLabelBytes v.now.spec.grammar.core bytes.now → ⊥) ×
+        (end_of e ≡ Refused place.word.now None (codes "Malformed"))) }
 {
     match LabelRef::check(v.grammar(), v.spec().cycles(), bytes) {
         Ok(label) => Ok(label),
@@ -68,7 +69,9 @@ fn put_verdict<O: Sink>(
     words: &DecideWords<'_>,
     out: &mut O,
 ) -> Result<(), Stop>
-    ensures writes { Writes O.put_bytes O.faults O.at_last [] (DecidesLabels v.now.spec.grammar.core v.now.view.core (bytes_in (decode_of words.now.first.now)) (bytes_in (decode_of words.now.second.now))) out.old out.new (end_after result) }
+    ensures writes { Writes O.put_bytes O.faults O.at_last []
+        (DecidesLabels v.now.spec.grammar.core v.now.view.core (bytes_in (decode_of words.now.first.now)) (bytes_in (decode_of words.now.second.now)))
+        out.old out.new (end_after result) }
 {
     let first_bytes = bytes_of(alloc, words.first)?;
     let second_bytes = bytes_of(alloc, words.second)?;
@@ -85,7 +88,9 @@ pub fn decide<H: Shelf, O: Sink>(
     shelf: &mut H,
     out: &mut O,
 ) -> Result<(), Stop>
-    ensures obeys { Obeys H.files H.faults H.at_last O.put_bytes O.faults O.at_last [] (λ f. Decides (f words.now.spec.now) (f words.now.view.now) (bytes_in (decode_of words.now.first.now)) (bytes_in (decode_of words.now.second.now))) shelf.old shelf.new out.old out.new (end_after result) }
+    ensures obeys { Obeys H.files H.faults H.at_last O.put_bytes O.faults O.at_last []
+        (λ f. Decides (f words.now.spec.now) (f words.now.view.now) (bytes_in (decode_of words.now.first.now)) (bytes_in (decode_of words.now.second.now)))
+        shelf.old shelf.new out.old out.new (end_after result) }
 {
     let spec = spec_stage(alloc, shelf, words.spec)?;
     let viewed = view_stage(alloc, shelf, words.view, spec)?;

@@ -32,7 +32,8 @@ fn decided<L: Ledger>(
     requires first { AreLabelBits vl.now.grammar first }
     requires second { AreLabelBits vl.now.grammar second }
     requires room { most_legs vl.now.grammar ≤ scratch.old }
-    ensures { (u : ViewSeen) (x y : Label) → IsLabelOfView vl.now u → IsLabel vl.now.grammar x → IsLabel vl.now.grammar y → first.entry ≡ label_bits x → second.entry ≡ label_bits y → IsVerdict vl.now.grammar u x y result }
+    ensures { (u : ViewSeen) (x y : Label) → IsLabelOfView vl.now u → IsLabel vl.now.grammar x →
+        IsLabel vl.now.grammar y → first.entry ≡ label_bits x → second.entry ≡ label_bits y → IsVerdict vl.now.grammar u x y result }
 {
     let mut steps = Steps::<L>::new(blank);
     decide(vl, scratch, first, second, &mut steps)
@@ -49,7 +50,8 @@ pub fn verdict_of(
 ) -> Result<Verdict, Stop>
     requires first { AreLabelBits v.now.spec.grammar.core first }
     requires second { AreLabelBits v.now.spec.grammar.core second }
-    ensures verdict { IfOk result (λ r. (x y : Label) → IsLabel v.now.spec.grammar.core x → IsLabel v.now.spec.grammar.core y → first.entry ≡ label_bits x → second.entry ≡ label_bits y → IsVerdict v.now.spec.grammar.core v.now.view.core x y r) }
+    ensures verdict { IfOk result (λ r. (x y : Label) → IsLabel v.now.spec.grammar.core x → IsLabel v.now.spec.grammar.core y →
+        first.entry ≡ label_bits x → second.entry ≡ label_bits y → IsVerdict v.now.spec.grammar.core v.now.view.core x y r) }
     ensures memory { IfErr result (λ e. end_of e ≡ NoMemory) }
 {
     let Ok(label) = ViewLabel::build(alloc, v.grammar(), v.spec().cycles(), v.view(), v.full())

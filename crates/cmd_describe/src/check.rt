@@ -30,7 +30,8 @@ pub fn check<H: Shelf, O: Sink>(
     shelf: &mut H,
     out: &mut O,
 ) -> Result<(), Stop>
-    ensures obeys { Obeys H.files H.faults H.at_last O.put_bytes O.faults O.at_last [] (λ f. Checks (f name.now)) shelf.old shelf.new out.old out.new (end_after result) }
+    ensures obeys { Obeys H.files H.faults H.at_last O.put_bytes O.faults O.at_last []
+        (λ f. Checks (f name.now)) shelf.old shelf.new out.old out.new (end_after result) }
 {
     let spec = spec_stage(alloc, shelf, name)?;
     put_grammar(alloc, &spec, out)

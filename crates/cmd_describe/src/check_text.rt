@@ -71,7 +71,8 @@ fn add_line(out: &mut Vec<u8>, spec: &Spec, m: ModNo) -> Result<(), AllocError>
 /// Appends the line of a module, if it is composite.
 fn add_module(out: &mut Vec<u8>, spec: &Spec, m: ModNo) -> Result<(), AllocError>
     requires in_range { m.0 < length spec.now.grammar.core.modules }
-    ensures { OnOk result (out.new.items ≡ out.old.items ++ cond (is_composite spec.now.grammar.core m.0) (check_line spec.now.grammar.core spec.now.ranking spec.now.cycles m.0) []) }
+    ensures { OnOk result (out.new.items ≡ out.old.items ++
+        cond (is_composite spec.now.grammar.core m.0) (check_line spec.now.grammar.core spec.now.ranking spec.now.cycles m.0) []) }
 {
     if spec.grammar().is_composite(m) {
         add_line(out, spec, m)?;
@@ -81,7 +82,8 @@ fn add_module(out: &mut Vec<u8>, spec: &Spec, m: ModNo) -> Result<(), AllocError
 
 /// Appends the lines of the composite modules, in order.
 fn add_lines(out: &mut Vec<u8>, spec: &Spec) -> Result<(), AllocError>
-    ensures { OnOk result (out.new.items ≡ out.old.items ++ flat_map (check_line spec.now.grammar.core spec.now.ranking spec.now.cycles) (composite_modules spec.now.grammar.core)) }
+    ensures { OnOk result (out.new.items ≡ out.old.items ++
+        flat_map (check_line spec.now.grammar.core spec.now.ranking spec.now.cycles) (composite_modules spec.now.grammar.core)) }
 {
     let count = spec.grammar().modules().len();
     prove!(count <= 1024);

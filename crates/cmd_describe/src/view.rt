@@ -18,7 +18,9 @@ use wf_stage::put_text;
 /// Puts the line of a module, if the module is seen. The line is made whole before it is put, in place of what `line` held.
 fn put_module<O: Sink>(v: &Viewed, m: ModNo, line: &mut Vec<u8>, out: &mut O) -> Result<(), Stop>
     requires in_range { m.0 < length v.now.spec.grammar.core.modules }
-    ensures writes { Writes O.put_bytes O.faults O.at_last [] (IsWritten (cond (get_or v.now.view.seen m.0 false) (module_line v.now.spec.grammar.core v.now.view.core (pairs_of v.now.full) m.0) [])) out.old out.new (end_after result) }
+    ensures writes { Writes O.put_bytes O.faults O.at_last []
+        (IsWritten (cond (get_or v.now.view.seen m.0 false) (module_line v.now.spec.grammar.core v.now.view.core (pairs_of v.now.full) m.0) []))
+        out.old out.new (end_after result) }
 {
     if !v.view().seen(m) {
         return Ok(());
@@ -51,7 +53,8 @@ pub fn describe_view<H: Shelf, O: Sink>(
     shelf: &mut H,
     out: &mut O,
 ) -> Result<(), Stop>
-    ensures obeys { Obeys H.files H.faults H.at_last O.put_bytes O.faults O.at_last [] (λ f. Views (f spec_name.now) (f view_name.now)) shelf.old shelf.new out.old out.new (end_after result) }
+    ensures obeys { Obeys H.files H.faults H.at_last O.put_bytes O.faults O.at_last []
+        (λ f. Views (f spec_name.now) (f view_name.now)) shelf.old shelf.new out.old out.new (end_after result) }
 {
     let spec = spec_stage(alloc, shelf, spec_name)?;
     let viewed = view_stage(alloc, shelf, view_name, spec)?;

@@ -75,7 +75,9 @@ fn have_names(run: &Run<'_>, children: Children, names: &[Name]) -> bool
 
 /// Whether an instance was expanded into instances of these names.
 fn are_children(run: &Run<'_>, n: NodeNo, names: &[Name]) -> bool
-    ensures { (events : List Event) → IsRunOf run.now events → (instance : List ℕ) (x : Expanded) → position (bytes_eq instance) (names_of (made run.now.grammar.core run.now.grammar.core.start events)) ≡ Some n.0 → expanded_by events instance ≡ Some x → result ≡ pointwise bytes_eq x.names names.now }
+    ensures { (events : List Event) → IsRunOf run.now events → (instance : List ℕ) (x : Expanded) →
+        position (bytes_eq instance) (names_of (made run.now.grammar.core run.now.grammar.core.start events)) ≡ Some n.0 →
+        expanded_by events instance ≡ Some x → result ≡ pointwise bytes_eq x.names names.now }
 {
     if n.0 >= run.instances() {
         return false;
@@ -144,7 +146,9 @@ pub fn label_events<H: Shelf, O: Sink>(
     shelf: &mut H,
     out: &mut O,
 ) -> Result<(), Stop>
-    ensures obeys { Obeys H.files H.faults H.at_last O.put_bytes O.faults O.at_last (file_head spec.now.grammar.core) (λ f. EventsStage spec.now.grammar.core instance_most (lines_in (f name.now)) (file_of spec.now.grammar.core) (WritesFile spec.now.grammar.core)) shelf.old shelf.new out.old out.new (end_after result) }
+    ensures obeys { Obeys H.files H.faults H.at_last O.put_bytes O.faults O.at_last
+        (file_head spec.now.grammar.core) (λ f. EventsStage spec.now.grammar.core instance_most
+        (lines_in (f name.now)) (file_of spec.now.grammar.core) (WritesFile spec.now.grammar.core)) shelf.old shelf.new out.old out.new (end_after result) }
 {
     let Ok(mut lines) = Lines::open(alloc, name) else {
         return Err(Stop::NoMemory);

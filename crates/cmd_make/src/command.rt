@@ -23,7 +23,8 @@ pub enum Command<'w> {
 
 /// `gen` of a file and two words, if both are numbers.
 fn gen_of<'w>(spec: &'w str, n: &str, seed: &str) -> Option<Command<'w>>
-    ensures { MatchOption result (gen_of spec.now (number_in most_expansions n.now) (number_in greatest_seed seed.now) ≡ None) (λ c. gen_of spec.now (number_in most_expansions n.now) (number_in greatest_seed seed.now) ≡ Some (meant c)) }
+    ensures { MatchOption result (gen_of spec.now (number_in most_expansions n.now) (number_in greatest_seed seed.now) ≡ None)
+        (λ c. gen_of spec.now (number_in most_expansions n.now) (number_in greatest_seed seed.now) ≡ Some (meant c)) }
 {
     let n = count_in(n)?;
     let seed = seed_in(seed)?;
@@ -32,7 +33,8 @@ fn gen_of<'w>(spec: &'w str, n: &str, seed: &str) -> Option<Command<'w>>
 
 /// `drill` of two files and two words, if both are numbers.
 fn drill_of<'w>(spec: &'w str, view: &'w str, n: &str, seed: &str) -> Option<Command<'w>>
-    ensures { MatchOption result (drill_of spec.now view.now (number_in most_expansions n.now) (number_in greatest_seed seed.now) ≡ None) (λ c. drill_of spec.now view.now (number_in most_expansions n.now) (number_in greatest_seed seed.now) ≡ Some (meant c)) }
+    ensures { MatchOption result (drill_of spec.now view.now (number_in most_expansions n.now) (number_in greatest_seed seed.now) ≡ None)
+        (λ c. drill_of spec.now view.now (number_in most_expansions n.now) (number_in greatest_seed seed.now) ≡ Some (meant c)) }
 {
     let n = count_in(n)?;
     let seed = seed_in(seed)?;
@@ -103,7 +105,8 @@ pub fn obey<H: Shelf, O: Sink>(
     shelf: &mut H,
     out: &mut O,
 ) -> Result<(), Stop>
-    ensures obeys { Obeys H.files H.faults H.at_last O.put_bytes O.faults O.at_last [] (λ f. Does f (meant command.now)) shelf.old shelf.new out.old out.new (end_after result) }
+    ensures obeys { Obeys H.files H.faults H.at_last O.put_bytes O.faults O.at_last []
+        (λ f. Does f (meant command.now)) shelf.old shelf.new out.old out.new (end_after result) }
 {
     match command {
         Command::Export { words } => export(alloc, words, shelf, out),

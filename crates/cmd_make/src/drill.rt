@@ -66,7 +66,8 @@ pub(crate) fn drill<H: Shelf, O: Sink>(
     shelf: &mut H,
     out: &mut O,
 ) -> Result<(), Stop>
-    ensures obeys { Obeys H.files H.faults H.at_last O.put_bytes O.faults O.at_last [] (λ f. Drills (f words.now.spec.now) (f words.now.view.now) words.now.n words.now.seed) shelf.old shelf.new out.old out.new (end_after result) }
+    ensures obeys { Obeys H.files H.faults H.at_last O.put_bytes O.faults O.at_last []
+        (λ f. Drills (f words.now.spec.now) (f words.now.view.now) words.now.n words.now.seed) shelf.old shelf.new out.old out.new (end_after result) }
 {
     let spec = spec_stage(alloc, shelf, words.spec)?;
     let viewed = view_stage(alloc, shelf, words.view, spec)?;

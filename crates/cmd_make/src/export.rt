@@ -23,7 +23,8 @@ pub struct ExportWords<'w> {
 /// Puts what a run shows under a view.
 fn put_export<O: Sink>(alloc: Global, v: &Viewed, run: &PlainRun, out: &mut O) -> Result<(), Stop>
     requires run { IsTableOf v.now.spec.grammar.core run.now }
-    ensures writes { Writes O.put_bytes O.faults O.at_last [] (ExportsRun v.now.spec.grammar.core v.now.view.core (events_of run.now)) out.old out.new (end_after result) }
+    ensures writes { Writes O.put_bytes O.faults O.at_last []
+        (ExportsRun v.now.spec.grammar.core v.now.view.core (events_of run.now)) out.old out.new (end_after result) }
 {
     match write_export(alloc, v.grammar(), v.view(), run, out) {
         Ok(()) => Ok(()),
@@ -40,7 +41,8 @@ fn export_events<H: Shelf, O: Sink>(
     shelf: &mut H,
     out: &mut O,
 ) -> Result<(), Stop>
-    ensures obeys { Obeys H.files H.faults H.at_last O.put_bytes O.faults O.at_last [] (λ f. ExportsView v.now.spec.grammar.core v.now.view.core (f name.now)) shelf.old shelf.new out.old out.new (end_after result) }
+    ensures obeys { Obeys H.files H.faults H.at_last O.put_bytes O.faults O.at_last []
+        (λ f. ExportsView v.now.spec.grammar.core v.now.view.core (f name.now)) shelf.old shelf.new out.old out.new (end_after result) }
 {
     let run = events_stage(alloc, shelf, name, v.grammar())?;
     put_export(alloc, v, &run, out)
@@ -55,7 +57,8 @@ pub(crate) fn export<H: Shelf, O: Sink>(
     shelf: &mut H,
     out: &mut O,
 ) -> Result<(), Stop>
-    ensures obeys { Obeys H.files H.faults H.at_last O.put_bytes O.faults O.at_last [] (λ f. Exports (f words.now.spec.now) (f words.now.view.now) (f words.now.events.now)) shelf.old shelf.new out.old out.new (end_after result) }
+    ensures obeys { Obeys H.files H.faults H.at_last O.put_bytes O.faults O.at_last []
+        (λ f. Exports (f words.now.spec.now) (f words.now.view.now) (f words.now.events.now)) shelf.old shelf.new out.old out.new (end_after result) }
 {
     let spec = spec_stage(alloc, shelf, words.spec)?;
     let viewed = view_stage(alloc, shelf, words.view, spec)?;

@@ -106,7 +106,8 @@ impl<'a> Decider<'a> {
     ///
     /// Cost: that of `wf_query::answer`. Takes no memory.
     pub fn decide(&mut self, first: &[u8], second: &[u8]) -> Answer
-        ensures says { (g : GrammarSeen) (u : ViewSeen) (entries : List Entry) → IsOpenedFrom self.old g u entries → Says g u entries first.now second.now result }
+        ensures says { (g : GrammarSeen) (u : ViewSeen) (entries : List Entry) → IsOpenedFrom self.old g u entries →
+            Says g u entries first.now second.now result }
         ensures same { self.new ≡ self.old }
     {
         let _grammar = self.label.grammar();

@@ -111,7 +111,8 @@ impl<'n, 'a> Equivalent<HeldEntry<'a>> for &HashedName<'n> {
 
     ghost respects_hash = { λ q k h. ap fed.u32 (eqb-true q.now.hash k.hash (and_parts _ _ h).0) };
 
-    ghost respects_eq = { λ q x y h. λ i. (eqb-true q.now.hash x.hash (and_parts _ _ h).0 i == y.hash) && bytes_eq ((bytes_decides q.now.bytes.now x.held.name).0 (and_parts _ _ h).1 i) y.held.name };
+    ghost respects_eq = { λ q x y h. λ i. (eqb-true q.now.hash x.hash (and_parts _ _ h).0 i == y.hash) &&
+        bytes_eq ((bytes_decides q.now.bytes.now x.held.name).0 (and_parts _ _ h).1 i) y.held.name };
 
     fn equivalent(&self, key: &HeldEntry<'a>) -> bool {
         self.hash == key.hash_value() && self.bytes == key.name()

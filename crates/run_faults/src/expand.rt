@@ -99,7 +99,9 @@ pub fn expand_fault<T: Taken>(
     names: &[Name],
 ) -> Option<RunFault>
     requires { count ≡ length (T.names taken.now) }
-    ensures { (events : List Event) (name : List ℕ) → IsRun g.now.core g.now.core.start events → T.names taken.now ≡ names_of (made g.now.core g.now.core.start events) → IsFound g.now.core events name found → result ≡ fault_of g.now.core most events (Expand name production names.now) }
+    ensures { (events : List Event) (name : List ℕ) → IsRun g.now.core g.now.core.start events →
+        T.names taken.now ≡ names_of (made g.now.core g.now.core.start events) → IsFound g.now.core events name found →
+        result ≡ fault_of g.now.core most events (Expand name production names.now) }
 {
     if let Some(fault) = fault_before_names(g, count, found, production, names) {
         return Some(fault);

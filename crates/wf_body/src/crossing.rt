@@ -27,7 +27,9 @@ pub fn between(
     requires to { to.0 < length (body_of g.now.core s.production.0) }
     requires rows { HaveRows g.now.core s.production.0 deps.now }
     ensures added { IfOk result (λ m. Adds pool.old pool.new m.0 1) }
-    ensures between { IfOk result (λ m. IsMatrixOf (outputs_of g.now.core (target_of g.now.core (step_of s))) (inputs_of g.now.core (target_of g.now.core (beside (step_of s) to.0))) (Between g.now.core (pairs_of deps.now) (step_of s) to.0) (matrix_at pool.new m.0)) }
+    ensures between { IfOk result (λ m. IsMatrixOf (outputs_of g.now.core (target_of g.now.core (step_of s)))
+        (inputs_of g.now.core (target_of g.now.core (beside (step_of s) to.0)))
+        (Between g.now.core (pairs_of deps.now) (step_of s) to.0) (matrix_at pool.new m.0)) }
     ensures err { OnErr result (pool.new ≡ pool.old) }
 {
     push_to_inputs(alloc, g, s.production, Some(s.position), to, deps, pool)
@@ -47,7 +49,9 @@ pub fn between_all(
     requires position { s.position.0 < length (body_of g.now.core s.production.0) }
     requires rows { HaveRows g.now.core s.production.0 deps.now }
     ensures added { IfOk result (λ m. Adds pool.old pool.new m.0 (length (body_of g.now.core s.production.0))) }
-    ensures between { IfOk result (λ m. (to : ℕ) → to < length (body_of g.now.core s.production.0) → IsMatrixOf (outputs_of g.now.core (target_of g.now.core (step_of s))) (inputs_of g.now.core (target_of g.now.core (beside (step_of s) to))) (Between g.now.core (pairs_of deps.now) (step_of s) to) (matrix_at pool.new (m.0 + to))) }
+    ensures between { IfOk result (λ m. (to : ℕ) → to < length (body_of g.now.core s.production.0) →
+        IsMatrixOf (outputs_of g.now.core (target_of g.now.core (step_of s))) (inputs_of g.now.core (target_of g.now.core (beside (step_of s) to)))
+        (Between g.now.core (pairs_of deps.now) (step_of s) to) (matrix_at pool.new (m.0 + to))) }
     ensures err { OnErr result (take (length pool.old) pool.new ≡ pool.old) }
 {
     push_to_all_inputs(alloc, g, s.production, Some(s.position), deps, pool)

@@ -25,7 +25,8 @@ pub fn induced(
     requires production { p.0 < length g.now.core.productions }
     requires rows { HaveRows g.now.core p.0 deps.now }
     ensures added { IfOk result (λ m. Adds pool.old pool.new m.0 1) }
-    ensures induced { IfOk result (λ m. IsMatrixOf (inputs_of g.now.core (head_of g.now.core p.0)) (outputs_of g.now.core (head_of g.now.core p.0)) (BodyJoins g.now.core (pairs_of deps.now) p.0) (matrix_at pool.new m.0)) }
+    ensures induced { IfOk result (λ m. IsMatrixOf (inputs_of g.now.core (head_of g.now.core p.0))
+        (outputs_of g.now.core (head_of g.now.core p.0)) (BodyJoins g.now.core (pairs_of deps.now) p.0) (matrix_at pool.new m.0)) }
     ensures err { OnErr result (pool.new ≡ pool.old) }
 {
     push_to_exits(alloc, g, p, None, deps, pool)
@@ -45,7 +46,8 @@ pub fn into_position(
     requires position { s.position.0 < length (body_of g.now.core s.production.0) }
     requires rows { HaveRows g.now.core s.production.0 deps.now }
     ensures added { IfOk result (λ m. Adds pool.old pool.new m.0 1) }
-    ensures into { IfOk result (λ m. IsMatrixOf (inputs_of g.now.core (head_of g.now.core s.production.0)) (inputs_of g.now.core (target_of g.now.core (step_of s))) (Into g.now.core (pairs_of deps.now) (step_of s)) (matrix_at pool.new m.0)) }
+    ensures into { IfOk result (λ m. IsMatrixOf (inputs_of g.now.core (head_of g.now.core s.production.0))
+        (inputs_of g.now.core (target_of g.now.core (step_of s))) (Into g.now.core (pairs_of deps.now) (step_of s)) (matrix_at pool.new m.0)) }
     ensures err { OnErr result (pool.new ≡ pool.old) }
 {
     push_to_inputs(alloc, g, s.production, None, s.position, deps, pool)
@@ -65,7 +67,8 @@ pub fn out_of_position(
     requires position { s.position.0 < length (body_of g.now.core s.production.0) }
     requires rows { HaveRows g.now.core s.production.0 deps.now }
     ensures added { IfOk result (λ m. Adds pool.old pool.new m.0 1) }
-    ensures out_of { IfOk result (λ m. IsMatrixOf (outputs_of g.now.core (target_of g.now.core (step_of s))) (outputs_of g.now.core (head_of g.now.core s.production.0)) (OutOf g.now.core (pairs_of deps.now) (step_of s)) (matrix_at pool.new m.0)) }
+    ensures out_of { IfOk result (λ m. IsMatrixOf (outputs_of g.now.core (target_of g.now.core (step_of s)))
+        (outputs_of g.now.core (head_of g.now.core s.production.0)) (OutOf g.now.core (pairs_of deps.now) (step_of s)) (matrix_at pool.new m.0)) }
     ensures err { OnErr result (pool.new ≡ pool.old) }
 {
     push_to_exits(alloc, g, s.production, Some(s.position), deps, pool)

@@ -121,7 +121,8 @@ pub fn push_to_all_inputs(
     requires sources { AreSourcesOf g.now.core p.0 from }
     requires rows { HaveRows g.now.core p.0 deps.now }
     ensures added { IfOk result (λ m. Adds pool.old pool.new m.0 (length (body_of g.now.core p.0))) }
-    ensures leads { IfOk result (λ m. (k : ℕ) → k < length (body_of g.now.core p.0) → LeadsToInputs g.now.core (pairs_of deps.now) p.0 from k (matrix_at pool.new (m.0 + k))) }
+    ensures leads { IfOk result (λ m. (k : ℕ) → k < length (body_of g.now.core p.0) →
+        LeadsToInputs g.now.core (pairs_of deps.now) p.0 from k (matrix_at pool.new (m.0 + k))) }
     ensures err { OnErr result (take (length pool.old) pool.new ≡ pool.old) }
 {
     let sources = source_count(g, p, from);

@@ -29,7 +29,8 @@ fn choice(g: &Grammar, ranks: &[Option<u32>], m: ModNo) -> ProdNo
 pub fn choices(alloc: Global, g: &Grammar, ranks: &[Option<u32>]) -> Result<Vec<ProdNo>, AllocError>
     requires { AreRanks g.now.core ranks.now }
     ensures one_each { IfOk result (λ list. length list.items ≡ length g.now.core.modules) }
-    ensures choices { IfOk result (λ list. (m : ℕ) → IsComposite g.now.core m → IsProductive g.now.core m → IsChoice g.now.core m (get_or (map (λ p. p.0) list.items) m 0)) }
+    ensures choices { IfOk result (λ list. (m : ℕ) → IsComposite g.now.core m → IsProductive g.now.core m →
+        IsChoice g.now.core m (get_or (map (λ p. p.0) list.items) m 0)) }
 {
     let mut list = Vec::new(alloc);
     for m in 0..g.modules().len() {

@@ -8,7 +8,8 @@ use wf_spec::{Grammar, ModNo};
 /// The least composite module that is not marked, or `None` where all are.
 pub fn least_unmarked(g: &Grammar, marks: &[bool]) -> Option<ModNo>
     requires { length marks.now ≡ length g.now.core.modules }
-    ensures least { MatchOption result (OfAllComposite g.now.core (λ m. get_or marks.now m false ≡ true)) (λ m. IsLeastWithout g.now.core (λ k. get_or marks.now k false ≡ true) m.0) }
+    ensures least { MatchOption result (OfAllComposite g.now.core (λ m. get_or marks.now m false ≡ true))
+        (λ m. IsLeastWithout g.now.core (λ k. get_or marks.now k false ≡ true) m.0) }
     ensures formed { IsWellFormed g.now.core }
 {
     for m in 0..g.modules().len() {

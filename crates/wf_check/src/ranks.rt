@@ -36,7 +36,8 @@ fn is_lower(rule: &Production, ranks: &[Option<u32>], n: u32) -> bool
 pub fn least_lower(g: &Grammar, m: ModNo, ranks: &[Option<u32>], n: u32) -> Option<ProdNo>
     requires module_no { m.0 < length g.now.core.modules }
     requires one_each { length ranks.now ≡ length g.now.core.modules }
-    ensures { MatchOption result ((p : ℕ) → ¬ IsLower g.now.core ranks.now n m.0 p) (λ p. IsLower g.now.core ranks.now n m.0 p.0 × ((q : ℕ) → IsLower g.now.core ranks.now n m.0 q → p.0 ≤ q)) }
+    ensures { MatchOption result ((p : ℕ) → ¬ IsLower g.now.core ranks.now n m.0 p)
+        (λ p. IsLower g.now.core ranks.now n m.0 p.0 × ((q : ℕ) → IsLower g.now.core ranks.now n m.0 q → p.0 ≤ q)) }
 {
     for p in g.alternatives(m) {
         if is_lower(g.production(*p), ranks, n) {
@@ -117,7 +118,8 @@ pub fn unproductive(
     ranks: &[Option<u32>],
 ) -> Result<Option<ModNo>, AllocError>
     requires { AreRanks g.now.core ranks.now }
-    ensures { IfOk result (λ o. MatchOption o (OfAllComposite g.now.core (IsProductive g.now.core)) (λ m. IsLeastWithout g.now.core (IsProductive g.now.core) m.0)) }
+    ensures { IfOk result (λ o. MatchOption o (OfAllComposite g.now.core (IsProductive g.now.core))
+        (λ m. IsLeastWithout g.now.core (IsProductive g.now.core) m.0)) }
 {
     let marks = ranked(alloc, ranks)?;
     Ok(least_unmarked(g, &marks))

@@ -44,8 +44,10 @@ pub fn decide<L: Ledger>(
     requires first { AreLabelBits vl.now.grammar first }
     requires second { AreLabelBits vl.now.grammar second }
     requires room { most_legs vl.now.grammar ≤ scratch.old }
-    ensures verdict { (u : View) (x y : Label) → IsLabelOfView vl.now u → IsLabel vl.now.grammar x → IsLabel vl.now.grammar y → first.entry ≡ label_bits x → second.entry ≡ label_bits y → IsVerdict vl.now.grammar u x y result }
-    ensures no { (u : View) (x y : Label) → IsLabelOfView vl.now u → IsLabel vl.now.grammar x → IsLabel vl.now.grammar y → first.entry ≡ label_bits x → second.entry ≡ label_bits y → result ≡ No → NeverDepends vl.now.grammar u x y }
+    ensures verdict { (u : View) (x y : Label) → IsLabelOfView vl.now u → IsLabel vl.now.grammar x →
+        IsLabel vl.now.grammar y → first.entry ≡ label_bits x → second.entry ≡ label_bits y → IsVerdict vl.now.grammar u x y result }
+    ensures no { (u : View) (x y : Label) → IsLabelOfView vl.now u → IsLabel vl.now.grammar x →
+        IsLabel vl.now.grammar y → first.entry ≡ label_bits x → second.entry ≡ label_bits y → result ≡ No → NeverDepends vl.now.grammar u x y }
     ensures room { scratch.new ≡ scratch.old }
     ensures cost { (l : ℕ) → ((k : ℕ) → length (round_at vl.now.cycles k) ≤ l) → steps.new ≤ steps.old + most_products vl.now.grammar l }
 {
@@ -72,7 +74,8 @@ fn decide_in<L: Ledger>(
     requires first_room { most_legs vl.now.grammar ≤ length first_legs.old }
     requires second { AreLabelBits vl.now.grammar second.now }
     requires second_room { most_legs vl.now.grammar ≤ length second_legs.old }
-    ensures decision { (u : View) (x y : Label) → IsLabelOfView vl.now u → IsLabel vl.now.grammar x → IsLabel vl.now.grammar y → first.now ≡ label_bits x → second.now ≡ label_bits y → IsDecision vl.now.grammar u x y result }
+    ensures decision { (u : View) (x y : Label) → IsLabelOfView vl.now u → IsLabel vl.now.grammar x →
+        IsLabel vl.now.grammar y → first.now ≡ label_bits x → second.now ≡ label_bits y → IsDecision vl.now.grammar u x y result }
     ensures cost { (l : ℕ) → ((k : ℕ) → length (round_at vl.now.cycles k) ≤ l) → steps.new ≤ steps.old + most_products vl.now.grammar l }
     ensures first_length { length first_legs.new ≡ length first_legs.old }
     ensures second_length { length second_legs.new ≡ length second_legs.old }
@@ -96,8 +99,10 @@ fn decide_ends<L: Ledger>(
     second_legs: &mut [Leg],
     steps: &mut Steps<L>,
 ) -> Verdict
-    requires ends { (u : View) × (x : Label) × (y : Label) × IsLabelOfView vl.now u × IsConsumingEnd vl.now u x from first_legs.old × IsProducingEnd vl.now u y to second_legs.old }
-    ensures decision { (u : View) (x y : Label) → IsLabelOfView vl.now u → IsLabel vl.now.grammar x → IsLabel vl.now.grammar y → IsConsumingEnd vl.now u x from first_legs.old → IsProducingEnd vl.now u y to second_legs.old → IsDecision vl.now.grammar u x y result }
+    requires ends { (u : View) × (x : Label) × (y : Label) × IsLabelOfView vl.now u ×
+        IsConsumingEnd vl.now u x from first_legs.old × IsProducingEnd vl.now u y to second_legs.old }
+    ensures decision { (u : View) (x y : Label) → IsLabelOfView vl.now u → IsLabel vl.now.grammar x → IsLabel vl.now.grammar y →
+        IsConsumingEnd vl.now u x from first_legs.old → IsProducingEnd vl.now u y to second_legs.old → IsDecision vl.now.grammar u x y result }
     ensures cost { (l : ℕ) → ((k : ℕ) → length (round_at vl.now.cycles k) ≤ l) → steps.new ≤ steps.old + most_products vl.now.grammar l }
     ensures first_length { length first_legs.new ≡ length first_legs.old }
     ensures second_length { length second_legs.new ≡ length second_legs.old }

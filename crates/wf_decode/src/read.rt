@@ -97,7 +97,8 @@ fn take_mark(vl: &ViewLabel<'_>, at: ModNo, mark: Mark, held: usize) -> Taken
     requires module_no { at.0 < length vl.now.grammar.modules }
     requires mark { IsMarkOf vl.now.grammar (mark_of mark) }
     requires reading { MayTake vl.now at.0 (mark_of mark) }
-    ensures taken { (u : View) (x : Label) (all : List LegHeld) (marks : List MarkSeen) → IsLabelOfView vl.now u → held < length all → IsReading vl.now u x (take held all) at.0 (mark_of mark ∷ marks) → IsTaken vl.now u x all (take held all) marks result }
+    ensures taken { (u : View) (x : Label) (all : List LegHeld) (marks : List MarkSeen) → IsLabelOfView vl.now u →
+        held < length all → IsReading vl.now u x (take held all) at.0 (mark_of mark ∷ marks) → IsTaken vl.now u x all (take held all) marks result }
     ensures in_range { IfGoes result (λ m. m < length vl.now.grammar.modules) }
 {
     // It is the label of some view.

@@ -67,7 +67,8 @@ struct Front<'a> {
 
 /// Cuts what stands before the names, from the name of the instance on.
 fn cut_front(bytes: &[u8]) -> Option<Front<'_>>
-    ensures whole { IfSome result (λ f. bytes.now ≡ f.instance.now ++ (codes "\",\"production\":" ++ (decimal f.production ++ (codes ",\"names\":[" ++ f.rest.now)))) }
+    ensures whole { IfSome result (λ f. bytes.now ≡ f.instance.now ++
+        (codes "\",\"production\":" ++ (decimal f.production ++ (codes ",\"names\":[" ++ f.rest.now)))) }
     ensures plain { IfSome result (λ f. is_plain_text f.instance.now ≡ true) }
     ensures fits { IfSome result (λ f. f.production < 2 ^ 64) }
 {

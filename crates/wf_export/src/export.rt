@@ -45,7 +45,8 @@ fn put_all<O: Sink>(
     out: &mut O,
 ) -> Result<(), ExportFault>
     requires { IsRunSeen g.now.core view.now.core run.now shown.now }
-    ensures { Adds O.put_bytes O.faults O.at_last (export_text g.now.core view.now.core (events_of run.now)) text.old.items text.new.items out.old out.new result }
+    ensures { Adds O.put_bytes O.faults O.at_last (export_text g.now.core view.now.core (events_of run.now))
+        text.old.items text.new.items out.old out.new result }
 {
     put_instances(text, g, view, run, shown, out)?;
     put_items(text, g, run, shown, out)?;

@@ -72,7 +72,8 @@ pub fn put_instances<O: Sink>(
     out: &mut O,
 ) -> Result<(), ExportFault>
     requires { IsRunSeen g.now.core view.now.core run.now shown.now }
-    ensures { Adds O.put_bytes O.faults O.at_last (instances_text g.now.core view.now.core (events_of run.now)) text.old.items text.new.items out.old out.new result }
+    ensures { Adds O.put_bytes O.faults O.at_last (instances_text g.now.core view.now.core (events_of run.now))
+        text.old.items text.new.items out.old out.new result }
 {
     let instances = run.instances();
     for k in shown.seen() {

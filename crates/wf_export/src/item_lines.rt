@@ -101,7 +101,8 @@ fn put_expansion<O: Sink>(
     out: &mut O,
 ) -> Result<(), ExportFault>
     requires { IsReady g.now.core (length instances.now) o }
-    ensures { Adds O.put_bytes O.faults O.at_last (expansion_lines g.now.core instances.now shown.now.opens o) text.old.items text.new.items out.old out.new result }
+    ensures { Adds O.put_bytes O.faults O.at_last (expansion_lines g.now.core instances.now shown.now.opens o)
+        text.old.items text.new.items out.old out.new result }
 {
     if !shown.opens(o.instance) {
         return Ok(());

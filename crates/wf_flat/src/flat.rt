@@ -65,7 +65,8 @@ impl Model for Flat {
 
     ghost view = { λ f. record { links = f.shown.links; opens = f.shown.opens } };
 
-    ghost invariant = { λ f. IsSearched f.shown.links f.index.begins.items f.index.lasts.items f.index.arcs.items f.search.marks.items f.search.queue.items f.search.done };
+    ghost invariant = { λ f. IsSearched f.shown.links f.index.begins.items f.index.lasts.items f.index.arcs.items
+        f.search.marks.items f.search.queue.items f.search.done };
 }
 
 impl Flat {
@@ -81,7 +82,8 @@ impl Flat {
     ) -> Result<Flat, AllocError>
         requires run { IsTableOf g.now.core run.now }
         requires made_for { IsMadeFor g.now.core leaf.now }
-        ensures links { IfOk result (λ f. (u : View) → Marks expanded.now u → named_links (names_in run.now.instances) f.links ≡ links_with g.now.core u (pairs_of leaf.now) g.now.core.start (events_of run.now)) }
+        ensures links { IfOk result (λ f. (u : View) → Marks expanded.now u →
+            named_links (names_in run.now.instances) f.links ≡ links_with g.now.core u (pairs_of leaf.now) g.now.core.start (events_of run.now)) }
         ensures within { IfOk result (λ f. AreWithin (length run.now.instances) f.links) }
         ensures opens { IfOk result (λ f. (u : View) → Marks expanded.now u → (k : ℕ) → k < length run.now.instances →
             get_or f.opens k false ≡ opens u (seen_in g.now.core u g.now.core.start (events_of run.now)) (get_or (names_in run.now.instances) k [])) }
@@ -114,7 +116,8 @@ impl Flat {
     pub fn joined(&mut self, from: Port, to: Port) -> Result<bool, AllocError>
         ensures unchanged { self.new ≡ self.old }
         ensures joined { IfOk result (λ b. IsTrue b ↔ Path (numbered_links self.old.links) (numbered_port from) (numbered_port to)) }
-        ensures by_name { IfOk result (λ b. (names : List (List ℕ)) → AllDiffer names → AreWithin (length names) self.old.links → from.instance < length names → to.instance < length names →
+        ensures by_name { IfOk result (λ b. (names : List (List ℕ)) → AllDiffer names →
+            AreWithin (length names) self.old.links → from.instance < length names → to.instance < length names →
             IsTrue b ↔ Path (named_links names self.old.links) (named_port names from) (named_port names to)) }
     {
         let joined = is_joined(

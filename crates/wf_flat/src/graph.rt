@@ -166,9 +166,11 @@ fn add_wiring(
 ) -> Result<(), AllocError>
     requires few_entries { length rule.now.core.entries ≤ 64 }
     requires few_exits { length rule.now.core.exits ≤ 64 }
-    ensures within { OnOk result ((count n : ℕ) → AreBelow count rule.now.core → instance < n → first + count ≤ n → n < 2 ^ 32 → AreWithin n links.old.items → AreWithin n links.new.items) }
+    ensures within { OnOk result ((count n : ℕ) → AreBelow count rule.now.core → instance < n →
+        first + count ≤ n → n < 2 ^ 32 → AreWithin n links.old.items → AreWithin n links.new.items) }
     ensures links { OnOk result ((names : List (List ℕ)) (count : ℕ) → AreBelow count rule.now.core → first + count < 2 ^ 32 →
-        named_links names links.new.items ≡ named_links names links.old.items ++ map (move_link (instance_at (get_or names instance []) (take count (drop first names)))) (wiring_of rule.now.core)) }
+        named_links names links.new.items ≡ named_links names links.old.items ++
+        map (move_link (instance_at (get_or names instance []) (take count (drop first names)))) (wiring_of rule.now.core)) }
 {
     add_edges(links, first, rule.edges())?;
     add_entries(links, instance, first, rule.entries())?;
@@ -187,7 +189,8 @@ fn add_pairs(
     requires in_range { m.0 < length g.now.core.modules }
     requires made_for { IsMadeFor g.now.core leaf.now }
     ensures within { OnOk result ((n : ℕ) → instance < n → AreWithin n links.old.items → AreWithin n links.new.items) }
-    ensures links { OnOk result ((names : List (List ℕ)) → named_links names links.new.items ≡ named_links names links.old.items ++ pair_links g.now.core (pairs_of leaf.now) m.0 (get_or names instance [])) }
+    ensures links { OnOk result ((names : List (List ℕ)) →
+        named_links names links.new.items ≡ named_links names links.old.items ++ pair_links g.now.core (pairs_of leaf.now) m.0 (get_or names instance [])) }
 {
     let module = &g.modules()[m.0 as usize];
     let inputs = module.inputs().len();
@@ -212,7 +215,8 @@ fn add_instance(
     requires made_for { IsMadeFor g.now.core leaf.now }
     ensures within { OnOk result (AreWithin (length run.now.instances) links.old.items → AreWithin (length run.now.instances) links.new.items) }
     ensures links { OnOk result ((u : View) → Marks expanded.now u →
-        named_links (names_in run.now.instances) links.new.items ≡ named_links (names_in run.now.instances) links.old.items ++ links_of g.now.core u (pairs_of leaf.now) (events_of run.now) (inst_at run.now.instances k)) }
+        named_links (names_in run.now.instances) links.new.items ≡ named_links (names_in run.now.instances) links.old.items ++
+        links_of g.now.core u (pairs_of leaf.now) (events_of run.now) (inst_at run.now.instances k)) }
 {
     // A grammar is well-formed: the production of an instance is there.
     let _formed = g.start();
@@ -243,7 +247,8 @@ pub fn links(
     requires there { (k : ℕ) → IsIn k seen.now → k < length run.now.instances }
     ensures within { IfOk result (λ ls. AreWithin (length run.now.instances) ls.items) }
     ensures links { IfOk result (λ ls. (u : View) → Marks expanded.now u →
-        named_links (names_in run.now.instances) ls.items ≡ flat_map (links_of g.now.core u (pairs_of leaf.now) (events_of run.now)) (map (inst_at run.now.instances) seen.now)) }
+        named_links (names_in run.now.instances) ls.items ≡
+        flat_map (links_of g.now.core u (pairs_of leaf.now) (events_of run.now)) (map (inst_at run.now.instances) seen.now)) }
 {
     let mut links = Vec::new(alloc);
     for k in seen {

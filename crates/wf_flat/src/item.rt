@@ -62,7 +62,8 @@ fn edge_from(edges: &[Edge], from: Inner) -> Option<Edge>
 fn root_item(rule: &Module, k: u32, port: &[u8]) -> Option<Item>
     requires few_inputs { length rule.now.inputs ≤ 64 }
     requires few_outputs { length rule.now.outputs ≤ 64 }
-    ensures found { IfSome result (λ i. (names : List (List ℕ)) → let r = get_or names k [] in IsIn (named_item names (dotted r port.now) i) (input_items r 0 rule.now.inputs ++ output_items r 0 rule.now.outputs)) }
+    ensures found { IfSome result (λ i. (names : List (List ℕ)) →
+        let r = get_or names k [] in IsIn (named_item names (dotted r port.now) i) (input_items r 0 rule.now.inputs ++ output_items r 0 rule.now.outputs)) }
     ensures none { IsNone result → IsIn port.now (rule.now.inputs ++ rule.now.outputs) → ⊥ }
     ensures within { IfSome result (λ i. (count : ℕ) → k < count → IsItemWithin count i) }
 {
@@ -105,7 +106,8 @@ fn edge_item(
     requires last { k < first + length (body_of g.now.core production.0) }
     requires room { first + length (body_of g.now.core production.0) < 2 ^ 32 }
     ensures found { IfSome result (λ i. (e : EdgeSeen) × IsIn e (production_at g.now.core production.0).edges × IsItemOfEdge parent first k o e i) }
-    ensures none { IsNone result → (e : EdgeSeen) → IsIn e (production_at g.now.core production.0).edges → e.from ≡ record { position = k - first; port = o } → ⊥ }
+    ensures none { IsNone result → (e : EdgeSeen) → IsIn e (production_at g.now.core production.0).edges →
+        e.from ≡ record { position = k - first; port = o } → ⊥ }
 {
     let rule = g.production(production);
     let from = Inner {
@@ -135,8 +137,10 @@ fn inner_item(g: &Grammar, run: &PlainRun, k: u32, parent: u32, port: &[u8]) -> 
     requires run { IsTableOf g.now.core run.now }
     requires there { k < length run.now.instances }
     requires parent { (get_or run.now.instances k no_instance).parent ≡ Some parent }
-    ensures found { IfSome result (λ i. IsIn (named_item (names_in run.now.instances) (dotted (get_or (names_in run.now.instances) k []) port.now) i) (items g.now.core g.now.core.start (events_of run.now))) }
-    ensures none { IsNone result → (t : ItemSeen) → IsIn t (items g.now.core g.now.core.start (events_of run.now)) → t.name ≡ dotted (get_or (names_in run.now.instances) k []) port.now → ⊥ }
+    ensures found { IfSome result (λ i. IsIn (named_item (names_in run.now.instances) (dotted (get_or (names_in run.now.instances) k []) port.now) i)
+        (items g.now.core g.now.core.start (events_of run.now))) }
+    ensures none { IsNone result → (t : ItemSeen) → IsIn t (items g.now.core g.now.core.start (events_of run.now)) →
+        t.name ≡ dotted (get_or (names_in run.now.instances) k []) port.now → ⊥ }
     ensures within { IfSome result (λ i. IsItemWithin (length run.now.instances) i) }
 {
     let all = run.instances();
@@ -156,8 +160,10 @@ fn inner_item(g: &Grammar, run: &PlainRun, k: u32, parent: u32, port: &[u8]) -> 
 fn item_at(g: &Grammar, run: &PlainRun, k: u32, port: &[u8]) -> Option<Item>
     requires run { IsTableOf g.now.core run.now }
     requires there { k < length run.now.instances }
-    ensures found { IfSome result (λ i. IsIn (named_item (names_in run.now.instances) (dotted (get_or (names_in run.now.instances) k []) port.now) i) (items g.now.core g.now.core.start (events_of run.now))) }
-    ensures none { IsNone result → (t : ItemSeen) → IsIn t (items g.now.core g.now.core.start (events_of run.now)) → t.name ≡ dotted (get_or (names_in run.now.instances) k []) port.now → ⊥ }
+    ensures found { IfSome result (λ i. IsIn (named_item (names_in run.now.instances) (dotted (get_or (names_in run.now.instances) k []) port.now) i)
+        (items g.now.core g.now.core.start (events_of run.now))) }
+    ensures none { IsNone result → (t : ItemSeen) → IsIn t (items g.now.core g.now.core.start (events_of run.now)) →
+        t.name ≡ dotted (get_or (names_in run.now.instances) k []) port.now → ⊥ }
     ensures within { IfSome result (λ i. IsItemWithin (length run.now.instances) i) }
 {
     let x = &run.instances()[k as usize];

@@ -46,9 +46,11 @@ impl RunView {
     ) -> Result<RunView, AllocError>
         requires run { IsTableOf g.now.core run.now }
         requires made_for { IsMadeFor g.now.core leaf.now }
-        ensures seen { IfOk result (λ v. (u : View) → Marks expanded.now u → map (inst_at run.now.instances) v.numbers ≡ seen_in g.now.core u g.now.core.start (events_of run.now)) }
+        ensures seen { IfOk result (λ v. (u : View) → Marks expanded.now u →
+            map (inst_at run.now.instances) v.numbers ≡ seen_in g.now.core u g.now.core.start (events_of run.now)) }
         ensures there { IfOk result (λ v. (k : ℕ) → IsIn k v.numbers → k < length run.now.instances) }
-        ensures links { IfOk result (λ v. (u : View) → Marks expanded.now u → named_links (names_in run.now.instances) v.links ≡ links_with g.now.core u (pairs_of leaf.now) g.now.core.start (events_of run.now)) }
+        ensures links { IfOk result (λ v. (u : View) → Marks expanded.now u →
+            named_links (names_in run.now.instances) v.links ≡ links_with g.now.core u (pairs_of leaf.now) g.now.core.start (events_of run.now)) }
         ensures within { IfOk result (λ v. AreWithin (length run.now.instances) v.links) }
         ensures opens { IfOk result (λ v. (u : View) → Marks expanded.now u → (k : ℕ) → k < length run.now.instances →
             get_or v.opens k false ≡ opens u (seen_in g.now.core u g.now.core.start (events_of run.now)) (get_or (names_in run.now.instances) k [])) }

@@ -53,7 +53,8 @@ fn see_one(
     requires small { length instances.now < 2 ^ 32 }
     requires same { length flags.old.items ≡ length instances.now }
     requires agree { Agree flags.old.items seen.old.items }
-    ensures seen { OnOk result (seen.new.items ≡ seen.old.items ++ cond (flag_of flags.old.items o.instance && flag_of expanded.now (get_or instances.now o.instance no_instance).module.0) (numbers_from o.first o.count) []) }
+    ensures seen { OnOk result (seen.new.items ≡ seen.old.items ++ cond
+        (flag_of flags.old.items o.instance && flag_of expanded.now (get_or instances.now o.instance no_instance).module.0) (numbers_from o.first o.count) []) }
     ensures agree { OnOk result (Agree flags.new.items seen.new.items) }
     ensures count { OnOk result (length flags.new.items ≡ length flags.old.items) }
 {
@@ -78,7 +79,8 @@ pub fn seen(
     expanded: &[bool],
 ) -> Result<Vec<u32>, AllocError>
     requires { IsTableOf g.now.core run.now }
-    ensures seen { IfOk result (λ s. (u : View) → Marks expanded.now u → map (inst_at run.now.instances) s.items ≡ seen_in g.now.core u g.now.core.start (events_of run.now)) }
+    ensures seen { IfOk result (λ s. (u : View) → Marks expanded.now u →
+        map (inst_at run.now.instances) s.items ≡ seen_in g.now.core u g.now.core.start (events_of run.now)) }
     ensures there { IfOk result (λ s. (k : ℕ) → IsIn k s.items → k < length run.now.instances) }
 {
     let instances = run.instances();

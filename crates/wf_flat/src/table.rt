@@ -297,7 +297,8 @@ impl PlainRun {
         requires found { found ≡ position (bytes_eq instance.now) (names_in self.old.instances) }
         ensures taken { OnOk result (events_of self.new ≡ events_of self.old ++ Expand instance.now production names.now ∷ []) }
         ensures extends { OnOk result (fault_of g.now.core self.old.most (events_of self.old) (Expand instance.now production names.now) ≡ None) }
-        ensures refused { IfErr result (λ f. (f ≡ NoMemory) ⊎ (fault_of g.now.core self.old.most (events_of self.old) (Expand instance.now production names.now) ≡ Some f)) }
+        ensures refused { IfErr result (λ f. (f ≡ NoMemory) ⊎
+            (fault_of g.now.core self.old.most (events_of self.old) (Expand instance.now production names.now) ≡ Some f)) }
         ensures unchanged { OnErr result (self.new ≡ self.old) }
         ensures run { IsTableOf g.now.core self.new }
         ensures most { self.new.most ≡ self.old.most }

@@ -87,7 +87,8 @@ fn wiring_from(
     requires few_ports { HaveFewPorts modules.now }
     requires few_positions { length part.now.body ≤ 64 }
     requires known { HasKnownModules names.now part.now }
-    ensures { IfOk result (λ o. MatchOption o (¬ HasKnownPorts modules.now part.now) (λ w. HasKnownPorts modules.now part.now × IsWiringOf modules.now part.now w)) }
+    ensures { IfOk result (λ o. MatchOption o (¬ HasKnownPorts modules.now part.now)
+        (λ w. HasKnownPorts modules.now part.now × IsWiringOf modules.now part.now w)) }
 {
     let head = module_number(names, part.head.bytes());
     let positions = positions_from(alloc, names, part.body.items())?;
@@ -127,7 +128,8 @@ pub fn wirings_from(
     requires known { (p : ProdPart) → IsIn p parts.now → HasKnownModules names.now p }
     ensures kept { OnOk result (HoldsThroughout (each parts.now (HasKnownPorts modules.now) (λ k. UnknownPort (AtProduction k)))) }
     ensures wirings { IfOk result (λ ws. AreWiringsOf modules.now parts.now ws.items) }
-    ensures refused { IfErr result (λ f. (f ≡ NoMemory) ⊎ IsFirstFault (each parts.now (HasKnownPorts modules.now) (λ k. UnknownPort (AtProduction k)) ∷ []) f) }
+    ensures refused { IfErr result (λ f. (f ≡ NoMemory) ⊎
+        IsFirstFault (each parts.now (HasKnownPorts modules.now) (λ k. UnknownPort (AtProduction k)) ∷ []) f) }
 {
     let mut list = Vec::new(alloc);
     for (k, part) in parts.iter().enumerate() {

@@ -70,7 +70,8 @@ pub(crate) fn replace(
     requires place { place < length pending.old.items }
     requires production { p.0 < length g.now.core.productions }
     requires numbers { first + length (body_of g.now.core p.0) < 2 ^ 32 }
-    ensures replaced { OnOk result (all_pending pending.new.items ≡ swap_remove (all_pending pending.old.items) place no_pending ++ pending_from g.now.core first (body_of g.now.core p.0)) }
+    ensures replaced { OnOk result (all_pending pending.new.items ≡ swap_remove (all_pending pending.old.items) place no_pending ++
+        pending_from g.now.core first (body_of g.now.core p.0)) }
     ensures unchanged { OnErr result (pending.new.items ≡ pending.old.items) }
 {
     let count = g.production(p).positions().len();

@@ -110,7 +110,8 @@ pub fn view_stage<H: Shelf>(
     spec: Spec,
 ) -> Result<Viewed, Stop>
     ensures grammar { IfOk result (λ v. v.spec.grammar ≡ spec.grammar) }
-    ensures reads { Reads H.files H.faults H.at_last view_kind name.now (TellsView spec.grammar.core) (λ v. v.view.core) (OfWhole (RefusesView spec.grammar.core)) shelf.old shelf.new result }
+    ensures reads { Reads H.files H.faults H.at_last view_kind name.now (TellsView spec.grammar.core)
+        (λ v. v.view.core) (OfWhole (RefusesView spec.grammar.core)) shelf.old shelf.new result }
 {
     let bytes = read_file(alloc, shelf, name, VIEW)?;
     view_of_bytes(alloc, spec, &bytes)

@@ -68,7 +68,8 @@ impl MemShelf {
 }
 
 fn find<'a>(files: &'a [MemFile], name: &str) -> Option<&'a MemFile>
-    ensures { MatchOption result (stored files.now name.now ≡ record { bytes = []; broken = true }) (λ f. stored files.now name.now ≡ record { bytes = f.now.bytes; broken = f.now.broken }) }
+    ensures { MatchOption result (stored files.now name.now ≡ record { bytes = []; broken = true })
+        (λ f. stored files.now name.now ≡ record { bytes = f.now.bytes; broken = f.now.broken }) }
 {
     let mut rest = files;
     while let [first, others @ ..] = rest {

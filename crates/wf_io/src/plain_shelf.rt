@@ -42,7 +42,8 @@ impl PlainShelf {
 }
 
 fn find<'a>(files: &'a [PlainFile], name: &str) -> Option<&'a PlainFile>
-    ensures { MatchOption result (stored_whole files.now name.now ≡ record { bytes = []; broken = false }) (λ f. stored_whole files.now name.now ≡ record { bytes = f.now.bytes; broken = false }) }
+    ensures { MatchOption result (stored_whole files.now name.now ≡ record { bytes = []; broken = false })
+        (λ f. stored_whole files.now name.now ≡ record { bytes = f.now.bytes; broken = false }) }
 {
     let mut rest = files;
     while let [first, others @ ..] = rest {

@@ -42,7 +42,9 @@ pub(crate) fn keep_edges<K: Keeper>(
     requires short { (n : List ℕ) → IsIn n names.now → length n ≤ 64 }
     requires filled { IsFilled prefix.bytes.now prefix.length }
     requires few { prefix.length < 2 ^ 17 }
-    ensures ok { OnOk result (Adds K.parts_of (K.kept to.old) (K.kept to.new) (map (edge_entry g.now.core production.0 names.now (first_bits prefix.entry.bytes.now prefix.entry.length) prefix.entry.chain) (numbered_edges 0 (production_at g.now.core production.0).edges))) }
+    ensures ok { OnOk result (Adds K.parts_of (K.kept to.old) (K.kept to.new)
+        (map (edge_entry g.now.core production.0 names.now (first_bits prefix.entry.bytes.now prefix.entry.length) prefix.entry.chain)
+        (numbered_edges 0 (production_at g.now.core production.0).edges))) }
     ensures more { HasMore (K.kept to.old) (K.kept to.new) }
 {
     let rule = g.production(production);

@@ -77,11 +77,14 @@ impl<'a> Labeller<'a> {
     /// Cost: that of the event in the run, and linear in the bytes of the entries. No address is walked.
     pub fn take(&mut self, event: &Event, into: &mut Records) -> Result<(), RunFault>
         ensures taken { OnOk result ((events : List Event) → IsRunOf self.old events → IsRunOf self.new (events ++ event.now ∷ [])) }
-        ensures entries { OnOk result ((events : List Event) → IsRunOf self.old events → into.new ≡ map entry_of (labelled_by self.old.grammar.core (events ++ event.now ∷ []) event.now)) }
-        ensures bound { OnOk result ((events : List Event) → IsRunOf self.old events → HaveLabelsWithin self.new.grammar.core (events ++ event.now ∷ []) event.now self.new.expands into.new) }
+        ensures entries { OnOk result ((events : List Event) → IsRunOf self.old events →
+            into.new ≡ map entry_of (labelled_by self.old.grammar.core (events ++ event.now ∷ []) event.now)) }
+        ensures bound { OnOk result ((events : List Event) → IsRunOf self.old events →
+            HaveLabelsWithin self.new.grammar.core (events ++ event.now ∷ []) event.now self.new.expands into.new) }
         ensures extends { OnOk result ((events : List Event) → IsRunOf self.old events → fault_of self.old.grammar.core self.old.most events event.now ≡ None) }
         ensures goes_on { OnOk result (GoesOn self.old self.new) }
-        ensures refused { IfErr result (λ f. (f ≡ NoMemory) ⊎ ((events : List Event) → IsRunOf self.old events → fault_of self.old.grammar.core self.old.most events event.now ≡ Some f)) }
+        ensures refused { IfErr result (λ f. (f ≡ NoMemory) ⊎
+            ((events : List Event) → IsRunOf self.old events → fault_of self.old.grammar.core self.old.most events event.now ≡ Some f)) }
         ensures run { OnErr result (self.new ≡ self.old) }
         ensures into { OnErr result (into.new ≡ into.old) }
     {
@@ -107,10 +110,12 @@ impl<'a> Labeller<'a> {
     ) -> Result<(), RunFault>
         requires found { IsFoundFor self.old event.now found }
         ensures taken { OnOk result ((events : List Event) → IsRunOf self.old events → IsRunOf self.new (events ++ event.now ∷ [])) }
-        ensures entries { OnOk result ((events : List Event) → IsRunOf self.old events → into.new.items ≡ into.old.items ++ flat_map entry_bytes (map entry_of (labelled_by self.old.grammar.core (events ++ event.now ∷ []) event.now))) }
+        ensures entries { OnOk result ((events : List Event) → IsRunOf self.old events →
+            into.new.items ≡ into.old.items ++ flat_map entry_bytes (map entry_of (labelled_by self.old.grammar.core (events ++ event.now ∷ []) event.now))) }
         ensures extends { OnOk result ((events : List Event) → IsRunOf self.old events → fault_of self.old.grammar.core self.old.most events event.now ≡ None) }
         ensures goes_on { OnOk result (GoesOn self.old self.new) }
-        ensures refused { IfErr result (λ f. (f ≡ NoMemory) ⊎ ((events : List Event) → IsRunOf self.old events → fault_of self.old.grammar.core self.old.most events event.now ≡ Some f)) }
+        ensures refused { IfErr result (λ f. (f ≡ NoMemory) ⊎
+            ((events : List Event) → IsRunOf self.old events → fault_of self.old.grammar.core self.old.most events event.now ≡ Some f)) }
         ensures run { OnErr result (self.new ≡ self.old) }
         ensures into { OnErr result (into.new.items ≡ into.old.items) }
     {
@@ -131,10 +136,12 @@ impl<'a> Labeller<'a> {
     /// Cost: that of the event in the run, and linear in the bytes of the labels. Memory is taken for the run and for the labels alone.
     pub fn label_items(&mut self, event: &Event, into: &mut Labels) -> Result<(), RunFault>
         ensures taken { OnOk result ((events : List Event) → IsRunOf self.old events → IsRunOf self.new (events ++ event.now ∷ [])) }
-        ensures labels { OnOk result ((events : List Event) → IsRunOf self.old events → into.new ≡ into.old ++ labels_in_bytes (labelled_by self.old.grammar.core (events ++ event.now ∷ []) event.now)) }
+        ensures labels { OnOk result ((events : List Event) → IsRunOf self.old events →
+            into.new ≡ into.old ++ labels_in_bytes (labelled_by self.old.grammar.core (events ++ event.now ∷ []) event.now)) }
         ensures extends { OnOk result ((events : List Event) → IsRunOf self.old events → fault_of self.old.grammar.core self.old.most events event.now ≡ None) }
         ensures goes_on { OnOk result (GoesOn self.old self.new) }
-        ensures refused { IfErr result (λ f. (f ≡ NoMemory) ⊎ ((events : List Event) → IsRunOf self.old events → fault_of self.old.grammar.core self.old.most events event.now ≡ Some f)) }
+        ensures refused { IfErr result (λ f. (f ≡ NoMemory) ⊎
+            ((events : List Event) → IsRunOf self.old events → fault_of self.old.grammar.core self.old.most events event.now ≡ Some f)) }
         ensures run { OnErr result (self.new ≡ self.old) }
         ensures into { OnErr result (into.new ≡ into.old) }
     {
@@ -158,11 +165,13 @@ impl<'a> Labeller<'a> {
     ) -> Result<(), RunFault>
         requires found { IsFoundFor self.old event.now found }
         ensures taken { OnOk result ((events : List Event) → IsRunOf self.old events → IsRunOf self.new (events ++ event.now ∷ [])) }
-        ensures entries { OnOk result ((events : List Event) → IsRunOf self.old events → Adds K.parts_of (K.kept to.old) (K.kept to.new) (map entry_of (labelled_by self.old.grammar.core (events ++ event.now ∷ []) event.now))) }
+        ensures entries { OnOk result ((events : List Event) → IsRunOf self.old events →
+            Adds K.parts_of (K.kept to.old) (K.kept to.new) (map entry_of (labelled_by self.old.grammar.core (events ++ event.now ∷ []) event.now))) }
         ensures more { HasMore (K.kept to.old) (K.kept to.new) }
         ensures extends { OnOk result ((events : List Event) → IsRunOf self.old events → fault_of self.old.grammar.core self.old.most events event.now ≡ None) }
         ensures goes_on { OnOk result (GoesOn self.old self.new) }
-        ensures refused { IfErr result (λ f. (f ≡ NoMemory) ⊎ ((events : List Event) → IsRunOf self.old events → fault_of self.old.grammar.core self.old.most events event.now ≡ Some f)) }
+        ensures refused { IfErr result (λ f. (f ≡ NoMemory) ⊎
+            ((events : List Event) → IsRunOf self.old events → fault_of self.old.grammar.core self.old.most events event.now ≡ Some f)) }
         ensures run { OnErr result (self.new ≡ self.old) }
     {
         match event {
@@ -192,11 +201,13 @@ fn start<K: Keeper>(
     to: &mut K,
 ) -> Result<(), RunFault>
     ensures taken { OnOk result ((events : List Event) → IsRunOf run.old events → IsRunOf run.new (events ++ Start name.now ∷ [])) }
-    ensures entries { OnOk result ((events : List Event) → IsRunOf run.old events → Adds K.parts_of (K.kept to.old) (K.kept to.new) (map entry_of (labelled_by run.old.grammar.core (events ++ Start name.now ∷ []) (Start name.now)))) }
+    ensures entries { OnOk result ((events : List Event) → IsRunOf run.old events →
+        Adds K.parts_of (K.kept to.old) (K.kept to.new) (map entry_of (labelled_by run.old.grammar.core (events ++ Start name.now ∷ []) (Start name.now)))) }
     ensures more { HasMore (K.kept to.old) (K.kept to.new) }
     ensures extends { OnOk result ((events : List Event) → IsRunOf run.old events → fault_of run.old.grammar.core run.old.most events (Start name.now) ≡ None) }
     ensures goes_on { OnOk result (GoesOn run.old run.new) }
-    ensures refused { IfErr result (λ f. (f ≡ NoMemory) ⊎ ((events : List Event) → IsRunOf run.old events → fault_of run.old.grammar.core run.old.most events (Start name.now) ≡ Some f)) }
+    ensures refused { IfErr result (λ f. (f ≡ NoMemory) ⊎
+        ((events : List Event) → IsRunOf run.old events → fault_of run.old.grammar.core run.old.most events (Start name.now) ≡ Some f)) }
     ensures unchanged { OnErr result (run.new ≡ run.old) }
 {
     keep_root(run.grammar(), bits, name, to)?;
@@ -216,11 +227,17 @@ fn expand<K: Keeper>(
 ) -> Result<(), RunFault>
     requires found { IsFoundAs run.old instance.now found }
     ensures taken { OnOk result ((events : List Event) → IsRunOf run.old events → IsRunOf run.new (events ++ Expand instance.now production names.now ∷ [])) }
-    ensures entries { OnOk result ((events : List Event) → IsRunOf run.old events → Adds K.parts_of (K.kept to.old) (K.kept to.new) (map entry_of (labelled_by run.old.grammar.core (events ++ Expand instance.now production names.now ∷ []) (Expand instance.now production names.now)))) }
+    ensures entries { OnOk result ((events : List Event) → IsRunOf run.old events →
+        Adds K.parts_of (K.kept to.old) (K.kept to.new)
+        (map entry_of (labelled_by run.old.grammar.core (events ++ Expand instance.now production names.now ∷ [])
+        (Expand instance.now production names.now)))) }
     ensures more { HasMore (K.kept to.old) (K.kept to.new) }
-    ensures extends { OnOk result ((events : List Event) → IsRunOf run.old events → fault_of run.old.grammar.core run.old.most events (Expand instance.now production names.now) ≡ None) }
+    ensures extends { OnOk result ((events : List Event) → IsRunOf run.old events →
+        fault_of run.old.grammar.core run.old.most events (Expand instance.now production names.now) ≡ None) }
     ensures goes_on { OnOk result (GoesOn run.old run.new) }
-    ensures refused { IfErr result (λ f. (f ≡ NoMemory) ⊎ ((events : List Event) → IsRunOf run.old events → fault_of run.old.grammar.core run.old.most events (Expand instance.now production names.now) ≡ Some f)) }
+    ensures refused { IfErr result (λ f. (f ≡ NoMemory) ⊎
+        ((events : List Event) → IsRunOf run.old events →
+        fault_of run.old.grammar.core run.old.most events (Expand instance.now production names.now) ≡ Some f)) }
     ensures unchanged { OnErr result (run.new ≡ run.old) }
 {
     keep_inner(run, bits, found, instance, production, names, to)?;
@@ -239,7 +256,11 @@ fn keep_inner<K: Keeper>(
     to: &mut K,
 ) -> Result<(), AllocError>
     requires found { IsFoundAs run.now instance.now found }
-    ensures ok { OnOk result ((events : List Event) → IsRunOf run.now events → fault_of run.now.grammar.core run.now.most events (Expand instance.now production names.now) ≡ None → Adds K.parts_of (K.kept to.old) (K.kept to.new) (map entry_of (labelled_by run.now.grammar.core (events ++ Expand instance.now production names.now ∷ []) (Expand instance.now production names.now)))) }
+    ensures ok { OnOk result ((events : List Event) → IsRunOf run.now events →
+        fault_of run.now.grammar.core run.now.most events (Expand instance.now production names.now) ≡ None →
+        Adds K.parts_of (K.kept to.old) (K.kept to.new)
+        (map entry_of (labelled_by run.now.grammar.core (events ++ Expand instance.now production names.now ∷ [])
+        (Expand instance.now production names.now)))) }
     ensures more { HasMore (K.kept to.old) (K.kept to.new) }
 {
     let Some((n, number)) = place(run, found, instance, production, names) else {
@@ -263,9 +284,11 @@ fn place(
     requires found { IsFoundAs run.now instance.now found }
     ensures place { IfSome result (λ t. (events : List Event) → IsRunOf run.now events → position (bytes_eq instance.now) run.now.names ≡ Some t.0.0) }
     ensures there { IfSome result (λ t. t.0.0 < length run.now.nodes) }
-    ensures production { IfSome result (λ t. (t.1.0 ≡ production) × (production < length run.now.grammar.core.productions) × (length names.now ≡ length (body_of run.now.grammar.core production))) }
+    ensures production { IfSome result (λ t. (t.1.0 ≡ production) × (production < length run.now.grammar.core.productions) ×
+        (length names.now ≡ length (body_of run.now.grammar.core production))) }
     ensures short { IfSome result (λ _. (n : List ℕ) → IsIn n names.now → length n ≤ 64) }
-    ensures none { IsNone result → (events : List Event) → IsRunOf run.now events → fault_of run.now.grammar.core run.now.most events (Expand instance.now production names.now) ≡ None → ⊥ }
+    ensures none { IsNone result → (events : List Event) → IsRunOf run.now events →
+        fault_of run.now.grammar.core run.now.most events (Expand instance.now production names.now) ≡ None → ⊥ }
 {
     let Some(n) = found else {
         return None;

@@ -56,7 +56,8 @@ pub(crate) fn keep_root<K: Keeper>(
     root: &[u8],
     to: &mut K,
 ) -> Result<(), AllocError>
-    ensures ok { OnOk result (length root.now ≤ 64 → (events : List Event) → Adds K.parts_of (K.kept to.old) (K.kept to.new) (map entry_of (labelled_by g.now.core events (Start root.now)))) }
+    ensures ok { OnOk result (length root.now ≤ 64 → (events : List Event) →
+        Adds K.parts_of (K.kept to.old) (K.kept to.new) (map entry_of (labelled_by g.now.core events (Start root.now)))) }
     ensures more { HasMore (K.kept to.old) (K.kept to.new) }
 {
     if !has_room(root) {

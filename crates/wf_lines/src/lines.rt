@@ -34,8 +34,10 @@ fn take_line<T: Taker, O: Sink>(
     requires ready { T.is_ready taker.old }
     ensures ready { OnOk result (T.is_ready taker.new) }
     ensures known { (k : T.Known) → T.is_known taker.old k → T.is_known taker.new k }
-    ensures taken { OnOk result ((s : T.State) → T.is_at taker.old s → (q : T.State) × (piece : List ℕ) × T.takes s number text.now q piece × T.is_at taker.new q × IsDue (due.old ++ piece) due.new (O.put_bytes out.old) (O.put_bytes out.new)) }
-    ensures stopped { IfErr result (λ f. (s : T.State) → T.is_at taker.old s → IsStoppedBy T.takes T.stops T.end_of s number text.now due.old f (O.put_bytes out.old) (O.put_bytes out.new)) }
+    ensures taken { OnOk result ((s : T.State) → T.is_at taker.old s → (q : T.State) × (piece : List ℕ) ×
+        T.takes s number text.now q piece × T.is_at taker.new q × IsDue (due.old ++ piece) due.new (O.put_bytes out.old) (O.put_bytes out.new)) }
+    ensures stopped { IfErr result (λ f. (s : T.State) → T.is_at taker.old s →
+        IsStoppedBy T.takes T.stops T.end_of s number text.now due.old f (O.put_bytes out.old) (O.put_bytes out.new)) }
     ensures fault { IfErr result (IsStoppedAs T.is_fault) }
     ensures memory { IfErr result (λ f. IsWanting T.end_of f → T.wants_memory) }
     ensures same { OnOk result (O.faults out.new ≡ O.faults out.old) }
@@ -62,8 +64,10 @@ fn take_end<T: Taker, O: Sink>(
 ) -> Result<(), LinesFault<T::Fault>>
     requires ready { T.is_ready taker.old }
     ensures known { (k : T.Known) → T.is_known taker.old k → T.is_known taker.new k }
-    ensures finished { OnOk result ((s : T.State) → T.is_at taker.old s → (last : List ℕ) × T.finishes s last × T.is_at taker.new s × Appended (due.old ++ last) (O.put_bytes out.old) (O.put_bytes out.new)) }
-    ensures stopped { IfErr result (λ f. (s : T.State) → T.is_at taker.old s → IsStoppedAtEnd T.finishes T.stops_at_end T.end_of s due.old f (O.put_bytes out.old) (O.put_bytes out.new)) }
+    ensures finished { OnOk result ((s : T.State) → T.is_at taker.old s →
+        (last : List ℕ) × T.finishes s last × T.is_at taker.new s × Appended (due.old ++ last) (O.put_bytes out.old) (O.put_bytes out.new)) }
+    ensures stopped { IfErr result (λ f. (s : T.State) → T.is_at taker.old s →
+        IsStoppedAtEnd T.finishes T.stops_at_end T.end_of s due.old f (O.put_bytes out.old) (O.put_bytes out.new)) }
     ensures fault { IfErr result (IsStoppedAs T.is_fault) }
     ensures memory { IfErr result (λ f. IsWanting T.end_of f → T.wants_memory) }
     ensures same { OnOk result (O.faults out.new ≡ O.faults out.old) }
@@ -97,10 +101,18 @@ pub fn take_lines<T: Taker, H: Shelf, O: Sink>(
     requires live { lines.old.live ≡ true }
     requires ready { T.is_ready taker.old }
     requires none { due.old ≡ [] }
-    ensures taken { IfOk result (λ n. (f : List ℕ → File) → H.files shelf.old ≡ Some f → Stands (f lines.old.name) lines.old → (s : T.State) → T.is_at taker.old s → AreTaken (AllTaken T.ends T.takes T.stops s (left_in (f lines.old.name) lines.old).lines) T.finishes (T.is_at taker.new) (left_in (f lines.old.name) lines.old).tail (O.put_bytes out.old) (O.put_bytes out.new)) }
-    ensures count { IfOk result (λ n. (f : List ℕ → File) → H.files shelf.old ≡ Some f → Stands (f lines.old.name) lines.old → n ≡ length (left_in (f lines.old.name) lines.old).lines) }
-    ensures stopped { IfErr result (λ fault. (f : List ℕ → File) → H.files shelf.old ≡ Some f → Stands (f lines.old.name) lines.old → (s : T.State) → T.is_at taker.old s → IsOneWay T.is_sound T.takes T.stops → IsClosedOneWay T.is_sound T.finishes T.stops_at_end → T.is_sound s →
-        AreStopped (OfLines T.ends T.takes T.stops T.stops_at_end s (left_in (f lines.old.name) lines.old).lines (left_in (f lines.old.name) lines.old).tail) (OfLines T.ends T.takes T.stops (ClosesOrGoesOn T.finishes T.stops_at_end) s (left_in (f lines.old.name) lines.old).lines (left_in (f lines.old.name) lines.old).tail) (end_at T.ends T.end_of fault) (O.put_bytes out.old) (O.put_bytes out.new)) }
+    ensures taken { IfOk result (λ n. (f : List ℕ → File) → H.files shelf.old ≡ Some f →
+        Stands (f lines.old.name) lines.old → (s : T.State) → T.is_at taker.old s →
+        AreTaken (AllTaken T.ends T.takes T.stops s (left_in (f lines.old.name) lines.old).lines) T.finishes
+        (T.is_at taker.new) (left_in (f lines.old.name) lines.old).tail (O.put_bytes out.old) (O.put_bytes out.new)) }
+    ensures count { IfOk result (λ n. (f : List ℕ → File) → H.files shelf.old ≡ Some f →
+        Stands (f lines.old.name) lines.old → n ≡ length (left_in (f lines.old.name) lines.old).lines) }
+    ensures stopped { IfErr result (λ fault. (f : List ℕ → File) → H.files shelf.old ≡ Some f → Stands (f lines.old.name) lines.old →
+        (s : T.State) → T.is_at taker.old s → IsOneWay T.is_sound T.takes T.stops → IsClosedOneWay T.is_sound T.finishes T.stops_at_end → T.is_sound s →
+        let left = left_in (f lines.old.name) lines.old in
+        AreStopped (OfLines T.ends T.takes T.stops T.stops_at_end s left.lines left.tail)
+        (OfLines T.ends T.takes T.stops (ClosesOrGoesOn T.finishes T.stops_at_end) s left.lines left.tail)
+        (end_at T.ends T.end_of fault) (O.put_bytes out.old) (O.put_bytes out.new)) }
     ensures known { (k : T.Known) → T.is_known taker.old k → T.is_known taker.new k }
     ensures fault { IfErr result (IsStoppedAs T.is_fault) }
     ensures memory { IfErr result (λ fault. IsWanting T.end_of fault → T.wants_memory) }
@@ -109,7 +121,8 @@ pub fn take_lines<T: Taker, H: Shelf, O: Sink>(
     ensures put_later { O.faults out.old ≤ O.faults out.new }
     ensures same { OnOk result (H.faults shelf.new ≡ H.faults shelf.old) }
     ensures put_same { OnOk result (O.faults out.new ≡ O.faults out.old) }
-    ensures cause { IfErr result (IsCauseOf (H.faults shelf.old) (H.faults shelf.new) (H.at_last shelf.new) (O.faults out.old) (O.faults out.new) (O.at_last out.new)) }
+    ensures cause { IfErr result (IsCauseOf (H.faults shelf.old) (H.faults shelf.new) (H.at_last shelf.new)
+        (O.faults out.old) (O.faults out.new) (O.at_last out.new)) }
 {
     let mut taken = 0;
     loop {

@@ -43,8 +43,11 @@ pub(crate) fn next_line<H: Shelf, O: Sink>(
     out: &mut O,
 ) -> Result<bool, Halt>
     requires live { lines.old.live ≡ true }
-    ensures lines { (f : List ℕ → File) → H.files shelf.old ≡ Some f → Stands (f lines.old.name) lines.old → MatchResult result (λ lent. Advances lent (left_in (f lines.old.name) lines.old) lines.new (left_in (f lines.old.name) lines.new)) (Halts (left_in (f lines.old.name) lines.old)) }
-    ensures stands { OnOk result ((f : List ℕ → File) → H.files shelf.old ≡ Some f → Stands (f lines.old.name) lines.old → Stands (f lines.old.name) lines.new) }
+    ensures lines { (f : List ℕ → File) → H.files shelf.old ≡ Some f → Stands (f lines.old.name) lines.old →
+        MatchResult result (λ lent. Advances lent (left_in (f lines.old.name) lines.old) lines.new (left_in (f lines.old.name) lines.new))
+        (Halts (left_in (f lines.old.name) lines.old)) }
+    ensures stands { OnOk result ((f : List ℕ → File) → H.files shelf.old ≡ Some f →
+        Stands (f lines.old.name) lines.old → Stands (f lines.old.name) lines.new) }
     ensures name { lines.new.name ≡ lines.old.name }
     ensures live { OnOk result (lines.new.live ≡ true) }
     ensures less { IfOk result (λ lent. lent ≡ true → left_over lines.new < left_over lines.old) }
@@ -56,7 +59,8 @@ pub(crate) fn next_line<H: Shelf, O: Sink>(
     ensures put_later { O.faults out.old ≤ O.faults out.new }
     ensures same { OnOk result (H.faults shelf.new ≡ H.faults shelf.old) }
     ensures put_same { OnOk result (O.faults out.new ≡ O.faults out.old) }
-    ensures cause { IfErr result (IsCauseOfHalt (H.faults shelf.old) (H.faults shelf.new) (H.at_last shelf.new) (O.faults out.old) (O.faults out.new) (O.at_last out.new)) }
+    ensures cause { IfErr result (IsCauseOfHalt (H.faults shelf.old) (H.faults shelf.new)
+        (H.at_last shelf.new) (O.faults out.old) (O.faults out.new) (O.at_last out.new)) }
 {
     loop {
         match lines.seek() {

@@ -50,7 +50,8 @@ fn put_step<E: Sink>(err: &mut E, word: &[u8], g: &Grammar, step: Step) -> Resul
 }
 
 fn put_steps<E: Sink>(err: &mut E, g: &Grammar, first: Step, second: Step) -> Result<(), Failed>
-    ensures { Puts E.put_bytes E.faults E.at_last (step_text (codes " first ") g.now.core (step_of first) ++ step_text (codes " second ") g.now.core (step_of second)) err.old err.new result }
+    ensures { Puts E.put_bytes E.faults E.at_last (step_text (codes " first ") g.now.core (step_of first) ++
+        step_text (codes " second ") g.now.core (step_of second)) err.old err.new result }
 {
     put_step(err, b" first ", g, first)?;
     put_step(err, b" second ", g, second)
@@ -63,7 +64,8 @@ fn put_loops<E: Sink>(
     first: Step,
     second: Step,
 ) -> Result<(), Failed>
-    ensures { Puts E.put_bytes E.faults E.at_last ((codes "TwoLoops " ++ (module_at g.now.core m.0).name) ++ (step_text (codes " first ") g.now.core (step_of first) ++ step_text (codes " second ") g.now.core (step_of second))) err.old err.new result }
+    ensures { Puts E.put_bytes E.faults E.at_last ((codes "TwoLoops " ++ (module_at g.now.core m.0).name) ++
+        (step_text (codes " first ") g.now.core (step_of first) ++ step_text (codes " second ") g.now.core (step_of second))) err.old err.new result }
 {
     put_two(err, b"TwoLoops ", module_name(g, m))?;
     put_steps(err, g, first, second)
@@ -84,7 +86,8 @@ fn put_recur<E: Sink>(err: &mut E, g: &Grammar, fault: RecurFault) -> Result<(),
 
 /// Puts the fault of the version of a number whose cycle is changed at a module.
 fn put_changed<E: Sink>(err: &mut E, g: &Grammar, version: u64, m: ModNo) -> Result<(), Failed>
-    ensures { Puts E.put_bytes E.faults E.at_last ((codes "CycleChanged version " ++ decimal version) ++ (codes " module " ++ (module_at g.now.core m.0).name)) err.old err.new result }
+    ensures { Puts E.put_bytes E.faults E.at_last ((codes "CycleChanged version " ++ decimal version) ++
+        (codes " module " ++ (module_at g.now.core m.0).name)) err.old err.new result }
 {
     put_numbered(err, b"CycleChanged version ", version)?;
     put_two(err, b" module ", module_name(g, m))

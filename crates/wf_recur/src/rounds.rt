@@ -15,7 +15,8 @@ use wf_spec::{Grammar, ModNo, Step};
 fn open_step(steps: &[Option<Step>], on: &[Option<OnCycle>], m: ModNo) -> Option<Step>
     requires step { m.0 < length steps.now }
     requires place { m.0 < length on.now }
-    ensures { MatchOption result (IsPlaced (stands_in on.now) m.0 ⊎ (get_or steps.now m.0 None ≡ None)) (λ s. (get_or (stands_in on.now) m.0 None ≡ None) × (get_or steps.now m.0 None ≡ Some s)) }
+    ensures { MatchOption result (IsPlaced (stands_in on.now) m.0 ⊎ (get_or steps.now m.0 None ≡ None))
+        (λ s. (get_or (stands_in on.now) m.0 None ≡ None) × (get_or steps.now m.0 None ≡ Some s)) }
 {
     if on[m.0 as usize].is_some() {
         return None;

@@ -38,7 +38,8 @@ fn add_step(
     requires position { step.position.0 < length (body_of g.now.core step.production.0) }
     requires module_no { m.0 < length g.now.core.modules }
     requires derived { AreDerived g.now.core (rows_in rows.now) }
-    ensures { OnOk result (map step_of list.new.items ≡ map step_of list.old.items ++ filter (leads_back g.now.core (rows_in rows.now) m.0) (step_of step ∷ [])) }
+    ensures { OnOk result (map step_of list.new.items ≡ map step_of list.old.items ++
+        filter (leads_back g.now.core (rows_in rows.now) m.0) (step_of step ∷ [])) }
 {
     if derives(rows, target(g, step), m) {
         list.push(step)?;

@@ -79,7 +79,8 @@ pub(crate) fn grow<'a>(
     requires chain { IfSome (held_at nodes.old.items e.instance.0).chain (λ c. c < 2 ^ 24) }
     ensures fresh { OnOk result (some_twice taken.old e.entry.names.now ≡ false) }
     ensures names { OnOk result (taken.new ≡ taken.old ++ e.entry.names.now) }
-    ensures nodes { OnOk result (map node_of nodes.new.items ≡ opened_nodes g.now.core (map node_of nodes.old.items) e.entry.instance.0 e.entry.production.0 (held_at nodes.old.items e.entry.instance.0) (length e.entry.names.now)) }
+    ensures nodes { OnOk result (map node_of nodes.new.items ≡ opened_nodes g.now.core
+        (map node_of nodes.old.items) e.entry.instance.0 e.entry.production.0 (held_at nodes.old.items e.entry.instance.0) (length e.entry.names.now)) }
     ensures whole { OnOk result ((n : NodeHeld) → IsIn n nodes.new.items → IsWhole n.bytes.now n.length) }
     ensures refused { IfErr result (AreNamesRefused taken.old e.entry.names.now) }
     ensures same_taken { OnErr result (taken.new ≡ taken.old) }

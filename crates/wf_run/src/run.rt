@@ -185,10 +185,12 @@ impl<'a> Run<'a> {
     /// Errors, in order of trial: `StartedTwice`, `NameBad` (a name has 1 to 64 letters, digits, `_` or `-`), `TooManyInstances`; `NoMemory` last.
     pub fn start(&mut self, name: &[u8]) -> Result<NodeNo, RunFault>
         ensures taken { OnOk result ((events : List Event) → IsRunOf self.old events → IsRunOf self.new (events ++ Start name.now ∷ [])) }
-        ensures extends { OnOk result ((events : List Event) → IsRunOf self.old events → fault_of self.old.grammar.core self.old.most events (Start name.now) ≡ None) }
+        ensures extends { OnOk result ((events : List Event) → IsRunOf self.old events →
+            fault_of self.old.grammar.core self.old.most events (Start name.now) ≡ None) }
         ensures root { IfOk result (λ n. n.0 ≡ 0) }
         ensures goes_on { OnOk result (GoesOn self.old self.new) }
-        ensures refused { IfErr result (λ f. (f ≡ NoMemory) ⊎ ((events : List Event) → IsRunOf self.old events → fault_of self.old.grammar.core self.old.most events (Start name.now) ≡ Some f)) }
+        ensures refused { IfErr result (λ f. (f ≡ NoMemory) ⊎
+            ((events : List Event) → IsRunOf self.old events → fault_of self.old.grammar.core self.old.most events (Start name.now) ≡ Some f)) }
         ensures unchanged { OnErr result (self.new ≡ self.old) }
     {
         if let Some(fault) = self.fault_of_start(name) {
@@ -209,7 +211,8 @@ impl<'a> Run<'a> {
     /// What the faults of an event depend on, of an instance that was looked up.
     fn found(&self, n: Option<NodeNo>) -> Option<Found>
         requires { IfSome n (λ n. n.0 < length self.now.nodes) }
-        ensures found { (events : List Event) (name : List ℕ) → IsRunOf self.now events → option_map (λ n. n.0) n ≡ position (bytes_eq name) self.now.names → IsFound self.now.grammar.core events name result }
+        ensures found { (events : List Event) (name : List ℕ) → IsRunOf self.now events →
+            option_map (λ n. n.0) n ≡ position (bytes_eq name) self.now.names → IsFound self.now.grammar.core events name result }
         ensures there { is_some result ≡ is_some n }
     {
         let Some(n) = n else {
@@ -324,11 +327,15 @@ impl<'a> Run<'a> {
         production: u64,
         names: &[Name],
     ) -> Result<NodeNo, RunFault>
-        ensures taken { OnOk result ((events : List Event) → IsRunOf self.old events → IsRunOf self.new (events ++ Expand instance.now production names.now ∷ [])) }
-        ensures extends { OnOk result ((events : List Event) → IsRunOf self.old events → fault_of self.old.grammar.core self.old.most events (Expand instance.now production names.now) ≡ None) }
+        ensures taken { OnOk result ((events : List Event) → IsRunOf self.old events →
+            IsRunOf self.new (events ++ Expand instance.now production names.now ∷ [])) }
+        ensures extends { OnOk result ((events : List Event) → IsRunOf self.old events →
+            fault_of self.old.grammar.core self.old.most events (Expand instance.now production names.now) ≡ None) }
         ensures first { IfOk result (λ n. n.0 ≡ length self.old.nodes) }
         ensures goes_on { OnOk result (GoesOn self.old self.new) }
-        ensures refused { IfErr result (λ f. (f ≡ NoMemory) ⊎ ((events : List Event) → IsRunOf self.old events → fault_of self.old.grammar.core self.old.most events (Expand instance.now production names.now) ≡ Some f)) }
+        ensures refused { IfErr result (λ f. (f ≡ NoMemory) ⊎
+            ((events : List Event) → IsRunOf self.old events →
+            fault_of self.old.grammar.core self.old.most events (Expand instance.now production names.now) ≡ Some f)) }
         ensures unchanged { OnErr result (self.new ≡ self.old) }
     {
         let found = self.find(instance);
@@ -346,11 +353,15 @@ impl<'a> Run<'a> {
         names: &[Name],
     ) -> Result<NodeNo, RunFault>
         requires found { IsFoundAs self.old instance.now found }
-        ensures taken { OnOk result ((events : List Event) → IsRunOf self.old events → IsRunOf self.new (events ++ Expand instance.now production names.now ∷ [])) }
-        ensures extends { OnOk result ((events : List Event) → IsRunOf self.old events → fault_of self.old.grammar.core self.old.most events (Expand instance.now production names.now) ≡ None) }
+        ensures taken { OnOk result ((events : List Event) → IsRunOf self.old events →
+            IsRunOf self.new (events ++ Expand instance.now production names.now ∷ [])) }
+        ensures extends { OnOk result ((events : List Event) → IsRunOf self.old events →
+            fault_of self.old.grammar.core self.old.most events (Expand instance.now production names.now) ≡ None) }
         ensures first { IfOk result (λ n. n.0 ≡ length self.old.nodes) }
         ensures goes_on { OnOk result (GoesOn self.old self.new) }
-        ensures refused { IfErr result (λ f. (f ≡ NoMemory) ⊎ ((events : List Event) → IsRunOf self.old events → fault_of self.old.grammar.core self.old.most events (Expand instance.now production names.now) ≡ Some f)) }
+        ensures refused { IfErr result (λ f. (f ≡ NoMemory) ⊎
+            ((events : List Event) → IsRunOf self.old events →
+            fault_of self.old.grammar.core self.old.most events (Expand instance.now production names.now) ≡ Some f)) }
         ensures unchanged { OnErr result (self.new ≡ self.old) }
     {
         let e = self.expansion(found, instance, production, names)?;

@@ -42,7 +42,8 @@ impl Model for Grammar {
 
     ghost view = { λ g. record { core = core_of g.start.0 g.modules g.productions g.given; versions = g.versions } };
 
-    ghost invariant = { λ g. IsKept (core_of g.start.0 g.modules g.productions g.given) g.names (numbers_in g.by_head.items) (map (λ v. v.items) g.rows.items) (map (λ p. p.alternative) g.productions)
+    ghost invariant = { λ g. IsKept (core_of g.start.0 g.modules g.productions g.given) g.names (numbers_in g.by_head.items)
+        (map (λ v. v.items) g.rows.items) (map (λ p. p.alternative) g.productions)
         × AreVersionsOf (core_of g.start.0 g.modules g.productions g.given) g.versions };
 }
 

@@ -22,7 +22,13 @@ impl Model for Rule {
 
     ghost Value = { Production };
 
-    ghost view = { λ p. record { head = p.head.0; positions = map position_of p.positions; edges = map edge_of p.edges; entries = map inner_of p.entries; exits = map inner_of p.exits } };
+    ghost view = { λ p. record {
+      head = p.head.0;
+      positions = map position_of p.positions;
+      edges = map edge_of p.edges;
+      entries = map inner_of p.entries;
+      exits = map inner_of p.exits;
+    } };
 }
 
 impl Rule {

@@ -48,7 +48,8 @@ pub fn obey<H: Shelf, O: Sink>(
     shelf: &mut H,
     out: &mut O,
 ) -> Result<(), Stop>
-    ensures obeys { Obeys H.files H.faults H.at_last O.put_bytes O.faults O.at_last [] (λ f. Does f (Some (meant command.now))) shelf.old shelf.new out.old out.new (end_after result) }
+    ensures obeys { Obeys H.files H.faults H.at_last O.put_bytes O.faults O.at_last []
+        (λ f. Does f (Some (meant command.now))) shelf.old shelf.new out.old out.new (end_after result) }
     ensures untouched { end_after result ≡ NoMemory → IsAsk (Some (meant command.now)) → O.put_bytes out.new ≡ O.put_bytes out.old }
 {
     match command {

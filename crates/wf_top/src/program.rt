@@ -37,15 +37,18 @@ pub fn run<H: Shelf, O: Sink, E: Sink>(
     out: &mut O,
     err: &mut E,
 ) -> Status
-    ensures ended { HasEnded (H.files shelf.old) (map (λ w. w.now) words.now) result (O.put_bytes out.old) (O.put_bytes out.new) (E.put_bytes err.old) (E.put_bytes err.new) (E.faults err.old) (E.faults err.new) (E.at_last err.new) }
+    ensures ended { HasEnded (H.files shelf.old) (map (λ w. w.now) words.now) result (O.put_bytes out.old)
+        (O.put_bytes out.new) (E.put_bytes err.old) (E.put_bytes err.new) (E.faults err.old) (E.faults err.new) (E.at_last err.new) }
     ensures usage { (result ≡ Status.Usage) ↔ (command_of (map (λ w. w.now) words.now) ≡ None) }
-    ensures quiet { result ≡ Status.Usage → (O.put_bytes out.new ≡ O.put_bytes out.old) × (H.faults shelf.new ≡ H.faults shelf.old) × (O.faults out.new ≡ O.faults out.old) }
+    ensures quiet { result ≡ Status.Usage → (O.put_bytes out.new ≡ O.put_bytes out.old) ×
+        (H.faults shelf.new ≡ H.faults shelf.old) × (O.faults out.new ≡ O.faults out.old) }
     ensures done { result ≡ Status.Done → (H.faults shelf.new ≡ H.faults shelf.old) × (O.faults out.new ≡ O.faults out.old) }
     ensures refused { result ≡ Status.Refused → (H.faults shelf.new ≡ H.faults shelf.old) × (O.faults out.new ≡ O.faults out.old) }
     ensures read { result ≡ Status.ReadFault → Rose (H.faults shelf.old) (H.faults shelf.new) (H.at_last shelf.new) × (O.faults out.new ≡ O.faults out.old) }
     ensures write { result ≡ Status.WriteFault → Rose (O.faults out.old) (O.faults out.new) (O.at_last out.new) × (H.faults shelf.new ≡ H.faults shelf.old) }
     ensures wanting { result ≡ Status.NoMemory → (H.faults shelf.new ≡ H.faults shelf.old) × (O.faults out.new ≡ O.faults out.old) }
-    ensures untouched { result ≡ Status.NoMemory → IsAsk (command_of (map (λ w. w.now) words.now)) → (O.put_bytes out.new ≡ O.put_bytes out.old) × (O.faults out.new ≡ O.faults out.old) }
+    ensures untouched { result ≡ Status.NoMemory → IsAsk (command_of (map (λ w. w.now) words.now)) →
+        (O.put_bytes out.new ≡ O.put_bytes out.old) × (O.faults out.new ≡ O.faults out.old) }
     ensures same { H.files shelf.new ≡ H.files shelf.old }
     ensures later { H.faults shelf.old ≤ H.faults shelf.new }
     ensures put_later { O.faults out.old ≤ O.faults out.new }
@@ -61,7 +64,8 @@ fn perform<H: Shelf, O: Sink>(alloc: Global, words: &[&str], shelf: &mut H, out:
     ensures outcome { EndsAsTold (H.files shelf.old) (map (λ w. w.now) words.now) (end_by result) (O.put_bytes out.old) (O.put_bytes out.new) }
     ensures usage { (result ≡ Ending.Usage) ↔ (command_of (map (λ w. w.now) words.now) ≡ None) }
     ensures quiet { result ≡ Ending.Usage → O.put_bytes out.new ≡ O.put_bytes out.old }
-    ensures counts { HasCounts (H.faults shelf.old) (H.faults shelf.new) (H.at_last shelf.new) (O.faults out.old) (O.faults out.new) (O.at_last out.new) (status_of (end_by result)) }
+    ensures counts { HasCounts (H.faults shelf.old) (H.faults shelf.new) (H.at_last shelf.new)
+        (O.faults out.old) (O.faults out.new) (O.at_last out.new) (status_of (end_by result)) }
     ensures untouched { end_by result ≡ NoMemory → IsAsk (command_of (map (λ w. w.now) words.now)) → O.put_bytes out.new ≡ O.put_bytes out.old }
     ensures same { H.files shelf.new ≡ H.files shelf.old }
     ensures later { H.faults shelf.old ≤ H.faults shelf.new }

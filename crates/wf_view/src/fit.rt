@@ -38,7 +38,8 @@ fn module_fits(g: &Grammar, m: ModNo, flag: bool, rows: &[u64]) -> bool
 fn modules_fit(g: &Grammar, expanded: &[bool], rows: &[Vec<u64>]) -> bool
     requires flags { length expanded.now ≡ length g.now.core.modules }
     requires lists { length rows.now ≡ length g.now.core.modules }
-    ensures { IsTrue result ↔ ((m : ℕ) → m < length g.now.core.modules → FitModule g.now.core m (get_or expanded.now m false) (get_or (map (λ r. r.items) rows.now) m [])) }
+    ensures { IsTrue result ↔ ((m : ℕ) → m < length g.now.core.modules →
+        FitModule g.now.core m (get_or expanded.now m false) (get_or (map (λ r. r.items) rows.now) m [])) }
 {
     for m in 0..g.modules().len() {
         if !module_fits(g, ModNo(m as u16), expanded[m], &rows[m]) {

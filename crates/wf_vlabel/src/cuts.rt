@@ -35,8 +35,10 @@ fn cut_cycle(g: &Grammar, cycles: &Cycles, view: &View, c: CycleNo, cuts: &mut [
     requires cycle { c.0 < length cycles.now.rounds }
     requires count { length cuts.old ≡ length g.now.core.modules }
     ensures count { length cuts.new ≡ length cuts.old }
-    ensures kept { (m : ℕ) → IsCut g.now.core (expands view.now.core) m (get_or cuts.old m None) → IsCut g.now.core (expands view.now.core) m (get_or cuts.new m None) }
-    ensures told { (j : ℕ) → j < length (round_at cycles.now c.0) → IsCut g.now.core (expands view.now.core) (get_or (round_at cycles.now c.0) j 0) (get_or cuts.new (get_or (round_at cycles.now c.0) j 0) None) }
+    ensures kept { (m : ℕ) → IsCut g.now.core (expands view.now.core) m (get_or cuts.old m None) →
+        IsCut g.now.core (expands view.now.core) m (get_or cuts.new m None) }
+    ensures told { (j : ℕ) → j < length (round_at cycles.now c.0) →
+        IsCut g.now.core (expands view.now.core) (get_or (round_at cycles.now c.0) j 0) (get_or cuts.new (get_or (round_at cycles.now c.0) j 0) None) }
 {
     let _modules = g.modules();
     let length = cycles.length(c);
@@ -68,7 +70,8 @@ pub(crate) fn cuts_of(
     requires cycles { AreCyclesOf g.now.core cycles.now }
     requires view { IsHeldFor g.now.core view.now }
     ensures count { IfOk result (λ cuts. length cuts.items ≡ length g.now.core.modules) }
-    ensures cuts { IfOk result (λ cuts. (m : ℕ) → m < length g.now.core.modules → continuing g.now.core m ≢ None → IsCut g.now.core (expands view.now.core) m (get_or cuts.items m None)) }
+    ensures cuts { IfOk result (λ cuts. (m : ℕ) → m < length g.now.core.modules → continuing g.now.core m ≢ None →
+        IsCut g.now.core (expands view.now.core) m (get_or cuts.items m None)) }
 {
     let mut cuts = vec![in alloc; None; g.modules().len()]?;
     for c in 0..cycles.count() {

@@ -31,7 +31,8 @@ fn is_open(g: &Grammar, cycles: &Cycles, view: &View, cuts: &[Option<u32>], c: C
     requires cycles { AreCyclesOf g.now.core cycles.now }
     requires view { IsHeldFor g.now.core view.now }
     requires count { length cuts.now ≡ length g.now.core.modules }
-    requires cuts { (m : ℕ) → m < length g.now.core.modules → continuing g.now.core m ≢ None → IsCut g.now.core (expands view.now.core) m (get_or cuts.now m None) }
+    requires cuts { (m : ℕ) → m < length g.now.core.modules → continuing g.now.core m ≢ None →
+        IsCut g.now.core (expands view.now.core) m (get_or cuts.now m None) }
     requires cycle { c.0 < length cycles.now.rounds }
     ensures { IsTrue result ↔ IsOpenCycle g.now.core view.now.core (least_of (round_at cycles.now c.0)) }
 {
@@ -84,7 +85,8 @@ pub(crate) fn square_groups(
     requires view { IsHeldFor g.now.core view.now }
     requires rows { AreFullRows g.now.core view.now.core full.now }
     requires count { length cuts.now ≡ length g.now.core.modules }
-    requires cuts { (m : ℕ) → m < length g.now.core.modules → continuing g.now.core m ≢ None → IsCut g.now.core (expands view.now.core) m (get_or cuts.now m None) }
+    requires cuts { (m : ℕ) → m < length g.now.core.modules → continuing g.now.core m ≢ None →
+        IsCut g.now.core (expands view.now.core) m (get_or cuts.now m None) }
     requires bodies { AreBodyGroups g.now.core (expands view.now.core) (pairs_of full.now) bodies.now }
     ensures { IfOk result (λ t. AreSquareGroups g.now.core (expands view.now.core) (pairs_of full.now) t) }
 {

@@ -46,9 +46,23 @@ impl<'a> Model for ViewLabel<'a> {
 
     ghost Value = { ViewLabelSeen };
 
-    ghost view = { λ l. record { grammar = l.g.now.core; cycles = l.cycles.now; flags = l.expanded.items; full = l.full; bodies = l.bodies; squares = l.squares } };
+    ghost view = { λ l. record {
+      grammar = l.g.now.core;
+      cycles = l.cycles.now;
+      flags = l.expanded.items;
+      full = l.full;
+      bodies = l.bodies;
+      squares = l.squares;
+    } };
 
-    ghost invariant = { λ l. IsKept (record { grammar = l.g.now.core; cycles = l.cycles.now; flags = l.expanded.items; full = l.full; bodies = l.bodies; squares = l.squares }) l.cuts.items };
+    ghost invariant = { λ l. IsKept (record {
+      grammar = l.g.now.core;
+      cycles = l.cycles.now;
+      flags = l.expanded.items;
+      full = l.full;
+      bodies = l.bodies;
+      squares = l.squares;
+    }) l.cuts.items };
 }
 
 impl<'a> ViewLabel<'a> {

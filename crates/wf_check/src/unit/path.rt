@@ -37,7 +37,8 @@ pub fn first_path(
     requires back { ReachesIn units.now m.0 (length layers.now) m.0 }
     ensures count { IfOk result (λ path. length path.items ≡ length layers.now) }
     ensures path { IfOk result (λ path. LeadTo units.now m.0 (map (λ p. p.0) path.items) m.0) }
-    ensures first { IfOk result (λ path. (qs : List ℕ) → LeadTo units.now m.0 qs m.0 → length qs ≡ length layers.now → IsFirstOf (map (λ p. p.0) path.items) qs) }
+    ensures first { IfOk result (λ path. (qs : List ℕ) → LeadTo units.now m.0 qs m.0 →
+        length qs ≡ length layers.now → IsFirstOf (map (λ p. p.0) path.items) qs) }
 {
     let mut path = Vec::new(alloc);
     let mut v = m;

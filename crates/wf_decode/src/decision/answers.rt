@@ -32,8 +32,11 @@ pub(crate) fn answer<L: Ledger>(
     to: ModulePort,
     steps: &mut Steps<L>,
 ) -> Verdict
-    requires ends { (u : View) × (a : List StepSeen) × (b : List StepSeen) × IsLabelOfView vl.now u × AreEnds vl.now u a b first.old from.module.0 from.port.0 second.old to.module.0 to.port.0 }
-    ensures answer { (u : View) (a b : List StepSeen) → IsLabelOfView vl.now u → AreEnds vl.now u a b first.old from.module.0 from.port.0 second.old to.module.0 to.port.0 → IsAnswerOfAddresses vl.now.grammar (full_in (matrices_of vl.now)) a b from.port.0 to.port.0 result }
+    requires ends { (u : View) × (a : List StepSeen) × (b : List StepSeen) × IsLabelOfView vl.now u ×
+        AreEnds vl.now u a b first.old from.module.0 from.port.0 second.old to.module.0 to.port.0 }
+    ensures answer { (u : View) (a b : List StepSeen) → IsLabelOfView vl.now u →
+        AreEnds vl.now u a b first.old from.module.0 from.port.0 second.old to.module.0 to.port.0 →
+        IsAnswerOfAddresses vl.now.grammar (full_in (matrices_of vl.now)) a b from.port.0 to.port.0 result }
     ensures cost { (l : ℕ) → ((k : ℕ) → length (round_at vl.now.cycles k) ≤ l) → steps.new ≤ steps.old + most_products vl.now.grammar l }
     ensures first_length { length first.new ≡ length first.old }
     ensures second_length { length second.new ≡ length second.old }

@@ -75,7 +75,8 @@ fn root_port(vl: &ViewLabel<'_>, port: PortNo) -> ModulePort
 pub(crate) fn end_on(vl: &ViewLabel<'_>, side: Side, label: &LabelRef<'_>, legs: &mut [Leg]) -> End
     requires label { AreLabelBits vl.now.grammar label.now }
     requires room { most_legs vl.now.grammar ≤ length legs.old }
-    ensures end { (u : View) (x : Label) → IsLabelOfView vl.now u → IsLabel vl.now.grammar x → label.now ≡ label_bits x → IsEndOn side vl.now u x result legs.new }
+    ensures end { (u : View) (x : Label) → IsLabelOfView vl.now u → IsLabel vl.now.grammar x →
+        label.now ≡ label_bits x → IsEndOn side vl.now u x result legs.new }
     ensures length { length legs.new ≡ length legs.old }
 {
     match read_label(vl, label, legs) {

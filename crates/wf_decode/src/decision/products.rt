@@ -48,9 +48,11 @@ pub(crate) fn across<L: Ledger>(
     to: ModulePort,
     steps: &mut Steps<L>,
 ) -> bool
-    requires ways { (u : View) × IsLabelOfView vl.now u × AreWaysApart vl.now u (step_of first) (step_of second) first_legs.now second_legs.now from.module.0 to.module.0 }
+    requires ways { (u : View) × IsLabelOfView vl.now u ×
+        AreWaysApart vl.now u (step_of first) (step_of second) first_legs.now second_legs.now from.module.0 to.module.0 }
     requires output { to.port.0 < 64 }
-    ensures { IsBit (crossing vl.now.grammar (matrices_of vl.now) (step_of first) (legs_of vl.now first_legs.now) (step_of second) (legs_of vl.now second_legs.now)) (get_or ((matrices_of vl.now).full from.module.0).rows from.port.0 0) steps.old steps.new to.port.0 result }
+    ensures { IsBit (crossing vl.now.grammar (matrices_of vl.now) (step_of first) (legs_of vl.now first_legs.now) (step_of second)
+        (legs_of vl.now second_legs.now)) (get_or ((matrices_of vl.now).full from.module.0).rows from.port.0 0) steps.old steps.new to.port.0 result }
 {
     let full = full_row(vl, from);
     let above = up(vl, first_legs, full, steps);
@@ -70,7 +72,9 @@ pub(crate) fn below<L: Ledger>(
     requires way { (u : View) × (k : ℕ) × IsLabelOfView vl.now u × IsWay vl.now u k legs.now to.module.0 }
     requires input { input.0 < 64 }
     requires output { to.port.0 < 64 }
-    ensures { (first : ℕ) × ((j : ℕ) → IsTrue (has first j) ↔ (j ≡ input.0)) × IsBit (way_down (matrices_of vl.now) (legs_of vl.now legs.now) ++ (matrices_of vl.now).full to.module.0 ∷ []) first steps.old steps.new to.port.0 result }
+    ensures { (first : ℕ) × ((j : ℕ) → IsTrue (has first j) ↔ (j ≡ input.0)) ×
+        IsBit (way_down (matrices_of vl.now) (legs_of vl.now legs.now) ++ (matrices_of vl.now).full to.module.0 ∷ [])
+        first steps.old steps.new to.port.0 result }
 {
     let first = single(input.0 as u32);
     let last = down(vl, legs, first, steps);
@@ -87,7 +91,8 @@ pub(crate) fn above<L: Ledger>(
 ) -> bool
     requires way { (u : View) × (k : ℕ) × IsLabelOfView vl.now u × IsWay vl.now u k legs.now from.module.0 }
     requires output { output.0 < 64 }
-    ensures { IsBit (way_up (matrices_of vl.now) (legs_of vl.now legs.now)) (get_or ((matrices_of vl.now).full from.module.0).rows from.port.0 0) steps.old steps.new output.0 result }
+    ensures { IsBit (way_up (matrices_of vl.now) (legs_of vl.now legs.now))
+        (get_or ((matrices_of vl.now).full from.module.0).rows from.port.0 0) steps.old steps.new output.0 result }
 {
     let full = full_row(vl, from);
     let last = up(vl, legs, full, steps);

@@ -30,7 +30,9 @@ pub(crate) fn meet(
     requires i { i < length first.old }
     requires j { j < length second.old }
     requires held { (m : ℕ) × AreHeld vl.now m false (drop i first.old) × AreHeld vl.now m false (drop j second.old) }
-    ensures left { (m : ℕ) → AreHeld vl.now m false (drop i first.old) → AreHeld vl.now m false (drop j second.old) → AreLeftOfBoth vl.now m (drop i first.old) (step_of result.first) (drop result.first_from first.new) (drop j second.old) (step_of result.second) (drop result.second_from second.new) }
+    ensures left { (m : ℕ) → AreHeld vl.now m false (drop i first.old) → AreHeld vl.now m false (drop j second.old) →
+        AreLeftOfBoth vl.now m (drop i first.old) (step_of result.first) (drop result.first_from first.new)
+        (drop j second.old) (step_of result.second) (drop result.second_from second.new) }
     ensures first_length { length first.new ≡ length first.old }
     ensures second_length { length second.new ≡ length second.old }
     ensures first_within { result.first_from ≤ length first.old }

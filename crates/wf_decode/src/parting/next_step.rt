@@ -20,7 +20,8 @@ pub(crate) struct NextStep {
 pub(crate) fn next_step(vl: &ViewLabel<'_>, legs: &[Leg], at: usize) -> NextStep
     requires at { at < length legs.now }
     requires held { (m : ℕ) × AreHeld vl.now m false (drop at legs.now) }
-    ensures left { (m : ℕ) → AreHeld vl.now m false (drop at legs.now) → AreLeftAfter vl.now m (drop at legs.now) result.count (step_of result.step) (drop result.after legs.now) }
+    ensures left { (m : ℕ) → AreHeld vl.now m false (drop at legs.now) →
+        AreLeftAfter vl.now m (drop at legs.now) result.count (step_of result.step) (drop result.after legs.now) }
     ensures chain { (n : ℕ) → n < result.count → HasChain n (drop at legs.now) }
     ensures onward { at < result.after }
     ensures within { result.after ≤ length legs.now }

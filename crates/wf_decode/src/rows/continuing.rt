@@ -21,7 +21,8 @@ fn continuing_step(vl: &ViewLabel<'_>, cycle: CycleNo, place: u16, further: u32)
     requires cycle { cycle.0 < length vl.now.cycles.rounds }
     requires place { place < length (round_at vl.now.cycles cycle.0) }
     ensures told { step_of result ≡ step_on vl.now.cycles (module_on vl.now.cycles cycle.0 ((place + further) % length (round_at vl.now.cycles cycle.0))) }
-    ensures continues { Continues vl.now.grammar (module_on vl.now.cycles cycle.0 ((place + further) % length (round_at vl.now.cycles cycle.0))) (step_of result) }
+    ensures continues { Continues vl.now.grammar (module_on vl.now.cycles cycle.0
+        ((place + further) % length (round_at vl.now.cycles cycle.0))) (step_of result) }
 {
     let cycles = vl.cycles();
     let length = cycles.length(cycle) as u64;

@@ -20,7 +20,9 @@ fn place_in_body<'a>(modules: &'a [Module], body: &[Position], name: &[u8]) -> O
     requires few_ports { HaveFewPorts modules.now }
     requires few_positions { length body.now ≤ 64 }
     requires known { AreOfModules modules.now (map position_of body.now) }
-    ensures { MatchOption result (length body.now ≤ position_in (map position_of body.now) name.now) (λ r. (r.pos.0 ≡ position_in (map position_of body.now) name.now) × (r.pos.0 < length body.now) × (r.module.now ≡ module_at_place modules.now (map position_of body.now) r.pos.0) × HasFewPorts r.module.now) }
+    ensures { MatchOption result (length body.now ≤ position_in (map position_of body.now) name.now)
+        (λ r. (r.pos.0 ≡ position_in (map position_of body.now) name.now) × (r.pos.0 < length body.now) ×
+        (r.module.now ≡ module_at_place modules.now (map position_of body.now) r.pos.0) × HasFewPorts r.module.now) }
 {
     let Some(number) = position_place(body, name) else {
         return None;
@@ -36,7 +38,8 @@ pub fn inner_input(modules: &[Module], body: &[Position], part: &PortPart) -> Op
     requires few_ports { HaveFewPorts modules.now }
     requires few_positions { length body.now ≤ 64 }
     requires known { AreOfModules modules.now (map position_of body.now) }
-    ensures { MatchOption result (¬ IsInputIn modules.now (map position_of body.now) (input_seen modules.now (map position_of body.now) part.now)) (λ i. (inner_of i ≡ input_seen modules.now (map position_of body.now) part.now) × IsInputIn modules.now (map position_of body.now) (inner_of i)) }
+    ensures { MatchOption result (¬ IsInputIn modules.now (map position_of body.now) (input_seen modules.now (map position_of body.now) part.now))
+        (λ i. (inner_of i ≡ input_seen modules.now (map position_of body.now) part.now) × IsInputIn modules.now (map position_of body.now) (inner_of i)) }
 {
     let at = place_in_body(modules, body, part.pos.bytes())?;
     let port = port_place(at.module.inputs(), part.port.bytes())?;
@@ -51,7 +54,8 @@ pub fn inner_output(modules: &[Module], body: &[Position], part: &PortPart) -> O
     requires few_ports { HaveFewPorts modules.now }
     requires few_positions { length body.now ≤ 64 }
     requires known { AreOfModules modules.now (map position_of body.now) }
-    ensures { MatchOption result (¬ IsOutputIn modules.now (map position_of body.now) (output_seen modules.now (map position_of body.now) part.now)) (λ i. (inner_of i ≡ output_seen modules.now (map position_of body.now) part.now) × IsOutputIn modules.now (map position_of body.now) (inner_of i)) }
+    ensures { MatchOption result (¬ IsOutputIn modules.now (map position_of body.now) (output_seen modules.now (map position_of body.now) part.now))
+        (λ i. (inner_of i ≡ output_seen modules.now (map position_of body.now) part.now) × IsOutputIn modules.now (map position_of body.now) (inner_of i)) }
 {
     let at = place_in_body(modules, body, part.pos.bytes())?;
     let port = port_place(at.module.outputs(), part.port.bytes())?;

@@ -64,7 +64,8 @@ fn positions_are_met(alloc: Global, modules: &[Module], one: &Wiring) -> Result<
     requires few_ports { HaveFewPorts modules.now }
     requires within { IsWithin modules.now one.now }
     requires once { IsWiredAtMostOnce one.now }
-    ensures { IfOk result (λ b. IsTrue b ↔ (((i : InnerSeen) → IsInputIn modules.now (body_of one.now) i → IsIn i (fed_by one.now)) × ((i : InnerSeen) → IsOutputIn modules.now (body_of one.now) i → IsIn i (used_by one.now)))) }
+    ensures { IfOk result (λ b. IsTrue b ↔ (((i : InnerSeen) → IsInputIn modules.now (body_of one.now) i → IsIn i (fed_by one.now)) ×
+        ((i : InnerSeen) → IsOutputIn modules.now (body_of one.now) i → IsIn i (used_by one.now)))) }
 {
     let inputs = input_counts(alloc, modules, &one.positions)?;
     let to = targets(alloc, one)?;
@@ -84,7 +85,8 @@ fn head_is_met(alloc: Global, head: &Module, one: &Wiring) -> Result<bool, Alloc
     requires entered { (k : ℕ) → IsIn k (entered_by one.now) → k < length head.now.inputs }
     requires left { (k : ℕ) → IsIn k (left_by one.now) → k < length head.now.outputs }
     requires once { IsWiredAtMostOnce one.now }
-    ensures { IfOk result (λ b. IsTrue b ↔ (((k : ℕ) → k < length head.now.inputs → IsIn k (entered_by one.now)) × ((k : ℕ) → k < length head.now.outputs → IsIn k (left_by one.now)))) }
+    ensures { IfOk result (λ b. IsTrue b ↔ (((k : ℕ) → k < length head.now.inputs → IsIn k (entered_by one.now)) ×
+        ((k : ℕ) → k < length head.now.outputs → IsIn k (left_by one.now)))) }
 {
     let inputs = [head.inputs().len()];
     let to = entered(alloc, one)?;

@@ -18,7 +18,8 @@ fn edge_number(modules: &[Module], body: &[Position], part: &EdgePart) -> Option
     requires few_ports { HaveFewPorts modules.now }
     requires few_positions { length body.now ≤ 64 }
     requires known { AreOfModules modules.now (map position_of body.now) }
-    ensures { MatchOption result (¬ IsEdgeIn modules.now (map position_of body.now) part.now) (λ e. (edge_of e ≡ edge_in modules.now (map position_of body.now) part.now) × IsEdgeIn modules.now (map position_of body.now) part.now) }
+    ensures { MatchOption result (¬ IsEdgeIn modules.now (map position_of body.now) part.now)
+        (λ e. (edge_of e ≡ edge_in modules.now (map position_of body.now) part.now) × IsEdgeIn modules.now (map position_of body.now) part.now) }
 {
     let from = inner_output(modules, body, &part.from)?;
     let to = inner_input(modules, body, &part.to)?;
@@ -35,7 +36,9 @@ fn entry_number(
     requires few_positions { length body.now ≤ 64 }
     requires known { AreOfModules modules.now (map position_of body.now) }
     requires few_inputs { HasFewPorts head.now }
-    ensures { MatchOption result (¬ IsEntryIn modules.now (map position_of body.now) head.now part.now) (λ e. (entry_of e ≡ entry_link modules.now (map position_of body.now) head.now part.now) × IsEntryIn modules.now (map position_of body.now) head.now part.now) }
+    ensures { MatchOption result (¬ IsEntryIn modules.now (map position_of body.now) head.now part.now)
+        (λ e. (entry_of e ≡ entry_link modules.now (map position_of body.now) head.now part.now) ×
+        IsEntryIn modules.now (map position_of body.now) head.now part.now) }
 {
     let port = port_number(head.inputs(), part.port.bytes())?;
     let to = inner_input(modules, body, &part.to)?;
@@ -52,7 +55,9 @@ fn exit_number(
     requires few_positions { length body.now ≤ 64 }
     requires known { AreOfModules modules.now (map position_of body.now) }
     requires few_outputs { HasFewPorts head.now }
-    ensures { MatchOption result (¬ IsExitIn modules.now (map position_of body.now) head.now part.now) (λ e. (exit_of e ≡ exit_link modules.now (map position_of body.now) head.now part.now) × IsExitIn modules.now (map position_of body.now) head.now part.now) }
+    ensures { MatchOption result (¬ IsExitIn modules.now (map position_of body.now) head.now part.now)
+        (λ e. (exit_of e ≡ exit_link modules.now (map position_of body.now) head.now part.now) ×
+        IsExitIn modules.now (map position_of body.now) head.now part.now) }
 {
     let from = inner_output(modules, body, &part.from)?;
     let port = port_number(head.outputs(), part.port.bytes())?;

@@ -108,7 +108,8 @@ pub(crate) fn put_entries<S: TextSink>(
     p: ProdNo,
 ) -> Result<(), AllocError>
     requires { p.0 < length g.now.core.productions }
-    ensures { let r = production_at g.now.core p.0 in OnOk result (Takes S.holds out.old out.new (list_of (entry_text g.now.core r) (entries_of g.now.core r))) }
+    ensures { let r = production_at g.now.core p.0 in OnOk result
+        (Takes S.holds out.old out.new (list_of (entry_text g.now.core r) (entries_of g.now.core r))) }
 {
     let count = g.production(p).entries().len();
     put_list(out, count, |out, k| put_entry(out, g, p, k))

@@ -40,7 +40,8 @@ fn joined_row(alloc: Global, graph: &[Vec<u32>], i: PortNo, outputs: u8) -> Resu
     requires vertices { 128 ≤ length graph.now }
     requires input { i.0 < 64 }
     requires outputs { outputs ≤ 64 }
-    ensures joined { IfOk result (λ row. (o : ℕ) → o < outputs → IsTrue (has row o) ↔ IsReached graph.now (vertex_of (input None i.0)) (vertex_of (output None o))) }
+    ensures joined { IfOk result (λ row. (o : ℕ) → o < outputs →
+        IsTrue (has row o) ↔ IsReached graph.now (vertex_of (input None i.0)) (vertex_of (output None o))) }
     ensures within { IfOk result (λ row. row < 2 ^ outputs) }
 {
     let marks = reached(alloc, graph, vertex(input_port(None, i)))?;

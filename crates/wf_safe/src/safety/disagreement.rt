@@ -35,7 +35,8 @@ fn first_pair(
     requires view { IsHeldFor g.now.core view.now }
     requires rows { (m : ℕ) → IsSeenModule g.now.core view.now.core m → HasRows g.now.core deps.now m }
     requires production { p.0 < length g.now.core.productions }
-    ensures { IfOk result (λ o. MatchOption o (AgreesIfExpanded g.now.core view.now.core (pairs_of deps.now) p.0) (λ x. IsFirstPair g.now.core view.now.core (pairs_of deps.now) p.0 x)) }
+    ensures { IfOk result (λ o. MatchOption o (AgreesIfExpanded g.now.core view.now.core (pairs_of deps.now) p.0)
+        (λ x. IsFirstPair g.now.core view.now.core (pairs_of deps.now) p.0 x)) }
 {
     let head = g.production(p).head();
     if !is_seen_expanded(view, head) {
@@ -58,7 +59,8 @@ pub fn least_disagreement(
 ) -> Result<Option<Disagreement>, AllocError>
     requires view { IsHeldFor g.now.core view.now }
     requires rows { (m : ℕ) → IsSeenModule g.now.core view.now.core m → HasRows g.now.core deps.now m }
-    ensures { IfOk result (λ o. MatchOption o ((p : ℕ) → p < length g.now.core.productions → AgreesIfExpanded g.now.core view.now.core (pairs_of deps.now) p) (λ x. IsLeastDisagreement g.now.core view.now.core (pairs_of deps.now) x)) }
+    ensures { IfOk result (λ o. MatchOption o ((p : ℕ) → p < length g.now.core.productions →
+        AgreesIfExpanded g.now.core view.now.core (pairs_of deps.now) p) (λ x. IsLeastDisagreement g.now.core view.now.core (pairs_of deps.now) x)) }
 {
     for k in 0..g.productions().len() {
         let production = ProdNo(k as u16);

@@ -27,7 +27,8 @@ fn are_pairs_of(one: &Module, pairs: &[PairPart]) -> bool
 
 /// Whether each pair of a deps part is of an input and an output of its module. What is no module has no ports.
 fn has_known_pairs(g: &Grammar, part: &DepsPart) -> bool
-    ensures { result ≡ list_all (λ e. list_any (bytes_eq e.input) (module_at g.now.core (number_in g.now.core part.now.«module»)).inputs && list_any (bytes_eq e.output) (module_at g.now.core (number_in g.now.core part.now.«module»)).outputs) part.now.pairs }
+    ensures { result ≡ list_all (λ e. list_any (bytes_eq e.input) (module_at g.now.core (number_in g.now.core part.now.«module»)).inputs &&
+        list_any (bytes_eq e.output) (module_at g.now.core (number_in g.now.core part.now.«module»)).outputs) part.now.pairs }
 {
     let pairs = part.pairs.items();
     match g.find(part.module.bytes()) {

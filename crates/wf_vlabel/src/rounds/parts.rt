@@ -31,7 +31,8 @@ fn push_firsts(
     requires cycle { c.0 < length cycles.now.rounds }
     requires steps { (d : Assignment) × HasSteps g.now.core d bodies.now (least_of (round_at cycles.now c.0)) }
     ensures added { IfOk result (λ n. Adds pool.old pool.new n.0 (2 * length (round_at cycles.now c.0) - 1)) }
-    ensures firsts { IfOk result (λ n. (d : Assignment) → HasSteps g.now.core d bodies.now (least_of (round_at cycles.now c.0)) → AreFirsts way g.now.core d (least_of (round_at cycles.now c.0)) (length (round_at cycles.now c.0)) pool.new n.0) }
+    ensures firsts { IfOk result (λ n. (d : Assignment) → HasSteps g.now.core d bodies.now (least_of (round_at cycles.now c.0)) →
+        AreFirsts way g.now.core d (least_of (round_at cycles.now c.0)) (length (round_at cycles.now c.0)) pool.new n.0) }
 {
     let length = cycles.length(c);
     let first = push_step(g, cycles, bodies, c, 0, way, pool)?;
@@ -59,7 +60,8 @@ fn push_lasts(
     requires cycle { c.0 < length cycles.now.rounds }
     requires steps { (d : Assignment) × HasSteps g.now.core d bodies.now (least_of (round_at cycles.now c.0)) }
     ensures added { IfOk result (λ n. Adds pool.old pool.new n.0 (2 * length (round_at cycles.now c.0) - 1)) }
-    ensures lasts { IfOk result (λ n. (d : Assignment) → HasSteps g.now.core d bodies.now (least_of (round_at cycles.now c.0)) → AreLasts way g.now.core d (least_of (round_at cycles.now c.0)) (length (round_at cycles.now c.0)) (length (round_at cycles.now c.0)) pool.new n.0) }
+    ensures lasts { IfOk result (λ n. (d : Assignment) → HasSteps g.now.core d bodies.now (least_of (round_at cycles.now c.0)) →
+        AreLasts way g.now.core d (least_of (round_at cycles.now c.0)) (length (round_at cycles.now c.0)) (length (round_at cycles.now c.0)) pool.new n.0) }
 {
     let mut place = cycles.length(c) - 1;
     let first = push_step(g, cycles, bodies, c, place, way, pool)?;
@@ -85,7 +87,8 @@ pub(crate) fn parts_of(
     requires cycles { AreCyclesOf g.now.core cycles.now }
     requires cycle { c.0 < length cycles.now.rounds }
     requires steps { (d : Assignment) × HasSteps g.now.core d bodies.now (least_of (round_at cycles.now c.0)) }
-    ensures { IfOk result (λ pool. (d : Assignment) → HasSteps g.now.core d bodies.now (least_of (round_at cycles.now c.0)) → AreParts way g.now.core d (least_of (round_at cycles.now c.0)) (length (round_at cycles.now c.0)) pool) }
+    ensures { IfOk result (λ pool. (d : Assignment) → HasSteps g.now.core d bodies.now (least_of (round_at cycles.now c.0)) →
+        AreParts way g.now.core d (least_of (round_at cycles.now c.0)) (length (round_at cycles.now c.0)) pool) }
 {
     let mut pool = MatPool::new(alloc);
     push_firsts(g, cycles, bodies, c, way, &mut pool)?;
@@ -104,9 +107,11 @@ pub(crate) fn push_round(
 ) -> Result<MatNo, AllocError>
     requires place { place < size }
     requires parts { (g : GrammarSeen) × (d : Assignment) × (first : ℕ) × (after g size first ≡ first) × AreParts way g d first size pool.old }
-    ensures kept { IfOk result (λ n. (g : GrammarSeen) (d : Assignment) (first : ℕ) → AreParts way g d first size pool.old → AreParts way g d first size pool.new) }
+    ensures kept { IfOk result (λ n. (g : GrammarSeen) (d : Assignment) (first : ℕ) →
+        AreParts way g d first size pool.old → AreParts way g d first size pool.new) }
     ensures in_range { IfOk result (λ n. n.0 < length pool.new) }
-    ensures round { IfOk result (λ n. (g : GrammarSeen) (d : Assignment) (first : ℕ) → after g size first ≡ first → AreParts way g d first size pool.old → IsChain way g d (after g place first) size (matrix_at pool.new n.0)) }
+    ensures round { IfOk result (λ n. (g : GrammarSeen) (d : Assignment) (first : ℕ) →
+        after g size first ≡ first → AreParts way g d first size pool.old → IsChain way g d (after g place first) size (matrix_at pool.new n.0)) }
 {
     let lasts = 2 * size as usize - 1;
     let last = MatNo(lasts + 2 * (size - place - 1) as usize);

@@ -38,11 +38,15 @@ fn push_squares(
     squares: &mut MatPool,
 ) -> Result<MatNo, AllocError>
     requires place { place < size }
-    requires parts { (g : GrammarSeen) × (d : Assignment) × (first : ℕ) × (after g size first ≡ first) × AreParts Down g d first size down.old × AreParts Up g d first size up.old }
-    ensures down { IfOk result (λ n. (g : GrammarSeen) (d : Assignment) (first : ℕ) → AreParts Down g d first size down.old → AreParts Down g d first size down.new) }
+    requires parts { (g : GrammarSeen) × (d : Assignment) × (first : ℕ) × (after g size first ≡ first) ×
+        AreParts Down g d first size down.old × AreParts Up g d first size up.old }
+    ensures down { IfOk result (λ n. (g : GrammarSeen) (d : Assignment) (first : ℕ) →
+        AreParts Down g d first size down.old → AreParts Down g d first size down.new) }
     ensures up { IfOk result (λ n. (g : GrammarSeen) (d : Assignment) (first : ℕ) → AreParts Up g d first size up.old → AreParts Up g d first size up.new) }
     ensures added { IfOk result (λ n. Adds squares.old squares.new (length squares.old) 50) }
-    ensures squares { IfOk result (λ n. (g : GrammarSeen) (d : Assignment) (first : ℕ) → after g size first ≡ first → AreParts Down g d first size down.old → AreParts Up g d first size up.old → IsSquareGroup g d (after g place first) (steps_on g size (after g place first)) squares.new n.0) }
+    ensures squares { IfOk result (λ n. (g : GrammarSeen) (d : Assignment) (first : ℕ) →
+        after g size first ≡ first → AreParts Down g d first size down.old → AreParts Up g d first size up.old →
+        IsSquareGroup g d (after g place first) (steps_on g size (after g place first)) squares.new n.0) }
 {
     let round = push_round(down, Way::Down, size, place)?;
     let into = push_copy(down, round, squares)?;
@@ -71,8 +75,10 @@ pub(crate) fn square_cycle(
     requires steps { (d : Assignment) × HasSteps g.now.core d bodies.now (least_of (round_at cycles.now c.0)) }
     requires count { length first.old ≡ length g.now.core.modules }
     ensures count { length first.new ≡ length first.old }
-    ensures kept { OnOk result ((d : Assignment) → HasSteps g.now.core d bodies.now (least_of (round_at cycles.now c.0)) → (m : ℕ) → HasRounds g.now.core d m squares.old (numbers_in first.old) → HasRounds g.now.core d m squares.new (numbers_in first.new)) }
-    ensures told { OnOk result ((d : Assignment) → HasSteps g.now.core d bodies.now (least_of (round_at cycles.now c.0)) → (j : ℕ) → j < length (round_at cycles.now c.0) → HasRounds g.now.core d (get_or (round_at cycles.now c.0) j 0) squares.new (numbers_in first.new)) }
+    ensures kept { OnOk result ((d : Assignment) → HasSteps g.now.core d bodies.now (least_of (round_at cycles.now c.0)) →
+        (m : ℕ) → HasRounds g.now.core d m squares.old (numbers_in first.old) → HasRounds g.now.core d m squares.new (numbers_in first.new)) }
+    ensures told { OnOk result ((d : Assignment) → HasSteps g.now.core d bodies.now (least_of (round_at cycles.now c.0)) →
+        (j : ℕ) → j < length (round_at cycles.now c.0) → HasRounds g.now.core d (get_or (round_at cycles.now c.0) j 0) squares.new (numbers_in first.new)) }
 {
     let _modules = g.modules();
     let size = cycles.length(c);

@@ -64,7 +64,8 @@ pub(crate) fn push_step(
     requires place { place < length (round_at cycles.now c.0) }
     requires steps { (d : Assignment) × HasSteps g.now.core d bodies.now (least_of (round_at cycles.now c.0)) }
     ensures added { IfOk result (λ n. Adds pool.old pool.new n.0 1) }
-    ensures step { IfOk result (λ n. (d : Assignment) → HasSteps g.now.core d bodies.now (least_of (round_at cycles.now c.0)) → IsChain way g.now.core d (after g.now.core place (least_of (round_at cycles.now c.0))) 1 (matrix_at pool.new n.0)) }
+    ensures step { IfOk result (λ n. (d : Assignment) → HasSteps g.now.core d bodies.now (least_of (round_at cycles.now c.0)) →
+        IsChain way g.now.core d (after g.now.core place (least_of (round_at cycles.now c.0))) 1 (matrix_at pool.new n.0)) }
 {
     let s = step_at(g, cycles, c, place);
     let at = place_of(g, s, way);
