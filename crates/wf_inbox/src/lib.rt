@@ -9,6 +9,3 @@ mod subjects;
 mod told;
 
 pub use inbox::{Held, Inbox, InboxFault, Offer};
-
-#[cfg(test)]
-mod inbox_tests;

@@ -1,8 +1,9 @@
-use crate::{Held, Inbox, InboxFault, Offer};
+// Reports that are held, and what later ones say of them.
 use bumpalo::Bump;
 use std::alloc::{AllocError, Global};
 use std::process::Abort;
 use std::test::Fail;
+use wf_inbox::{Held, Inbox, InboxFault, Offer};
 use wf_model::{Event, Name, Seq};
 
 // Each letter of the last part is the name of a child.
