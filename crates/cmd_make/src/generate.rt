@@ -1,5 +1,5 @@
 // `gen`: SPEC, and then the events of a generated run.
-ghost use Rattle.std.specs.Prelude.{◌≡◌, ℕ, ◌++◌, List, []};
+ghost use Rattle.std.specs.Prelude.{◌≡◌, ◌<◌, ℕ, ◌++◌, List, [], length, OnOk};
 ghost use Rattle.wf_message.specs.Endings.{end_after};
 ghost use Rattle.wf_stage.specs.Ends.{IsWritten};
 ghost use Rattle.wf_stage.specs.Promises.{Writes, Obeys};
@@ -21,6 +21,7 @@ const PIECE: usize = 65536;
 fn put_piece<O: Sink>(text: &mut Vec<u8>, out: &mut O) -> Result<(), Stop>
     ensures makes { (due line : List ℕ) → text.old.items ≡ due ++ line
         → MakesDue O.put_bytes O.faults O.at_last due line text.new.items out.old out.new (end_after result) }
+    ensures short { OnOk result (length text.new.items < 65536) }
 {
     if text.len() < PIECE {
         return Ok(());
