@@ -211,7 +211,7 @@ fn filed<'a>(spec: &'a str, view: &'a str, labels: &'a [u8], queries: &'a str) -
 
 #[test]
 fn labels_answer_queries(rt: HostRuntime) -> Result<(), Fail> {
-    for (spec, view, labels, queries, status, answers, message) in ROWS {
+    for &(spec, view, labels, queries, status, answers, message) in &ROWS {
         let files = filed(spec, view, labels, queries);
         let end = (status, answers.as_bytes(), message);
         assert!(rt;
@@ -241,7 +241,7 @@ fn is_refused(
 
 #[test]
 fn a_cut_or_changed_label_file_is_refused(rt: HostRuntime) -> Result<(), Fail> {
-    for (count, at, byte, message) in CHANGED {
+    for &(count, at, byte, message) in &CHANGED {
         assert!(rt;
             is_refused(rt.alloc(), count, at, byte, message)?,
             "at {count} and {at}"
@@ -271,14 +271,14 @@ const FUSES: [(u64, Status, &str, &str); 9] = [
 #[test]
 fn devices_may_break_and_a_sink_may_be_full(rt: HostRuntime) -> Result<(), Fail> {
     let mut files = filed(LINE, "{}", WHOLE, QUERIES);
-    for (calls, status, answers, message) in FUSES {
+    for &(calls, status, answers, message) in &FUSES {
         let end = (status, answers.as_bytes(), message);
         assert!(rt;
             ends_over_a_fuse(rt.alloc(), &files, calls, ASK, end)?,
             "at {calls}"
         );
     }
-    for (line, broken, room, status, answers, message) in FAULTS {
+    for &(line, broken, room, status, answers, message) in &FAULTS {
         files[2] = ("labels", WHOLE, broken);
         let end = (status, answers.as_bytes(), message);
         assert!(rt;

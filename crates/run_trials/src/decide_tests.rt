@@ -78,7 +78,7 @@ fn words_that_are_no_labels_are_refused(rt: HostRuntime) -> Result<(), Fail> {
         ("view", b"{}", false),
         ("empty", b"", false),
     ];
-    for (line, status, message) in ROWS {
+    for &(line, status, message) in &ROWS {
         let end = (status, b"".as_slice(), message);
         assert!(rt;
             ends(rt.alloc(), &files, 7, line, (16, 64), end)?,

@@ -124,7 +124,7 @@ fn is_long_refused(alloc: Global, size: usize, fault: &str) -> Result<bool, Allo
 
 #[test]
 fn the_first_refused_event_is_told(rt: HostRuntime) -> Result<(), Fail> {
-    for (before, event, behind, fault) in ROWS {
+    for &(before, event, behind, fault) in &ROWS {
         assert!(rt;
             is_refused(rt.alloc(), before, event, behind, fault)?,
             "at {event:?}"

@@ -120,7 +120,7 @@ const ROWS: [(&str, &str, bool, Status, &[u8], &str); 17] = [
 
 #[test]
 fn items_are_labelled_line_by_line(rt: HostRuntime) -> Result<(), Fail> {
-    for (spec, events, broken, status, labels, message) in ROWS {
+    for &(spec, events, broken, status, labels, message) in &ROWS {
         let files: [Filed; 2] = [
             ("spec", spec.as_bytes(), false),
             ("events", events.as_bytes(), broken),

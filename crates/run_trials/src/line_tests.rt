@@ -150,7 +150,7 @@ fn long_lines_end_so(
 
 #[test]
 fn long_lines_end_as_they_should(rt: HostRuntime) -> Result<(), Fail> {
-    for (size, behind, broken, end) in LONG {
+    for &(size, behind, broken, end) in &LONG {
         assert!(rt;
             long_lines_end_so(rt.alloc(), size, behind, broken, end)?,
             "at {size} and {behind:?}"
@@ -161,14 +161,14 @@ fn long_lines_end_as_they_should(rt: HostRuntime) -> Result<(), Fail> {
 
 #[test]
 fn a_file_that_breaks_has_its_whole_lines(rt: HostRuntime) -> Result<(), Fail> {
-    for (events, labels) in EVENTS_CUT {
+    for &(events, labels) in &EVENTS_CUT {
         let end = (ReadFault, labels, "fault: reading events\n");
         assert!(rt;
             events_end_so(rt.alloc(), (events.as_bytes(), true), end)?,
             "at {events:?}"
         );
     }
-    for (queries, answers) in QUERIES_CUT {
+    for &(queries, answers) in &QUERIES_CUT {
         let end = (ReadFault, answers.as_bytes(), "fault: reading queries\n");
         assert!(rt;
             queries_end_so(rt.alloc(), (queries.as_bytes(), true), end)?,

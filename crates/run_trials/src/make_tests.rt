@@ -175,11 +175,11 @@ fn puts(alloc: Global, files: &[Filed], line: &str, text: &str) -> Result<bool, 
 
 #[test]
 fn runs_are_exported_generated_and_drilled(rt: HostRuntime) -> Result<(), Fail> {
-    for (spec, view, events, text) in EXPORTS {
+    for &(spec, view, events, text) in &EXPORTS {
         let files = filed(spec, view, events);
         assert!(rt; puts(rt.alloc(), &files, EXPORT, text)?, "at {text:?}");
     }
-    for (spec, view, line, text) in RUNS {
+    for &(spec, view, line, text) in &RUNS {
         let files = filed(spec, view, "");
         assert!(rt; puts(rt.alloc(), &files, line, text)?, "at {line:?}");
     }
@@ -189,7 +189,7 @@ fn runs_are_exported_generated_and_drilled(rt: HostRuntime) -> Result<(), Fail> 
 #[test]
 fn words_that_are_no_numbers_are_no_call(rt: HostRuntime) -> Result<(), Fail> {
     let end = (Usage, b"".as_slice(), "usage: wfprov COMMAND WORDS\n");
-    for line in WORDS {
+    for &line in &WORDS {
         assert!(rt;
             ends(rt.alloc(), &[], 1000, line, (16, 64), end)?,
             "at {line:?}"

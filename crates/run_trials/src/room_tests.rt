@@ -75,7 +75,7 @@ fn puts_first(alloc: Global, line: &str, text: &[u8], room: usize) -> Result<boo
 
 #[test]
 fn a_full_device_has_the_first_bytes(rt: HostRuntime) -> Result<(), Fail> {
-    for (line, text, _, _) in CALLS {
+    for &(line, text, _, _) in &CALLS {
         for room in 0..text.len() {
             assert!(rt;
                 puts_first(rt.alloc(), line, text, room)?,
@@ -91,8 +91,8 @@ const PIECES: [u32; 8] = [1, 2, 3, 7, 12, 35, 58, 65536];
 
 #[test]
 fn pieces_of_each_size_have_one_text(rt: HostRuntime) -> Result<(), Fail> {
-    for (line, text, status, message) in CALLS {
-        for piece in PIECES {
+    for &(line, text, status, message) in &CALLS {
+        for &piece in &PIECES {
             let rooms = (text.len(), 64);
             let end = (status, text, message);
             assert!(rt;

@@ -206,7 +206,7 @@ fn is_version_refused(
 
 #[test]
 fn versions_are_tried_in_order(rt: HostRuntime) -> Result<(), Fail> {
-    for (spec, versions, fault) in VERSIONS {
+    for &(spec, versions, fault) in &VERSIONS {
         assert!(rt;
             is_version_refused(rt.alloc(), spec, versions, fault)?,
             "at {fault:?}"
@@ -217,10 +217,10 @@ fn versions_are_tried_in_order(rt: HostRuntime) -> Result<(), Fail> {
 
 #[test]
 fn forms_and_sizes_are_tried_in_order(rt: HostRuntime) -> Result<(), Fail> {
-    for (text, fault) in TEXTS {
+    for &(text, fault) in &TEXTS {
         assert!(rt; is_refused(rt.alloc(), text, fault)?, "at {text:?}");
     }
-    for (start, modules, productions, fault) in SIZES {
+    for &(start, modules, productions, fault) in &SIZES {
         assert!(rt;
             is_size_refused(rt.alloc(), start, modules, productions, fault)?,
             "at {fault:?}"

@@ -131,7 +131,7 @@ const ROWS: [(&str, &str, &str, &str); 41] = [
 
 #[test]
 fn labels_have_verdicts(rt: HostRuntime) -> Result<(), Fail> {
-    for (spec, view, line, text) in ROWS {
+    for &(spec, view, line, text) in &ROWS {
         let files: [Filed; 2] = [
             ("spec", spec.as_bytes(), false),
             ("view", view.as_bytes(), false),

@@ -67,7 +67,7 @@ const ROWS: [(&str, &str, usize, Status, &str, &str); 7] = [
 
 #[test]
 fn views_are_written_or_refused(rt: HostRuntime) -> Result<(), Fail> {
-    for (spec, view, room, status, text, message) in ROWS {
+    for &(spec, view, room, status, text, message) in &ROWS {
         let files: [Filed; 2] = [
             ("spec", spec.as_bytes(), false),
             ("view", view.as_bytes(), false),

@@ -306,7 +306,7 @@ fn ends_in_any_pieces(alloc: Global, line: &str, end: End) -> Result<bool, Alloc
 
 #[test]
 fn words_end_as_they_should(rt: HostRuntime) -> Result<(), Fail> {
-    for (line, status, answers, message) in ROWS {
+    for &(line, status, answers, message) in &ROWS {
         let end = (status, answers.as_bytes(), message);
         assert!(rt; ends_in_any_pieces(rt.alloc(), line, end)?, "at {line:?}");
     }
@@ -408,10 +408,10 @@ const FULL: [(&str, usize, usize, Status, &str, &str); 9] = [
 
 #[test]
 fn texts_are_checked_and_sinks_may_be_full(rt: HostRuntime) -> Result<(), Fail> {
-    for (line, text, lines) in CHECKED {
+    for &(line, text, lines) in &CHECKED {
         assert!(rt; is_checked(rt.alloc(), line, text, lines)?, "at {line:?}");
     }
-    for (line, room, room_for_message, status, answers, message) in FULL {
+    for &(line, room, room_for_message, status, answers, message) in &FULL {
         let rooms = (room, room_for_message);
         let end = (status, answers.as_bytes(), message);
         assert!(rt;
