@@ -34,7 +34,8 @@ pub fn put_text<O: Sink>(text: &[u8], out: &mut O) -> Result<(), ExportFault>
 
 /// Puts a text to which lines were added, where it is long, and takes it away. The lines are due then, or were put, and what is due is short.
 pub fn pass_on<O: Sink>(text: &mut Vec<u8>, out: &mut O) -> Result<(), ExportFault>
-    ensures adds { (due lines : List ℕ) → text.old.items ≡ due ++ lines → Adds O.put_bytes O.faults O.at_last lines due text.new.items out.old out.new result }
+    ensures adds { (due lines : List ℕ) → text.old.items ≡ due ++ lines →
+        Adds O.put_bytes O.faults O.at_last lines due text.new.items out.old out.new result }
     ensures short { OnOk result (length text.new.items < 65536) }
 {
     if text.len() < SIZE {
