@@ -18,11 +18,11 @@ draw() {
     fi
 }
 
-# The picture of a run of an example under a view; the words behind the files are for dot.py.
+# The picture of a run of an example under a view, from top to bottom (TB) or from left to right (LR); the words behind the files are for dot.py.
 draw_run() {
-    local name=$1 spec=$2 view=$3 events=$4
-    shift 4
-    "$program" export "$spec" "$view" "$events" | python3 tools/dot.py "$@" >"$folder/$name.dot"
+    local name=$1 direction=$2 spec=$3 view=$4 events=$5
+    shift 5
+    "$program" export "$spec" "$view" "$events" | python3 tools/dot.py "$@" | sed "2i\  rankdir=$direction;" >"$folder/$name.dot"
     draw "$name"
 }
 
@@ -34,8 +34,8 @@ draw_specs() {
     draw "$name"
 }
 
-draw_run line examples/line/spec examples/line/view examples/line/events
-draw_run phylogeny examples/phylogeny-once/spec examples/phylogeny-once/view examples/phylogeny-once/events --question run.cfg run.tree
+draw_run line TB examples/line/spec examples/line/view examples/line/events
+draw_run phylogeny LR examples/phylogeny/spec examples/phylogeny/outer examples/phylogeny/events --question run.cfg run.report
 draw_specs phylogeny-spec examples/phylogeny/spec
 draw_specs twisting-skewed examples/twisting/spec examples/skewed/spec
 python3 tools/two_labels.py examples/phylogeny/spec examples/phylogeny/labels rl2.c2 rl55.c2 >"$folder/labels.dot"
