@@ -448,6 +448,8 @@ answers_under() {
 }
 check "a view that expands the start alone hides what is inside, and joins all ways through it" \
     answers_under twisting outer 'r.a1 r.b1\nr.a1 r.b2\nw0.y1 r.b1\n' 'yes\nyes\nhidden\n'
+check "the view of the README's picture is answered as it says there" \
+    answers_under phylogeny outer 'run.cfg run.report\nrun.cfg run.tree\nsp.a run.tree\n' 'yes\nno\nhidden\n'
 check "a view that expands one module of a cycle hides what is inside the other" \
     answers_under pair first 'r.a x0.y\nr.a y1.y\n' 'yes\nhidden\n'
 
