@@ -257,7 +257,8 @@ class Runs(InFolder):
             for event in self.events():
                 self.report(run, event)
                 found += run.labels()
-            found += run.close()
+            run.close()
+            found += run.labels()
         self.assertEqual(found, wanted)
         with open(path, "rb") as file:
             self.assertEqual(file.read(), text)
@@ -312,7 +313,7 @@ class Runs(InFolder):
             self.assertRaises(wfprov.BadName, run.expand, "r", 0, ["i 1", "i2"])
             self.assertRaises(wfprov.BadName, run.expand, "r\n", 0, ["i1", "i2"])
             run.expand("r", 0, ["i1", "i2"])
-            self.assertEqual([(item.name, item.label.hex()) for item in run.close()], [("r.a", "20"), ("r.b", "60"), ("i1.y", "b0")])
+        self.assertEqual([(item.name, item.label.hex()) for item in run.labels()], [("r.a", "20"), ("r.b", "60"), ("i1.y", "b0")])
 
 
 class Calls(InFolder):

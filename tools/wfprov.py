@@ -36,9 +36,11 @@ import shutil
 import subprocess
 import sys
 import tempfile
-from typing import BinaryIO, Dict, Iterable, Iterator, List, NamedTuple, Optional, Sequence, Tuple, Union
+import time
+from typing import BinaryIO, Dict, Iterable, Iterator, List, NamedTuple, Optional, Sequence, Tuple, TypeVar, Union
 
 Path = Union[str, "os.PathLike[str]"]
+Self = TypeVar("Self", bound="Kept")
 
 PIECE = 65536
 HEAD = 36
@@ -278,17 +280,33 @@ class Kept:
         self._process = Process(words, program)
         self._closed = False
 
-    def __enter__(self):
+    def __enter__(self: Self) -> Self:
         return self
 
-    def __exit__(self, kind, value, trace) -> None:
+    def __exit__(self, kind: object, value: object, trace: object) -> None:
         if kind is None:
             self.close()
         else:
             self._closed = True
             self._process.stop()
 
-    def close(self):
+    def close(self) -> None:
+        """Ends the program, and raises why it ended if not all was done. It is no fault to close twice."""
+        if self._closed:
+            return
+        self._closed = True
+        while self._process.due and self._process.is_open:
+            self._read(None)
+        self._process.close_input()
+        while self._process.is_open:
+            self._read(None)
+        end = self._process.end()
+        self._process.stop()
+        if end:
+            raise end
+
+    def _read(self, wait: Optional[float]) -> None:
+        """Feeds and reads the program once."""
         raise NotImplementedError
 
     def _check_open(self) -> None:
@@ -366,18 +384,8 @@ class Answers(Kept):
         except KeyError as error:
             raise Died(f"wrote {error.args[0]!r}, which is no answer", 0) from None
 
-    def close(self) -> None:
-        """Ends the program. It is no fault to close it twice."""
-        if self._closed:
-            return
-        self._closed = True
-        self._process.close_input()
-        while self._process.is_open:
-            self._process.turn()
-        end = self._process.end()
-        self._process.stop()
-        if end:
-            raise end
+    def _read(self, wait: Optional[float]) -> None:
+        self._process.turn(wait)
 
 
 class Ingest(Kept):
@@ -385,7 +393,8 @@ class Ingest(Kept):
 
     Making one waits until SPEC is read, and raises what it is refused for. `into`, if given, is a file open for writing bytes that gets
     the label file, as it comes. A report that is refused ends the program: the next call raises the refusal, which has the number of
-    the report as its line, counted from 1. The items that were made before are kept, and `labels` returns them first.
+    the report as its line, counted from 1. The items that were made before are kept, and `labels` returns them first, also behind
+    `close`.
     """
 
     def __init__(self, spec: Path, into: Optional[BinaryIO] = None, program: Optional[Path] = None) -> None:
@@ -413,26 +422,15 @@ class Ingest(Kept):
 
     def labels(self, wait: float = 0.0) -> List[Item]:
         """Returns the items that came since the last call, with their labels; if none has come, it waits at most so many seconds."""
-        if not self._closed and not self._items:
+        late = time.monotonic() + wait
+        left = wait
+        while not self._closed and not self._items and left >= 0.0:
             if not self._process.is_open:
                 raise self._fault()
-            self._read(wait)
-        return self._taken()
-
-    def close(self) -> List[Item]:
-        """Says that the run has no further reports, and returns the items that have not been returned yet."""
-        if not self._closed:
-            self._closed = True
-            while self._process.due and self._process.is_open:
-                self._read(None)
-            self._process.close_input()
-            while self._process.is_open:
-                self._read(None)
-            end = self._process.end()
-            self._process.stop()
-            if end:
-                raise end
-        return self._taken()
+            self._read(left)
+            left = late - time.monotonic()
+        items, self._items = self._items, []
+        return items
 
     def _report(self, event: Dict[str, object], names: Sequence[str]) -> None:
         self._check_open()
@@ -445,9 +443,6 @@ class Ingest(Kept):
         if not self._process.is_open:
             raise self._fault()
 
-    def _taken(self) -> List[Item]:
-        items, self._items = self._items, []
-        return items
 
     def _read(self, wait: Optional[float]) -> None:
         """Feeds and reads the program once, and takes the entries that are whole."""
