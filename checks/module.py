@@ -9,6 +9,7 @@ the status is 1 where one failed.
 import json
 import os
 import signal
+import subprocess
 import sys
 import tempfile
 import time
@@ -93,7 +94,8 @@ class Stores(InFolder):
     def test_bad_names(self):
         """a pair that is not two names is refused, nothing is sent, and the store stays open"""
         long = "x" * 65
-        bad = [("r", "r.b"), ("r.a", "r.b\n"), ("r.a\nr.a", "r.b"), ("r.a", " r.b"), ("r.a", ""), ("r.ä", "r.b"), (f"{long}.a", "r.b"), ("r.a.b", "r.b"), ("r.a\r", "r.b")]
+        bad = [("r", "r.b"), ("r.a", "r.b\n"), ("r.a\nr.a", "r.b"), ("r.a", " r.b"), ("r.a", ""), ("r.ä", "r.b"), ("r.a.b", "r.b")]
+        bad += [(f"{long}.a", "r.b"), ("r.a", f"r.{long}"), ("r.a\r", "r.b")]
         with store_of("line") as store:
             for pair in bad:
                 self.assertRaises(wfprov.BadName, store.ask, [pair])
@@ -363,6 +365,19 @@ class Calls(InFolder):
                 {"expand": "n3", "production": 3, "names": ["n6", "n7"]},
             ],
         )
+
+
+    def test_as_tool(self):
+        """as a tool the module prints its help, and refuses other words"""
+        def run(*words, **streams):
+            return subprocess.run([sys.executable, os.path.join(TOP, "tools/wfprov.py"), *words], stderr=subprocess.PIPE, text=True, check=False, **streams)
+
+        helped = run("--help", stdout=subprocess.PIPE)
+        self.assertEqual((helped.returncode, helped.stdout.strip(), helped.stderr), (0, wfprov.__doc__.strip(), ""))
+        with open("/dev/full", "w", encoding="utf-8") as full:
+            self.assertEqual(run("--help", stdout=full).returncode, 2)
+        other = run("spec", stdout=subprocess.PIPE)
+        self.assertEqual((other.returncode, other.stdout, other.stderr.count("\n")), (2, "", 1))
 
 
 class Result(unittest.TestResult):

@@ -533,11 +533,22 @@ def gen(spec: Path, count: int, seed: int, program: Optional[Path] = None) -> Li
     return [json.loads(line) for line in lines_of(["gen", spec, str(count), str(seed)], program)]
 
 
+def put(stream: int, text: str) -> bool:
+    """Writes a short text to a standard stream, and returns whether that could be done."""
+    try:
+        os.write(stream, text.encode())
+        return True
+    except OSError:
+        return False
+
+
 def main(words: List[str]) -> int:
     if words in (["--help"], ["-h"]):
-        print(__doc__.strip())
-        return 0
-    print("wfprov.py: this is a module; see --help", file=sys.stderr)
+        if put(1, __doc__.strip() + "\n"):
+            return 0
+        put(2, "wfprov.py: writing: the help could not be written\n")
+        return 2
+    put(2, "wfprov.py: this is a module, and takes no words but --help\n")
     return 2
 
 
