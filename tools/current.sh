@@ -65,9 +65,11 @@ digest() {
 
 # The size, times and number of each file and folder of the sources, and of the program. Nothing where `find` cannot print them.
 stamps() (
-    cd "$top" && find -L crates.txt HANDLES crates/*/src crates/*/specs crates/*/proofs crates/*/data \
+    cd "$top" || exit 0
+    # A crate need not have each of these parts.
+    find -L crates.txt HANDLES crates/*/src crates/*/specs crates/*/proofs crates/*/data \
         crates/*/args crates/*/stdin crates/*/stdout crates/*/status crates/wfprov/out/wfprov \
-        -printf '%C@ %T@ %s %i %p\n' 2>/dev/null
+        -printf '%C@ %T@ %s %i %p\n' 2>/dev/null || true
 )
 
 # Whether some file was touched a moment ago: if it is touched again within one tick of the clock, its times stay as they are.
@@ -91,7 +93,11 @@ is_current() {
         return 0
     fi
     new=$seen.$$
-    (stamps >"$new") 2>/dev/null || new=/dev/null
+    if true 2>/dev/null >"$new"; then
+        stamps >"$new"
+    else
+        new=/dev/null
+    fi
     if ! is_made_of "$(digest "$top")"; then
         [ "$new" = /dev/null ] || rm -f "$new"
         return 1
