@@ -16,9 +16,9 @@ case $0 in
         ;;
 esac
 
-program=$top/crates/wfprov/out/wfprov
-made=$program.made
-seen=$program.seen
+out=$top/crates/wfprov/out
+program=$out/wfprov
+preview=$out/wfprov.preview
 parts="src specs proofs data args stdin stdout status"
 
 # The lines of crates.txt of the crates that the program is made of, each behind those that it uses.
@@ -63,12 +63,12 @@ digest() {
     printf '%s\n' "$all" | sha256sum | cut -d ' ' -f 1
 }
 
-# The size, times and number of each file and folder of the sources, and of the program. Nothing where `find` cannot print them.
+# The size, times and number of each file and folder of the sources, and of a program. Nothing where `find` cannot print them.
 stamps() (
     cd "$top" || exit 0
     # A crate need not have each of these parts.
     find -L crates.txt HANDLES crates/*/src crates/*/specs crates/*/proofs crates/*/data \
-        crates/*/args crates/*/stdin crates/*/stdout crates/*/status crates/wfprov/out/wfprov \
+        crates/*/args crates/*/stdin crates/*/stdout crates/*/status "crates/wfprov/out/${1##*/}" \
         -printf '%C@ %T@ %s %i %p\n' 2>/dev/null || true
 )
 
@@ -77,48 +77,60 @@ is_fresh() {
     awk -v now="$(date +%s)" '{ age = now - $1; if (age > -3 && age < 3) fresh = 1 } END { exit !fresh }' "$1"
 }
 
-# What the file beside the program says of a program that was made of the sources with this digest.
+# What the file beside a program says, if it was made of the sources with this digest.
 note() {
     printf 'sources %s\nprogram %s\n' "$1" "$(sum "$2")"
 }
 
-# Whether the program that stands there was made of the sources with this digest.
+# Whether a program that stands there was made of the sources with this digest.
 is_made_of() {
-    [ -n "$1" ] && [ "$(note "$1" "$program")" = "$(cat "$made" 2>/dev/null)" ]
+    [ -n "$2" ] && [ "$(note "$2" "$1")" = "$(cat "$1.made" 2>/dev/null)" ]
 }
 
-is_current() {
-    [ -x "$program" ] && [ -r "$made" ] || return 1
-    if [ -r "$seen" ] && stamps | cmp -s - "$seen"; then
-        return 0
-    fi
-    new=$seen.$$
-    if true 2>/dev/null >"$new"; then
-        stamps >"$new"
-    else
-        new=/dev/null
-    fi
-    if ! is_made_of "$(digest "$top")"; then
-        [ "$new" = /dev/null ] || rm -f "$new"
-        return 1
-    fi
-    if [ -s "$new" ] && ! is_fresh "$new" && stamps | cmp -s - "$new"; then
-        mv -f "$new" "$seen" 2>/dev/null
+# Keeps the stamps, if they still hold now that the sources were read.
+keep_stamps() {
+    if [ -s "$new" ] && ! is_fresh "$new" && stamps "$1" | cmp -s - "$new"; then
+        mv -f "$new" "$1.seen" 2>/dev/null
     elif [ "$new" != /dev/null ]; then
         rm -f "$new"
     fi
-    return 0
+}
+
+# Whether a program was made of the sources as they are now.
+is_current() {
+    [ -x "$1" ] && [ -r "$1.made" ] || return 1
+    if [ -r "$1.seen" ] && stamps "$1" | cmp -s - "$1.seen"; then
+        return 0
+    fi
+    new=$1.seen.$$
+    if true 2>/dev/null >"$new"; then
+        stamps "$1" >"$new"
+    else
+        new=/dev/null
+    fi
+    if is_made_of "$1" "$(digest "$top")"; then
+        keep_stamps "$1"
+    else
+        [ "$new" = /dev/null ] || rm -f "$new"
+        return 1
+    fi
+}
+
+# Puts a program into its place by a new name, with what it was made of: one that runs is not disturbed, and none is ever there in part.
+put_in_place() {
+    mkdir -p "$out" && cp "$1" "$2.new" && chmod 755 "$2.new" && note "$3" "$2.new" >"$2.made.new" &&
+        mv -f "$2.new" "$2" && mv -f "$2.made.new" "$2.made"
 }
 
 # Notes what the program that stands there was made of, if the sources are still the same.
 record() {
     [ -x "$program" ] && [ -n "$1" ] && [ "$(digest "$top")" = "$1" ] || return 1
-    note "$1" "$program" >"$made.new" && mv -f "$made.new" "$made"
+    note "$1" "$program" >"$program.made.new" && mv -f "$program.made.new" "$program.made"
 }
 
 if [ -n "${is_called:-}" ]; then
     case $#:${1:-} in
-        0:) is_current ;;
+        0:) is_current "$program" ;;
         1:digest) digest "$top" ;;
         2:record) record "$2" ;;
         1:--help) sed -n '2,5s/^# \{0,1\}//p' "$0" ;;
