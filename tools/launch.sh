@@ -111,38 +111,51 @@ print_forms() {
     say "docs/TUTORIAL.md has a first workflow, and docs/FORMATS.md the files and the other words"
 }
 
-# Whether a form has this many words behind the command, all of them names of files.
-is_form_of_files() {
-    [ "$#" -eq "$count" ] || return 1
-    shift
-    for word; do
-        case $word in
-            SPEC | VIEW | EVENTS | LABELS | QUERIES) ;;
-            *) return 1 ;;
-        esac
-    done
+# Whether a word surely is one of the kind that a form names. Of other kinds, and of doubtful words, the program decides.
+is_surely() {
+    case $1:$2 in
+        N:0?* | SEED:0?* | N:*[!0123456789]* | SEED:*[!0123456789]* | HEX:*[!0123456789ABCDEFabcdef]*) return 1 ;;
+        SPEC:?* | VIEW:?* | EVENTS:?* | LABELS:?* | QUERIES:?*) ;;
+        N:?*) [ ${#2} -le 6 ] ;;
+        SEED:?*) [ ${#2} -le 19 ] ;;
+        HEX:?*) [ $((${#2} % 2)) -eq 0 ] ;;
+        *) return 1 ;;
+    esac
 }
 
-# Whether the words are those of a command that takes only files, in plain letters: then the program surely does not refuse them as words.
-are_files() {
+# Whether the words of the call surely are those of a form.
+fits() {
+    rest=$1
+    shift
+    [ "${rest%% *}" = "$1" ] || return 1
+    shift
+    for word; do
+        [ "$rest" != "${rest#* }" ] || return 1
+        rest=${rest#* }
+        is_surely "${rest%% *}" "$word" || return 1
+    done
+    [ "$rest" = "${rest#* }" ]
+}
+
+# Whether the words surely are those of a command, in plain letters, so that the program has nothing to say of them.
+is_sure() {
     case $* in
         *[!ABCDEFGHIJKLMNOPQRSTUVWXYZabcdefghijklmnopqrstuvwxyz0123456789_./,:=+@%~\ -]*) return 1 ;;
     esac
-    count=$#
     while IFS= read -r form; do
-        if [ "${form%% *}" = "$1" ] && is_form_of_files $form; then
+        if fits "$form" "$@"; then
             return 0
         fi
     done <"$top/tools/forms"
     return 1
 }
 
-# Runs a program with the words of the call.
-# A command that may run for long takes the place of the launcher, so that signals come to it.
+# Runs a program with the words of the call. It takes the place of the launcher, so that signals come to it;
+# but where its words may be refused, the launcher waits for its status and shows the forms of the commands.
 hand_over() {
     binary=$1
     shift
-    if [ $# -gt 0 ] && are_files "$@"; then
+    if [ $# -gt 0 ] && is_sure "$@"; then
         exec "$binary" "$@"
     fi
     "$binary" "$@"
