@@ -3,6 +3,17 @@
 #   bash tools/pictures.sh [FOLDER]    writes them to FOLDER, and to docs/pictures where none is given
 set -euo pipefail
 
+case ${1:-} in
+    --help)
+        sed -n '2,3s/^# \{0,1\}//p' "${BASH_SOURCE[0]}"
+        exit
+        ;;
+    -*)
+        echo "pictures.sh: $1: no such option; --help says what there is" >&2
+        exit 2
+        ;;
+esac
+
 cd "$(dirname "${BASH_SOURCE[0]}")/.."
 folder=${1:-docs/pictures}
 program=crates/wfprov/out/wfprov
