@@ -38,7 +38,7 @@ check "a line of another form is told by its number" \
     says 2 'dot.py: line 2: neither `leaf`, `pending`, `item` nor `link` with its names' 'item r.a\nleaf r\n'
 check "a port without a dot is told by its line" \
     says 2 'dot.py: line 1: `ra` is no instance and port with a dot between' 'link ra i1.x\n'
-check "bytes that are no text are told" says 2 'dot.py: the text is not UTF-8, and so not what `export` writes' '\xff\n'
+check "bytes that are no text are told" says 2 'dot.py: standard input: byte 0: not UTF-8, and so not what `export` writes' '\xff\n'
 check "a file that is not there is told" test "$(python3 tools/dot.py "$work/absent" 2>&1)" = "dot.py: $work/absent: No such file or directory"
 check "the tool tells how it is called" test "$(python3 tools/dot.py --help | grep -c 'export SPEC VIEW EVENTS')" = 1
 check "a picture that cannot be written is told" test "$(python3 tools/dot.py --spec examples/line/spec 2>&1 >/dev/full)" = "dot.py: writing: No space left on device"

@@ -29,8 +29,13 @@ productions. The further rules are those of `wfprov check`; this tool does not t
 This tool is no part of what is proved. It needs Python's standard library alone.
 """
 import json
+import os
 import re
 import sys
+
+sys.path.insert(0, os.path.dirname(os.path.abspath(__file__)))
+import terminal
+from terminal import Wrong
 
 KINDS = ("leaf", "pending")
 NAME = re.compile(r"[A-Za-z0-9_-]{1,64}")
@@ -43,10 +48,6 @@ NAMED_PRODUCTIONS = 4
 PATH = ' color="#1f5fa8" penwidth=2'
 ASKED_ARROW = PATH + ' fontcolor="#1f5fa8"'
 ASKED_OVAL = PATH + ' style=filled fillcolor="#cfe2f7"'
-
-
-class Wrong(Exception):
-    """What is wrong with a line or a specification, with its place."""
 
 
 def name_at(text, place):
@@ -70,7 +71,7 @@ class Export:
     def __init__(self, lines):
         self.closed, self.items, self.links = {}, set(), []
         for number, line in enumerate(lines, 1):
-            self.take(line.rstrip("\n").split(" "), f"line {number}")
+            self.take(line.split(" "), f"line {number}")
 
     def take(self, words, place):
         if words[0] in KINDS and len(words) == 3:
@@ -285,7 +286,7 @@ class Spec:
         for module in self.modules.values():
             module.seen = module.open = False
         for number, line in enumerate(lines, 1):
-            self.take_shown(line.rstrip("\n").split(" "), f"line {number}")
+            self.take_shown(line.split(" "), f"line {number}")
         self.find_cycles()
 
     def take_shown(self, words, place):
@@ -482,7 +483,7 @@ def spec_lines(spec, prefix, columns):
 
 def title_of(path):
     """Returns a path as a string of the picture's language, in which any byte may stand."""
-    text = path.encode("utf-8", "backslashreplace").decode()
+    text = terminal.escaped(path)
     return quoted(text.replace("\\", "\\\\").replace('"', '\\"').replace("&", "&amp;"))
 
 
@@ -508,11 +509,9 @@ def not_json(word):
 
 def read_spec(path):
     """Returns the specification of a file."""
+    text = terminal.read_bytes(path)
     try:
-        with open(path, "rb") as file:
-            return Spec(json.loads(file.read().decode("utf-8"), parse_constant=not_json))
-    except OSError as error:
-        raise Wrong(f"{path}: {error.strerror}") from None
+        return Spec(json.loads(text.decode("utf-8"), parse_constant=not_json))
     except json.JSONDecodeError as error:
         raise Wrong(f"{path}: line {error.lineno} column {error.colno}: not JSON") from None
     except (ValueError, RecursionError):
@@ -521,15 +520,17 @@ def read_spec(path):
         raise Wrong(f"{path}: {wrong}") from None
 
 
+def lines_in(text):
+    """Returns the lines of a text that the program wrote."""
+    lines = text.split("\n")
+    return lines[:-1] if lines[-1] == "" else lines
+
+
 def read_shown(path, spec):
     """Leaves of a specification what a view shows, as a file tells it."""
+    lines = lines_in(terminal.read_text(path, ", and so not what `view` writes"))
     try:
-        with open(path, encoding="utf-8") as lines:
-            spec.take_view(lines)
-    except OSError as error:
-        raise Wrong(f"{path}: {error.strerror}") from None
-    except UnicodeDecodeError:
-        raise Wrong(f"{path}: not UTF-8, and so not what `view` writes") from None
+        spec.take_view(lines)
     except Wrong as wrong:
         raise Wrong(f"{path}: {wrong}") from None
 
@@ -550,13 +551,7 @@ def read_export(words):
     """Returns what the lines of a file tell, or those of standard input where no file is given."""
     if len(words) > 1:
         raise Wrong("at most one FILE; see --help")
-    try:
-        with open(words[0] if words else sys.stdin.fileno(), encoding="utf-8") as lines:
-            return Export(lines)
-    except OSError as error:
-        raise Wrong(f"{words[0] if words else 'standard input'}: {error.strerror}") from None
-    except UnicodeDecodeError:
-        raise Wrong("the text is not UTF-8, and so not what `export` writes") from None
+    return Export(lines_in(terminal.read_text(*words, but=", and so not what `export` writes")))
 
 
 def picture_of_run(words):
@@ -569,22 +564,10 @@ def picture_of_run(words):
     return run_picture(export, Question(export, words[1:3]))
 
 
-def main(words):
-    if "--help" in words or "-h" in words:
-        print(__doc__.strip())
-        return 0
-    try:
-        lines = picture_of_specs(words[1:]) if words[:1] == ["--spec"] else picture_of_run(words)
-        sys.stdout.write("\n".join(lines) + "\n")
-        sys.stdout.flush()
-    except OSError as error:
-        print(f"dot.py: writing: {error.strerror}", file=sys.stderr)
-        return 2
-    except Wrong as wrong:
-        print(f"dot.py: {wrong}", file=sys.stderr)
-        return 2
-    return 0
+def work(words):
+    lines = picture_of_specs(words[1:]) if words[:1] == ["--spec"] else picture_of_run(words)
+    terminal.write("\n".join(lines) + "\n")
 
 
 if __name__ == "__main__":
-    sys.exit(main(sys.argv[1:]))
+    sys.exit(terminal.run("dot.py", __doc__, work))

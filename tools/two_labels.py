@@ -13,18 +13,19 @@ Where both name one production of one instance, they share the production, and p
 This tool is no part of what is proved. It refuses a label that is none of the specification, and does not try the rest of the label
 file; `wfprov ask` does. It needs Python's standard library alone.
 """
+import html
 import os
 import sys
 
 sys.path.insert(0, os.path.dirname(os.path.abspath(__file__)))
 import dot
 import labels as label_file
+import terminal
+from terminal import Wrong
 
+# A number of a label is at most that of the instances of a run.
+MOST = 1 << 24
 GREY, BARE, LEFT = ' bgcolor="gray80"', ' border="0"', ' border="0" align="left"'
-
-
-class Wrong(Exception):
-    """What is wrong, in words."""
 
 
 class Cell:
@@ -50,23 +51,33 @@ class Part:
 
 
 class Bits:
-    """The bits of a label. `taken` has those that were read since it was emptied, as they were taken."""
+    """The bits of a label, and how many were read. `taken` has those that were read since it was emptied, as they were taken."""
 
     def __init__(self, label):
-        self.left = "".join(f"{byte:08b}" for byte in label)
+        self.bits, self.read = "".join(f"{byte:08b}" for byte in label), 0
         self.taken = []
+
+    def left(self):
+        """Returns the bits that were not read."""
+        return self.bits[self.read :]
 
     def take(self, count):
         """Returns the next bits, so many."""
-        if len(self.left) < count:
+        bits = self.bits[self.read : self.read + count]
+        if len(bits) < count:
             raise Wrong("it ends too early")
-        bits, self.left = self.left[:count], self.left[count:]
+        self.read += count
         self.taken.append(bits)
         return bits
 
     def number(self):
         """Returns the number that the next gamma code stands for, less one."""
-        zeros = len(self.left) - len(self.left.lstrip("0"))
+        first = self.bits.find("1", self.read)
+        if first < 0:
+            raise Wrong("it ends too early")
+        zeros = first - self.read
+        if zeros >= MOST.bit_length() or int(self.bits[first : first + zeros + 1], 2) > MOST:
+            raise Wrong(f"a number in it is greater than {MOST:,}")
         return int(self.take(2 * zeros + 1), 2) - 1
 
     def part(self, word, *cells):
@@ -87,19 +98,24 @@ def continuing_steps(count):
     return f"{count} continuing step{'s' * (count != 1)}"
 
 
-def continuing(spec, module):
-    """Returns the module to which the continuing step of a module leads, or None where it has none."""
-    for number in spec.modules[module].productions:
-        for position in spec.ways_back(spec.productions[number]):
-            return spec.productions[number].body[position]
-    return None
+def continuing(spec):
+    """Returns for each module that leads back to itself its continuing step, as the production and the position."""
+    steps = {}
+    for production in spec.productions:
+        for position in spec.ways_back(production):
+            if production.head in steps:
+                raise Wrong(f"`{production.head}` leads back to itself in two ways, so `wfprov check` refuses the specification")
+            steps[production.head] = production, position
+    return steps
 
 
-def after(spec, module, count):
+def after(steps, module, count):
     """Returns the module to which so many continuing steps lead."""
-    around = [module]
-    while continuing(spec, around[-1]) != module:
-        around.append(continuing(spec, around[-1]))
+    around = []
+    while not around or module != around[0]:
+        around.append(module)
+        production, position = steps[module]
+        module = production.body[position]
     return around[count % len(around)]
 
 
@@ -128,18 +144,20 @@ def ending(production, bits, cell):
 def edge_parts(spec, bits):
     """Yields the parts of the label of what an edge carries, of which the first bit was read."""
     yield bits.part("kind", Cell("edge", "carried by an edge"))
-    module = spec.start
+    module, steps = spec.start, continuing(spec)
     while True:
-        if continuing(spec, module):
+        if module in steps:
             count = bits.number()
             yield bits.part("chain number", Cell(count, continuing_steps(count)))
-            module = after(spec, module, count)
+            module = after(steps, module, count)
         goes_on = bits.take(1) == "1"
         production, cell = production_at(spec, module, bits)
         if not goes_on:
             yield ending(production, bits, cell)
             return
         position = at(list(production.body), bits.number(), "position", f"a production of {production.head}")
+        if steps.get(module) == (production, position):
+            raise Wrong(f"a step along the cycle of {module} stands alone, and belongs to the chain number before it")
         yield bits.part("step", cell, Cell(position, f"position {position}"))
         module = production.body[position]
 
@@ -148,9 +166,10 @@ def parts_of(spec, label):
     """Returns the parts of a label, and behind them the bits that fill the last byte."""
     bits = Bits(label)
     parts = list(edge_parts(spec, bits) if bits.take(1) == "1" else port_parts(spec, bits))
-    if len(bits.left) > 7 or "1" in bits.left:
+    left = bits.left()
+    if len(left) > 7 or "1" in left:
         raise Wrong("more stands behind it than zero bits that fill a byte")
-    if bits.take(len(bits.left)):
+    if bits.take(len(left)):
         parts.append(bits.part("filling"))
     return parts
 
@@ -180,6 +199,11 @@ def texts_of(parts):
     return [text for part in parts for cell in part.cells for text in cell.texts()]
 
 
+def plain(text):
+    """Returns a text of a file as one that has no meaning in the picture's table."""
+    return html.escape(terminal.escaped(text))
+
+
 def cell(text, width=1, shared=False, more=""):
     """Returns a cell of the picture's table, so many columns wide."""
     span = f' colspan="{width}"' if width > 1 else ""
@@ -188,7 +212,7 @@ def cell(text, width=1, shared=False, more=""):
 
 def rows_of(parts, item, label):
     """Yields the rows of a label: the words for its parts, with the item; their bits, with the bytes; and what they say."""
-    words, bits, says = [cell(item, more=LEFT)], [cell(label.hex(), more=LEFT)], [cell("", more=BARE)]
+    words, bits, says = [cell(plain(item), more=LEFT)], [cell(label.hex(), more=LEFT)], [cell("", more=BARE)]
     for part in parts:
         texts = texts_of([part])
         width = max(len(texts), 1)
@@ -215,8 +239,8 @@ def picture(labels):
 def picture_of(spec_path, labels_path, items):
     """Returns the lines of the picture of the labels that a label file has of two items."""
     spec = dot.read_spec(spec_path)
-    with open(labels_path, "rb") as file:
-        held = {name.decode("utf-8", "backslashreplace"): label for name, label in label_file.entries_of(file.read())}
+    entries = label_file.entries_of(terminal.read_bytes(labels_path))
+    held = {name.decode("utf-8", "backslashreplace"): label for name, label in entries}
     rows = []
     for item in items:
         if item not in held:
@@ -229,23 +253,11 @@ def picture_of(spec_path, labels_path, items):
     return picture(rows)
 
 
-def main(words):
-    if "--help" in words or "-h" in words:
-        print(__doc__.strip())
-        return 0
-    try:
-        if len(words) != 4:
-            raise Wrong("the words are not SPEC LABELS ITEM ITEM; see --help")
-        sys.stdout.write("\n".join(picture_of(words[0], words[1], words[2:])) + "\n")
-        sys.stdout.flush()
-    except OSError as error:
-        print(f"two_labels.py: {error.filename or 'writing'}: {error.strerror}", file=sys.stderr)
-        return 2
-    except (Wrong, dot.Wrong, label_file.Wrong) as wrong:
-        print(f"two_labels.py: {wrong}", file=sys.stderr)
-        return 2
-    return 0
+def work(words):
+    if len(words) != 4:
+        raise Wrong("the words are not SPEC LABELS ITEM ITEM; see --help")
+    terminal.write("\n".join(picture_of(words[0], words[1], words[2:])) + "\n")
 
 
 if __name__ == "__main__":
-    sys.exit(main(sys.argv[1:]))
+    sys.exit(terminal.run("two_labels.py", __doc__, work))
