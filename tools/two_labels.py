@@ -21,10 +21,9 @@ sys.path.insert(0, os.path.dirname(os.path.abspath(__file__)))
 import dot
 import labels as label_file
 import terminal
+from label_bits import Bits
 from terminal import Wrong
 
-# A number of a label is at most that of the instances of a run.
-MOST = 1 << 24
 GREY, BARE, LEFT = ' bgcolor="gray80"', ' border="0"', ' border="0" align="left"'
 
 
@@ -50,40 +49,10 @@ class Part:
         self.word, self.bits, self.cells = word, bits, cells
 
 
-class Bits:
-    """The bits of a label, and how many were read. `taken` has those that were read since it was emptied, as they were taken."""
-
-    def __init__(self, label):
-        self.bits, self.read = "".join(f"{byte:08b}" for byte in label), 0
-        self.taken = []
-
-    def left(self):
-        """Returns the bits that were not read."""
-        return self.bits[self.read :]
-
-    def take(self, count):
-        """Returns the next bits, so many."""
-        bits = self.bits[self.read : self.read + count]
-        if len(bits) < count:
-            raise Wrong("it ends too early")
-        self.read += count
-        self.taken.append(bits)
-        return bits
-
-    def number(self):
-        """Returns the number that the next gamma code stands for, less one."""
-        first = self.bits.find("1", self.read)
-        if first < 0:
-            raise Wrong("it ends too early")
-        zeros = first - self.read
-        if zeros >= MOST.bit_length() or int(self.bits[first : first + zeros + 1], 2) > MOST:
-            raise Wrong(f"a number in it is greater than {MOST:,}")
-        return int(self.take(2 * zeros + 1), 2) - 1
-
-    def part(self, word, *cells):
-        """Returns a part with the bits that were read since the last."""
-        bits, self.taken = " ".join(self.taken), []
-        return Part(word, bits, *cells)
+def part_of(bits, word, *cells):
+    """Returns a part with the bits that were read since the last."""
+    taken, bits.taken = " ".join(bits.taken), []
+    return Part(word, taken, *cells)
 
 
 def at(held, number, what, owner):
@@ -123,9 +92,9 @@ def port_parts(spec, bits):
     """Yields the parts of the label of an input or an output of the run, of which the first bit was read."""
     start = spec.modules[spec.start]
     side, ports = ("output", start.outputs) if bits.take(1) == "1" else ("input", start.inputs)
-    yield bits.part("kind", Cell(side, f"{side} of the run"))
+    yield part_of(bits, "kind", Cell(side, f"{side} of the run"))
     port = at(ports, bits.number(), side, spec.start)
-    yield bits.part(side, Cell(port, port))
+    yield part_of(bits, side, Cell(port, port))
 
 
 def production_at(spec, module, bits):
@@ -138,17 +107,17 @@ def ending(production, bits, cell):
     """Returns the part that names an edge of a production."""
     edges = [(".".join(first), ".".join(second)) for first, second in production.links if first[0] and second[0]]
     edge = at(edges, bits.number(), "edge", f"a production of {production.head}")
-    return bits.part("ending", cell, Cell(edge, f"edge {edge[0]} to {edge[1]}"))
+    return part_of(bits, "ending", cell, Cell(edge, f"edge {edge[0]} to {edge[1]}"))
 
 
 def edge_parts(spec, bits):
     """Yields the parts of the label of what an edge carries, of which the first bit was read."""
-    yield bits.part("kind", Cell("edge", "carried by an edge"))
+    yield part_of(bits, "kind", Cell("edge", "carried by an edge"))
     module, steps = spec.start, continuing(spec)
     while True:
         if module in steps:
             count = bits.number()
-            yield bits.part("chain number", Cell(count, continuing_steps(count)))
+            yield part_of(bits, "chain number", Cell(count, continuing_steps(count)))
             module = after(steps, module, count)
         goes_on = bits.take(1) == "1"
         production, cell = production_at(spec, module, bits)
@@ -158,7 +127,7 @@ def edge_parts(spec, bits):
         position = at(list(production.body), bits.number(), "position", f"a production of {production.head}")
         if steps.get(module) == (production, position):
             raise Wrong(f"a step along the cycle of {module} stands alone, and belongs to the chain number before it")
-        yield bits.part("step", cell, Cell(position, f"position {position}"))
+        yield part_of(bits, "step", cell, Cell(position, f"position {position}"))
         module = production.body[position]
 
 
@@ -166,11 +135,8 @@ def parts_of(spec, label):
     """Returns the parts of a label, and behind them the bits that fill the last byte."""
     bits = Bits(label)
     parts = list(edge_parts(spec, bits) if bits.take(1) == "1" else port_parts(spec, bits))
-    left = bits.left()
-    if len(left) > 7 or "1" in left:
-        raise Wrong("more stands behind it than zero bits that fill a byte")
-    if bits.take(len(left)):
-        parts.append(bits.part("filling"))
+    if bits.take(bits.end()):
+        parts.append(part_of(bits, "filling"))
     return parts
 
 

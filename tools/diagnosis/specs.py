@@ -1,0 +1,55 @@
+"""A specification and a view, read from files, up to their first faults."""
+from diagnosis import forms, links, loops, modules, pairs, views
+from diagnosis.faults import Fault
+from diagnosis.files import Text
+from diagnosis.grammars import Grammar
+
+MOST = 16777216
+
+
+def parts_of(text, form, where):
+    """Returns the parts of a file of JSON that has a form."""
+    try:
+        if text.size > MOST:
+            raise Fault("TooLong", f"the file has {text.size:,} bytes, and at most {MOST:,} are possible.", "Take blanks away, or use one module in several bodies.")
+        return form(text.value())
+    except Fault as fault:
+        raise fault.stands_in(where, text) from None
+
+
+def read_parts(path, data):
+    """Returns the text and the parts of a specification."""
+    text = Text(path, data)
+    return text, parts_of(text, forms.SpecParts, "spec")
+
+
+def formed(text, parts):
+    """Returns the grammar of parts that keep the rules of form."""
+    try:
+        for rule in (*modules.RULES, *links.RULES):
+            rule(parts)
+    except Fault as fault:
+        raise fault.stands_in("spec", text) from None
+    return Grammar(parts)
+
+
+def read_spec(path, data):
+    """Returns the text and the grammar of a specification that keeps all rules."""
+    text, parts = read_parts(path, data)
+    grammar = formed(text, parts)
+    try:
+        for rule in loops.RULES:
+            rule(grammar)
+    except Fault as fault:
+        raise fault.stands_in("spec", text) from None
+    return text, grammar
+
+
+def read_view(path, data, grammar):
+    """Returns the text of a safe view, and the pairs of what it shows."""
+    text = Text(path, data)
+    parts = parts_of(text, forms.ViewParts, "view")
+    try:
+        return text, pairs.is_safe(views.view_of(grammar, parts))
+    except Fault as fault:
+        raise fault.stands_in("view", text) from None
