@@ -28,6 +28,11 @@ class Production:
         self.entries = {a.value: (b.position, b.port) for a, b, _ in part.entries}
         self.exits = {b.value: (a.position, a.port) for a, b, _ in part.exits}
 
+    def links(self):
+        """Returns the links in their order, each from an end to an end; of the head an end has None as its position."""
+        entries = [((None, port), end) for port, end in self.entries.items()]
+        return self.edges + entries + [(end, (None, port)) for port, end in self.exits.items()]
+
 
 class Grammar:
     """A specification by names."""
