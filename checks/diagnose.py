@@ -24,6 +24,8 @@ def tried(program, folder, name):
     files, message = cases.CASES[name]
     os.chdir(os.path.join(folder, name))
     words = [word for word in WORDS if word in files]
+    if "hexes" in files:
+        words = [call.DECIDE, *words, *files["hexes"]]
 
     def both(held):
         said, _ = call.said_by(program, held)

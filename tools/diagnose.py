@@ -5,6 +5,7 @@
   python3 tools/diagnose.py SPEC VIEW                              and a view of it
   python3 tools/diagnose.py SPEC VIEW EVENTS [QUERIES]             and a run of it, and questions
   python3 tools/diagnose.py SPEC VIEW LABELS [QUERIES]             and a label file of a run, and questions
+  python3 tools/diagnose.py --decide SPEC VIEW HEX HEX             and two labels
 
 It runs `wfprov` on the files (`check`, `view`, `trace` or `ask`) and finds the same fault by a reading of its own, since the program says
 the kind of a fault and its place, and no more. VIEW may be `-`: the run is then seen under the default view. A third file that begins with
@@ -40,12 +41,14 @@ def findings(files):
         return lines + report.of_difference(fault, said), 2
     if fault:
         return lines + report.of_fault(fault, said), 2
-    lines.append(f"Nothing is refused: {terminal.escaped(files.shown_command())}" if program else "Nothing is wrong by the rules of docs/FORMATS.md.")
+    accepts = f"wfprov accepts the files: {terminal.escaped(files.shown_command())}"
+    lines.append(accepts if program else "Nothing is refused by the rules of docs/FORMATS.md.")
     return (lines + report.of_doubts(found.doubts), 1) if found.doubts else (lines, 0)
 
 
 def work(words):
-    if not 1 <= len(words) <= 4 or words[0].startswith("--"):
+    decides = words[:1] == [call.DECIDE]
+    if len(words) != 5 if decides else not 1 <= len(words) <= 4 or words[0].startswith("--"):
         raise Wrong(f"the words are not {call.WORDS}; see --help")
     lines, status = call.diagnosed(words, findings)
     terminal.write("\n".join(lines) + "\n")

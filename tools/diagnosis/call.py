@@ -1,5 +1,6 @@
 """Which files a call has, what this package finds in them, and what the program says."""
 import os
+import re
 import shutil
 import subprocess
 import tempfile
@@ -7,14 +8,15 @@ import tempfile
 import terminal
 from diagnosis import doubts
 from diagnosis.faults import Fault
-from diagnosis.label_files import MAGIC, read_labels
+from diagnosis.label_files import MAGIC, check_word, read_labels
 from diagnosis.questions import read_questions
 from diagnosis.runs import read_run
 from diagnosis.specs import read_spec, read_view
 
 TOP = os.path.dirname(os.path.dirname(os.path.dirname(os.path.abspath(__file__))))
 WORDS = "SPEC [VIEW] [EVENTS | LABELS] [QUERIES]"
-NO_VIEW = "-"
+NO_VIEW, DECIDE = "-", "--decide"
+HEX = re.compile("(?:[0-9A-Fa-f]{2})*")
 
 
 def unreadable(where, path, error):
@@ -26,8 +28,9 @@ def unreadable(where, path, error):
 class Files:
     """The files of a call. What is no regular file is read once, into a folder, so that the program and this package read the same."""
 
-    def __init__(self, words, folder):
+    def __init__(self, words, folder, hexes=()):
         self.spec, self.view, self.third, self.queries = (*words, None, None, None)[:4]
+        self.hexes = list(hexes)
         self.names, self.folder = {}, folder
         self.spec, self.third, self.queries = map(self.kept, (self.spec, self.third, self.queries))
         self.view = self.kept(self.view if self.view != NO_VIEW else self.default_view())
@@ -67,6 +70,8 @@ class Files:
 
     def command(self):
         """Returns the words of the program's call."""
+        if self.hexes:
+            return ["decide", self.spec, self.view, *self.hexes]
         if self.third is None:
             return ["check", self.spec] if self.view is None else ["view", self.spec, self.view]
         return ["ask" if self.labels else "trace", self.spec, self.view, self.third, self.queries or os.devnull]
@@ -100,12 +105,14 @@ class Finding:
             self.fault = fault
 
     def read(self):
-        text, grammar = read_spec(*self.whole("spec", self.files.spec), )
+        text, grammar = read_spec(*self.whole("spec", self.files.spec))
         self.doubts += doubts.of_spec(text, grammar)
         if self.files.view is None:
             return
         text, assignment = read_view(*self.whole("view", self.files.view), grammar)
         self.doubts += doubts.of_view(text, assignment)
+        for number, word in enumerate(self.files.hexes, 1):
+            check_word(grammar, number, word)
         if self.files.third is None:
             return
         if self.files.labels:
@@ -133,6 +140,9 @@ class Finding:
 
 
 def diagnosed(words, use):
-    """Returns what `use` makes of the files of a call."""
+    """Returns what `use` makes of the files of a call. The words of `decide` are a specification, a view and two labels."""
+    hexes = words[3:] if words[0] == DECIDE else []
+    if hexes and (len(hexes) != 2 or not all(HEX.fullmatch(word) for word in hexes)):
+        raise terminal.Wrong(f"the words behind {DECIDE} are not SPEC VIEW HEX HEX, with two hexadecimal digits for each byte; see --help")
     with tempfile.TemporaryDirectory() as folder:
-        return use(Files(words, folder))
+        return use(Files(words[1:3] if hexes else words, folder, hexes))

@@ -82,9 +82,9 @@ def of_pairs(text, view):
         missing = module.in_order(inside - view.given[module.name])
         if missing:
             who = "its inside has" if module.productions else "the specification gives it"
-            told = listed([f"{first}>{second}" for first, second in missing])
-            what = f"the view does not give {quoted(module.name)} the pairs {told}, which {who}. A question that rests on one of them is answered `no`."
-            yield Doubt(what, part.module, text)
+            told = f"the pair{'s' * (len(missing) > 1)} {listed([f'{first}>{second}' for first, second in missing])}"
+            what = f"the view does not give {quoted(module.name)} {told}, which {who}."
+            yield Doubt(f"{what} Where an answer rests on one of them, it is `no`.", part.module, text)
 
 
 def made_at(run, name, port):
@@ -120,12 +120,12 @@ def of_item(run, item):
     module = run.grammar.modules[run.instances[name].module]
     inputs, outputs = sides_of(module.part)
     if port not in inputs + outputs:
-        return f"{quoted(name)} is a {quoted(module.name)}, which has no port {quoted(port)}: it has {listed(inputs + outputs)}"
+        return f"{quoted(name)} is of the module {quoted(module.name)}, which has no port {quoted(port)}: it has {listed(inputs + outputs)}"
     found = ".".join(made_at(run, name, port) if port in outputs else taken_at(run, name, port))
     if found == item:
         return ""
-    way = "leads out of its body" if port in outputs else "is fed from elsewhere"
-    return f"the {'output' if port in outputs else 'input'} {quoted(port)} of {quoted(name)} {way}, and names no item of its own: the item there is {quoted(found)}"
+    side, way = ("output", "leads out of its body") if port in outputs else ("input", "is fed from elsewhere")
+    return f"the {side} {quoted(port)} of {quoted(name)} {way}, and names no item of its own: the item there is {quoted(found)}"
 
 
 def of_entry(names, item):
@@ -135,7 +135,7 @@ def of_entry(names, item):
     instance = item.partition(".")[0] + "."
     there = [name for name in names if name.startswith(instance)]
     more = f"; of this instance it has {listed(there)}" if there else ""
-    return f"the label file has no item {quoted(item)}{more}. An output that leads out of its body names no item: the item is named further out"
+    return f"the label file has no item {quoted(item)}{more}. If this output leads out of its body, the item is named further out"
 
 
 def of_questions(questions, why):

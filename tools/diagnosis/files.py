@@ -2,6 +2,7 @@
 import located_json
 from diagnosis.faults import Fault
 
+LOOK = "Look at the place that is marked and just before it: a comma, a quote or a bracket may be missing there, or be too many."
 # How many signs of a line a message shows, and how many of them before the place.
 SHOWN, BEFORE = 100, 60
 
@@ -51,4 +52,5 @@ class Text:
             return located_json.read(self.text)
         except located_json.NotJson as wrong:
             what = wrong.what[0].upper() + wrong.what[1:]
-            raise Fault("NotJson", f"this is no JSON. {what}.", "", Span(wrong.at, wrong.at + 1)) from None
+            mend = "No form of docs/FORMATS.md is nested so deep: take levels away." if "nested" in wrong.what else LOOK
+            raise Fault("NotJson", f"this is no JSON. {what}.", mend, Span(wrong.at, wrong.at + 1)) from None

@@ -3,12 +3,22 @@
 A part keeps the nodes of its names, so that a rule can say where it is broken. A value of another form is the fault `WrongShape`, with
 the member of the table that it stands in.
 """
+import difflib
+import json
+
 from diagnosis.faults import Fault
+from diagnosis.files import Span
 
 # The members that a form knows.
 MODULE, PRODUCTION, DEPS = ("name", "in", "out"), ("head", "body", "edges", "in", "out"), ("module", "pairs")
 SPEC, VIEW = ("start", "modules", "productions", "deps", "versions"), ("expand", "deps")
 WRITTEN = {"object": "an object", "list": "a list", "text": "a text", "number": "a whole number"}
+HOW = {
+    "object": "Write an object there, with its members between `{` and `}`.",
+    "list": "Write a list there, between `[` and `]`; a list of nothing is `[]`.",
+    "text": "Write a text there, between double quotes.",
+    "number": "Write a whole number there, as `2`.",
+}
 
 
 class Shape:
@@ -17,14 +27,13 @@ class Shape:
     def __init__(self, member):
         self.member = member
 
-    def wrong(self, node, place, what):
-        kind = "WrongShape" if self.member is None else f"WrongShape {self.member}"
-        return Fault(kind, f"{place} {what}", "docs/FORMATS.md lists the members and their forms.", node)
+    def wrong(self, node, what, mend):
+        return Fault("WrongShape" if self.member is None else f"WrongShape {self.member}", what, mend, node)
 
     def take(self, node, kind, place):
         """Returns a node of this kind."""
         if node.kind != kind:
-            raise self.wrong(node, f"`{place}`", f"is {node.called()}, and {WRITTEN[kind]} belongs there.")
+            raise self.wrong(node, f"`{place}` is {node.called()}, and {WRITTEN[kind]} belongs there.", in_its_place(node, kind))
         return node
 
     def member_of(self, node, name, kind, place):
@@ -32,7 +41,8 @@ class Shape:
         found = node.member(name)
         if found is None:
             owner = f"`{place}`" if place else "The file"
-            raise self.wrong(node, owner, f"has no member `{name}`, which is {WRITTEN[kind]}.")
+            what = f"{owner} has no member `{name}`, which is {WRITTEN[kind]}.{like_member(node, name)}"
+            raise self.wrong(Span(node.at, node.at + 1), what, f"Add a member `{name}`. docs/FORMATS.md has an example of each.")
         return self.take(found, kind, f"{place}.{name}" if place else name)
 
     def items(self, node, name, kind, place):
@@ -47,7 +57,8 @@ class Shape:
     def two(self, node, kind, place):
         """Returns the two items of a list of two."""
         if len(node.value) != 2:
-            raise self.wrong(node, f"`{place}`", f"is a list of {len(node.value)}, and a list of two belongs there.")
+            what = f"`{place}` is a list of {len(node.value)}, and a list of two belongs there."
+            raise self.wrong(node, what, "Write exactly two parts; further pairs are lists of their own, with commas between.")
         return [self.take(part, kind, f"{place}[{k}]") for k, part in enumerate(node.value)]
 
     def pairs(self, node, name, place):
@@ -57,8 +68,24 @@ class Shape:
     def end(self, node, place):
         """Returns the position and the port that a text with a dot names."""
         if "." not in node.value:
-            raise self.wrong(node, f"`{place}`", f"is `{node.value}`, and a position and a port with a dot between belong there, as `al.m`.")
+            what = f"`{place}` is `{node.value}`, and a position and a port with a dot between belong there."
+            raise self.wrong(node, what, f"Write the position before it, and a dot, as `u.{node.value or 'x'}`.")
         return End(node)
+
+
+def in_its_place(node, kind):
+    """Returns what to write in place of a value of another form."""
+    if kind == "list" and node.kind in ("text", "object"):
+        return f"Put it into a list: `[{json.dumps(node.value) if node.kind == 'text' else '{..}'}]`."
+    if kind == "text" and node.kind in ("number", "word"):
+        return f'Put it between double quotes: `"{node.value}"`.'
+    return HOW[kind]
+
+
+def like_member(node, name):
+    """Returns a sentence on a member that may be meant as one that is missing."""
+    close = difflib.get_close_matches(name, [key.value[:64] for key, _ in node.value], 1, 0.5)
+    return f" It has a member `{close[0]}`: is that the one?" if close else ""
 
 
 class End:
@@ -106,14 +133,15 @@ class VersionPart:
     def number(shape, node, place, k):
         found = node.whole()
         if found is None:
-            raise shape.wrong(node, f"`{place}[{k}]`", f"is `{node.value}`, and a whole number without sign, fraction or exponent belongs there.")
+            what = f"`{place}[{k}]` is `{node.value}`, and a whole number without sign, fraction or exponent belongs there."
+            raise shape.wrong(node, what, HOW["number"])
         return found
 
 
 def top(node, what):
     """Returns a node that is an object."""
     if node.kind != "object":
-        raise Fault("WrongShape top", f"the file holds {node.called()}, and {what} is an object: it begins with `{{`.", "", node)
+        raise Fault("WrongShape top", f"the file holds {node.called()}, and {what} is an object.", "Put its members between `{` and `}`.", node)
     return node
 
 

@@ -108,10 +108,18 @@ def head_fault(data, grammar):
             "OtherSpec",
             f"the file was written for another specification. Its digest begins with {data[4:12].hex()}; that of SPEC"
             f" {'and those of its versions begin' if len(known) > 1 else 'begins'} with {', '.join(digest[:8].hex() for digest in known)}.",
-            "Give the specification that the file was written for; `check` writes the text of which the digest is made. If the workflow has grown since"
-            " by modules and productions at the end of their lists, name the earlier one in `versions`.",
+            "Give the specification that the file was written for; `check` writes the text of which the digest is made. If the workflow has grown"
+            " since by modules and productions at the end of their lists, name the earlier one in `versions`.",
         )
     return None
+
+
+def check_word(grammar, number, word):
+    """Refuses the word of a label that is none of a grammar."""
+    why = label_fault(grammar, bytes.fromhex(word))
+    if why:
+        mend = "The labels of a run stand in its label file; `tools/labels.py lines` writes them as such words."
+        raise Fault("Malformed", f"`{word[:80]}` is no label of the specification: {why}.", mend).stands_in(f"label {number}", None)
 
 
 class Entries:

@@ -30,7 +30,7 @@ class Body:
         if position is None:
             return f"the {'input' if begins else 'output'} {quoted(port)} of the head {quoted(self.head.name.value)}"
         module = self.modules[position].name.value
-        return f"the {'output' if begins else 'input'} {quoted(port)} of the position {quoted(position)}, a {quoted(module)},"
+        return f"the {'output' if begins else 'input'} {quoted(port)} of the position {quoted(position)} (module {quoted(module)})"
 
 
 def bodies_of(parts):
@@ -69,13 +69,13 @@ def find_end(body, end, side):
         positions = list(body.modules)
         raise Fault(
             f"UnknownPort {place}",
-            f"{quoted(end.node.value)} names the position {quoted(end.position)}, and the body of {body.way} has none of this name."
+            f"{quoted(end.node.value)} names the position {quoted(end.position)}, and {body.way} has none of this name."
             f"{near(end.position, positions)}",
             f"The positions are: {listed(positions)}. A link names positions, as `POSITION.PORT`, and not modules.",
             end.node,
         )
     module = body.modules[end.position]
-    find_port(module, side, end.port, place, end.node, f"the position {quoted(end.position)} of {body.way} a {quoted(module.name.value)}")
+    find_port(module, side, end.port, place, end.node, f"the position {quoted(end.position)} (module {quoted(module.name.value)}) of {body.way[:-1]}")
 
 
 def ports_are_known(parts):
@@ -118,7 +118,7 @@ def ports_have_one_link(parts):
 def twice_linked(body, end, begins, earlier, node):
     one = " to ".join(part.value for part in earlier.value)
     other = " to ".join(part.value for part in node.value)
-    mend = COPY if begins else "Take one of the two links away. Two data items want two inputs, or a module between that has both as inputs and one output."
+    mend = COPY if begins else "Take one of the two links away. Two data items want two inputs, or a module between with two inputs and one output."
     return Fault(
         f"PortLinkedTwice production {body.number}",
         f"in {body.way} {body.named(end, begins)} has two links: `{one}` and `{other}`.",
@@ -129,31 +129,59 @@ def twice_linked(body, end, begins, earlier, node):
 
 def is_linked(body):
     """Refuses a body with a port that has no link."""
-    linked = set()
-    for first, second, _ in body.links():
-        linked.update(((first, True), (second, False)))
-    wanted = [((position, port), begins) for position, module in body.modules.items() for begins, ports in enumerate(sides_of(module)) for port in ports]
-    wanted += [((None, port), begins) for begins, ports in ((True, sides_of(body.head)[0]), (False, sides_of(body.head)[1])) for port in ports]
-    missing = [(end, bool(begins)) for end, begins in wanted if (end, bool(begins)) not in linked]
+    linked = {(end, begins) for first, second, _ in body.links() for end, begins in ((first, True), (second, False))}
+    inputs, outputs = sides_of(body.head)
+    wanted = [((None, port), True) for port in inputs] + [((None, port), False) for port in outputs]
+    for position, module in body.modules.items():
+        inputs, outputs = sides_of(module)
+        wanted += [((position, port), False) for port in inputs] + [((position, port), True) for port in outputs]
+    missing = [part for part in wanted if part not in linked]
     if missing:
         raise unlinked(body, missing)
 
 
 def unlinked(body, missing):
+    """Returns the fault of a body with ports that have no link, with what may have been meant."""
     (position, port), begins = missing[0]
-    more = f" So have {counted(len(missing) - 1, 'other port')}." if len(missing) > 2 else " So has another port." if len(missing) > 1 else ""
-    told = body.named((position, port), begins).rstrip(",")
+    node = body.part.head if position is None else next(name for name, _ in body.part.body if name.value == position)
+    more = [body.named(*part) for part in missing[1:5]] + ([f"{len(missing) - 5} more"] if len(missing) > 5 else [])
+    also = f" So have {'; '.join(more)}." if len(more) > 1 else f" So has {more[0]}." if more else ""
+    what = f"in {body.way} {body.named(*missing[0])} has no link.{also}"
+    return Fault(f"PortUnlinked production {body.number}", what, link_that_is_missing(missing) or how_to_link(position, port, begins), node)
+
+
+def written(end):
+    return f'"{end[1]}"' if end[0] is None else f'"{end[0]}.{end[1]}"'
+
+
+def link_that_is_missing(missing):
+    """Returns a sentence that proposes the link between two of the ports, where one can begin it and one can end it."""
+    begin = [end for end, begins in missing if begins]
+    ends = [end for end, begins in missing if not begins]
+    pairs = [(first, second) for first in begin for second in ends if first[1] == second[1] or len(begin) == len(ends) == 1]
+    pairs = [(first, second) for first, second in pairs if first[0] is not None or second[0] is not None]
+    if not pairs:
+        return ""
+    first, second = pairs[0]
+    member = "in" if first[0] is None else "out" if second[0] is None else "edges"
+    return f"Add the link `[{written(first)}, {written(second)}]` to `{member}`, if the one is to feed the other."
+
+
+def how_to_link(position, port, begins):
+    """Returns how a port gets its link."""
+    if position is None and begins:
+        return f'Add `["{port}", "POSITION.INPUT"]` to `in`, or take the input from the module.'
     if position is None:
-        mend = f"Add `[\"{port}\", \"POSITION.INPUT\"]` to `in`." if begins else f"Add `[\"POSITION.OUTPUT\", \"{port}\"]` to `out`."
-        mend += " If the step has no such port, take it from its module."
-        node = body.part.head
-    elif begins:
-        mend = f"Lead it on: to an input by `edges`, or to an output of the head by `out`. If nobody reads it, let `{position}.{port}` feed a module without outputs, or take the port from the module."
-        node = next(name for name, _ in body.part.body if name.value == position)
-    else:
-        mend = f"Feed it: from an output by `edges`, or from an input of the head by `in`. If the step does not need it, take the port from the module."
-        node = next(name for name, _ in body.part.body if name.value == position)
-    return Fault(f"PortUnlinked production {body.number}", f"in {body.way} {told} has no link.{more}", mend, node)
+        return f'Add `["POSITION.OUTPUT", "{port}"]` to `out`, or take the output from the module.'
+    if begins:
+        return (
+            f'Lead it on: `["{position}.{port}", "POSITION.INPUT"]` in `edges`, or `["{position}.{port}", "OUTPUT"]` in `out`. If nobody reads it,'
+            " let it feed a module without outputs, or take it from its module."
+        )
+    return (
+        f'Feed it: `["POSITION.OUTPUT", "{position}.{port}"]` in `edges`, or `["INPUT", "{position}.{port}"]` in `in`. If the step does not need'
+        " it, take it from its module."
+    )
 
 
 def lead_onward(parts):
@@ -231,9 +259,9 @@ def versions_are_versions(parts):
 
 def version_fault(parts, version):
     """Returns why numbers of modules and productions are no version, or nothing."""
-    for wanted, held, what in ((version.modules, parts.modules, "modules"), (version.productions, parts.productions, "productions")):
+    for wanted, held, what in ((version.modules, parts.modules, "module"), (version.productions, parts.productions, "production")):
         if wanted > len(held):
-            return f"there are {len(held)} {what}"
+            return f"there {'is' if len(held) == 1 else 'are'} {counted(len(held), what)}"
     known = {module.name.value for module in parts.modules[: version.modules]}
     if parts.start.value not in known:
         return f"the start {quoted(parts.start.value)} is not among these modules"

@@ -61,11 +61,11 @@ def unproductive(grammar, endless):
             position = next(position for position, other in production.body.items() if other in group)
             lines.append(step(production, position))
             culprit = culprit or next(node for node, _ in production.part.body if node.value == position)
-    others = listed([module.name for module in endless if module.name in group])
-    where = f"The fault is at {others}" if told not in group else f"The fault is at {quoted(told)} itself" if len(group) == 1 else f"The fault is at {others} together"
+    others = [module.name for module in endless if module.name in group]
+    where = f"{listed(others)}, which wait for one another" if len(others) > 1 else f"{quoted(told)} itself" if told in group else listed(others)
     return Fault(
         f"Unproductive {told}",
-        f"no run of {quoted(told)} ever ends. {where}: each production there needs a module that has not come to an end before.",
+        f"no run of {quoted(told)} ever ends. The fault is at {where}: no production there has only modules that come to an end.",
         f"Give {quoted(first.name)} one more production, whose positions hold atomic modules or modules that come to an end: this is how the last"
         " repetition is done.",
         culprit,

@@ -16,13 +16,13 @@ def twice(nodes):
 
 
 def bad_name(node, what, place):
-    why = "it is empty" if not node.value else f"it has {counted(len(node.value.encode()), 'byte')}"
+    why = f"{quoted(node.value)} is no name of a {what}: it has {counted(len(node.value.encode()), 'byte')}"
     odd = [sign for sign in node.value if not is_name(sign)]
     if odd:
-        why = f"it has the sign {quoted(odd[0])}"
+        why = f"{quoted(node.value)} is no name of a {what}: it has {'a blank' if odd[0] == ' ' else f'the sign {quoted(odd[0])}'}"
     return Fault(
         f"NameBad {place}",
-        f"{quoted(node.value)} is no name of a {what}: {why}.",
+        f"{why}." if node.value else f"the name of a {what} is empty.",
         f"A name has 1 to 64 letters of ASCII, digits, `_` and `-`. Write for instance `{mended(node.value)}`, here and where the {what} is named.",
         node,
     )

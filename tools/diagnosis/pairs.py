@@ -103,9 +103,9 @@ def mend(assignment, module, pair):
     may = module.in_order(possible_pairs(grammar, view)[module.name])
     pairs = ",".join(f'["{first}","{second}"]' for first, second in may)
     return (
-        f"Leave {quoted(module.name)} closed, and give it the pairs that hold of some of its expansions: `\"expand\":[{','.join(expand)}]` and a part"
-        f" `{{\"module\":\"{module.name}\",\"pairs\":[{pairs}]}}` in `deps`. Then `yes` says that some expansion joins the two. Or change the pairs of the"
-        f" modules inside, so that both ways agree on {quoted(pair[0])} and {quoted(pair[1])}."
+        f"Leave {quoted(module.name)} closed, and give it the pairs that one or the other of its expansions has: `\"expand\":[{','.join(expand)}]`"
+        f" and, in `deps`, `{{\"module\":\"{module.name}\",\"pairs\":[{pairs}]}}`. Then `yes` says that some expansion joins the two. Or change the"
+        f" pairs of the modules inside, so that both ways agree on {quoted(pair[0])} and {quoted(pair[1])}."
     )
 
 

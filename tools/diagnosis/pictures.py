@@ -70,7 +70,8 @@ class Flow:
 def expansion(assignment, word, production, pair, joins, told):
     """Yields the lines of one of the two expansions."""
     flow = Flow(assignment, production, pair[0])
-    yield f"  The {word} expansion, by production {production.number}, {'joins' if joins else 'does not join'} {quoted(pair[0])} to {quoted(pair[1])}:"
+    does = "joins" if joins else "does not join"
+    yield f"  The {word} expansion, by production {production.number}, {does} {quoted(pair[0])} to {quoted(pair[1])}:"
     yield f"    {production.head} by production {production.number}"
     lines = list(tree(assignment, production, told))
     yield from lines[:LINES]

@@ -4,7 +4,7 @@ import textwrap
 import terminal
 
 WIDTH = 110
-WHERE = {"spec": "specification", "view": "view", "labels": "label file", "events": "events", "queries": "queries"}
+WHERE = {"spec": "specification", "view": "view", "labels": "label file", "label": "label", "events": "events", "queries": "queries"}
 
 
 def sentence(text):
@@ -20,24 +20,25 @@ def place(text, node):
 
 def wrapped(text, indent=""):
     """Returns a paragraph in lines of a readable width."""
-    lines = textwrap.wrap(terminal.escaped(text), WIDTH, initial_indent=indent, subsequent_indent=indent, break_long_words=False, break_on_hyphens=False)
-    return [line.rstrip() for line in lines]
+    indents = {"initial_indent": indent, "subsequent_indent": indent}
+    return textwrap.wrap(terminal.escaped(text), WIDTH, **indents, break_long_words=False, break_on_hyphens=False)
 
 
 def excerpt(text, node):
     """Returns the line of the file with signs below that mark the part."""
     line, mark = text.shown(node)
     number = str(text.place(node.at)[0])
-    before = "".join(terminal.escaped(sign) for sign in line[: len(mark) - len(mark.lstrip())])
-    length = len(terminal.escaped(line[len(mark) - len(mark.lstrip()) :][: len(mark.lstrip())]))
-    return ["", f"  {number} | {terminal.escaped(line)}", f"  {' ' * len(number)} | {' ' * len(before)}{'^' * max(1, length)}", ""]
+    begun = mark.index("^")
+    before, marked = terminal.escaped(line[:begun]), terminal.escaped(line[begun : len(mark)])
+    below = " " * len(before) + "^" * max(1, len(marked))
+    return ["", f"  {number} | {terminal.escaped(line)}", f"  {' ' * len(number)} | {below}", ""]
 
 
 def of_fault(fault, said):
     """Returns the lines on a fault, with what the program says of it, or None where it was not asked."""
     file = WHERE[fault.where.split(" ")[0]]
-    message = said if said is not None else fault.message()
-    lines = wrapped(f"wfprov refuses the {file}: {message}" if fault.kind else f"wfprov cannot read the {file}: {message}")
+    does = "refuses" if fault.kind else "cannot read"
+    lines = wrapped(f"wfprov {does if said is not None else 'would say that it ' + does} the {file}: {fault.message()}")
     what = sentence(fault.what)
     if fault.text is not None and fault.node is not None:
         lines += ["", *wrapped(f"{place(fault.text, fault.node)}: {what}"), *excerpt(fault.text, fault.node)]
@@ -63,5 +64,6 @@ def of_doubts(doubts):
 
 def of_difference(fault, said):
     """Returns the lines where the program and this tool find different faults."""
-    own = fault.message() if fault else "nothing is wrong"
-    return wrapped(f"The program says: {said or 'nothing, and accepts the files'}. This tool finds: {own}. The program is right; please report the difference.")
+    own = fault.message() if fault else "that nothing is wrong"
+    end = "The program decides; please report that this tool differs."
+    return wrapped(f"The program says: {said or 'nothing, and accepts the files'}. This tool finds: {own}. {end}")

@@ -65,8 +65,11 @@ class Report:
 def production_in(shape, node):
     found = node.member("production")
     if found is None or found.whole() is None:
-        what = "has no member `production`" if found is None else f"has the production {found.value if found.kind == 'number' else found.called()}"
-        raise shape.wrong(found or node, "the report", f"{what}, and a whole number without sign, fraction or exponent belongs there.")
+        what = "the report has no member `production`"
+        if found is not None:
+            what = f"`production` is {f'`{found.value}`' if found.kind == 'number' else found.called()}"
+        mend = "Write the number of a production, from 0, in the order of the specification, as `\"production\":0`."
+        raise shape.wrong(found or node, f"{what}, and a whole number without sign, fraction or exponent belongs there.", mend)
     return found
 
 
@@ -132,19 +135,22 @@ def placed(run, report):
     grammar, number, names = run.grammar, report.production, report.names
     instance = run.instances[report.subject]
     module = grammar.modules[instance.module]
-    told = f"{quoted(report.subject)} is a {quoted(module.name)}, made in line {instance.line}"
+    told = f"{quoted(report.subject)} is of the module {quoted(module.name)}, made in line {instance.line}"
     ways = ", ".join(str(production.number) for production in module.productions)
-    mend = f"The productions of {quoted(module.name)} are: {ways}." if ways else f"{quoted(module.name)} is atomic, so it is not expanded."
+    mend = f"Write a production of {quoted(module.name)}, of which there are: {ways}."
+    if not ways:
+        mend = f"Take the line away, or name the instance that was meant: the module {quoted(module.name)} is atomic, and is not expanded."
     if number >= len(grammar.productions):
         what = f"there is no production {number}: the specification has {counted(len(grammar.productions), 'production')}, numbered from 0."
-        raise Fault("UnknownProduction", what, f"{told[0].upper()}{told[1:]}. {mend}", report.nodes()[1])
+        raise Fault("UnknownProduction", f"{what} {told[0].upper()}{told[1:]}.", mend, report.nodes()[1])
     production = grammar.productions[number]
     if production.head != module.name:
         raise Fault("WrongHead", f"production {number} is a way to do {quoted(production.head)}, and {told}.", mend, report.nodes()[1])
     if len(production.body) != len(names):
         what = f"production {number} has {counted(len(production.body), 'position')}, and the report has {counted(len(names), 'name')}."
         subject, _, nodes = report.nodes()
-        raise Fault("PositionsWrong", what, f"Give a name for each position, in this order: {listed(list(production.body))}.", nodes[-1] if nodes else subject)
+        mend = f"Give a name for each position, in this order: {listed(list(production.body))}."
+        raise Fault("PositionsWrong", what, mend, nodes[-1] if nodes else subject)
     return list(production.body.items())
 
 
@@ -163,10 +169,12 @@ def new_names(run, report, names):
     for k, name in enumerate(names):
         if name in known or name in run.instances:
             where = "it stands twice in this report" if name in known else f"line {run.instances[name].line} made an instance of this name"
-            raise Fault("NameTwice", f"the name {quoted(name)} is taken: {where}.", "Each instance of a run has a name of its own, whatever its module.", node(k))
+            mend = "Each instance of a run has a name of its own, whatever its module."
+            raise Fault("NameTwice", f"the name {quoted(name)} is taken: {where}.", mend, node(k))
         known.add(name)
     if len(run.instances) + len(names) > MOST_INSTANCES:
-        raise Fault("TooManyInstances", f"with this report the run has more than {MOST_INSTANCES:,} instances.", "Split the run into several.", node(0))
+        what = f"with this report the run has more than {MOST_INSTANCES:,} instances."
+        raise Fault("TooManyInstances", what, "Split the run into several.", node(0))
 
 
 def conflict(earlier, report):
@@ -174,7 +182,8 @@ def conflict(earlier, report):
     subject = report.nodes()[0]
     if not report.expands:
         what = f"line {earlier.number} starts the run already, as {quoted(earlier.subject)}."
-        return Fault(f"Conflict with {earlier.number}", what, "A run has one start. Keep one of the two lines, or give two runs a file each.", subject)
+        mend = "A run has one start. Keep one of the two lines, or give two runs a file each."
+        return Fault(f"Conflict with {earlier.number}", what, mend, subject)
     what = f"line {earlier.number} expands {quoted(report.subject)} already, and in another way: `{earlier.line.decode('utf-8', 'replace')[:200]}`."
     mend = "An instance is expanded once: keep the report of what was done. A second try of a step is another instance, by a production that repeats."
     return Fault(f"Conflict with {earlier.number}", what, mend, subject)

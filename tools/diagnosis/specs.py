@@ -11,7 +11,8 @@ def parts_of(text, form, where):
     """Returns the parts of a file of JSON that has a form."""
     try:
         if text.size > MOST:
-            raise Fault("TooLong", f"the file has {text.size:,} bytes, and at most {MOST:,} are possible.", "Take blanks away, or use one module in several bodies.")
+            what = f"the file has {text.size:,} bytes, and at most {MOST:,} are read."
+            raise Fault("TooLong", what, "Take blanks away, or use one module in several bodies." if where == "spec" else "Take blanks away.")
         return form(text.value())
     except Fault as fault:
         raise fault.stands_in(where, text) from None

@@ -55,7 +55,8 @@ def given_are_closed(grammar, parts):
             raise Fault(
                 f"DepsOnExpanded deps {number}",
                 f"part {number} of `deps` gives pairs to {quoted(part.module.value)}, and the view expands this module.{absent}",
-                f"Take {quoted(part.module.value)} out of `expand`, and its inside stays closed; or take the part away, and its pairs follow from its inside.",
+                f"Name in `expand` the modules to be shown with their inside, without {quoted(part.module.value)}; or take the part away, and its"
+                " pairs follow from its inside.",
                 part.module,
             )
 

@@ -251,6 +251,10 @@ QUERY_CASES = {
     "events-absent": ({"spec": LINE, "view": b"{}", "events": None}, "fault: reading events"),
     "queries-absent": ({"spec": LINE, "view": b"{}", "events": EVENTS, "queries": None}, "fault: reading queries"),
 }
+DECIDE_CASES = {
+    "malformed": ({"spec": LINE, "view": b"{}", "hexes": ("20", "b1")}, "refused: label 2: Malformed"),
+    "malformed-empty": ({"spec": LINE, "view": b"{}", "hexes": ("", "b0")}, "refused: label 1: Malformed"),
+}
 CLOSED = {"expand": ["Main", "Refine"], "deps": [{"module": "Build", "pairs": [["m", "t"]]}]}
 WARNINGS = {
     "nothing": ({"spec": LINE, "view": b"{}", "events": EVENTS, "queries": b"r.a i1.y\n"}, ""),
@@ -264,15 +268,15 @@ WARNINGS = {
     "no-items": (asked(b"r.a i2.y\ni1.x i3.y\nr.a i1.z\n"), ""),
     "no-items-in-labels": (labels(LABELS, queries=b"r.a i2.y\n"), ""),
 }
-CASES = {**SPEC_CASES, **VIEW_CASES, **RUN_CASES, **LABEL_CASES, **QUERY_CASES, **WARNINGS}
+CASES = {**SPEC_CASES, **VIEW_CASES, **RUN_CASES, **LABEL_CASES, **QUERY_CASES, **DECIDE_CASES, **WARNINGS}
 
 
 def write(folder):
-    """Writes the files of each case into a folder of its own. A file that is None is left out."""
+    """Writes the files of each case into a folder of its own. A file that is None is not there, and the words of labels are no file."""
     for name, (files, _) in CASES.items():
         os.makedirs(os.path.join(folder, name), exist_ok=True)
         for file, data in files.items():
-            if data is not None:
+            if isinstance(data, bytes):
                 with open(os.path.join(folder, name, file), "wb") as held:
                     held.write(data)
 
