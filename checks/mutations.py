@@ -22,6 +22,8 @@ sys.path.insert(0, os.path.join(TOP, "tools"))
 from diagnosis import call
 
 EXAMPLES = ["line", "phylogeny", "phylogeny-once", "twisting", "pair", "grown", "skewed", "mapping-cwl", "mapping-nextflow"]
+# How often each file is the one that is changed.
+WEIGHTS = {"spec": 4, "view": 2, "events": 4, "labels": 2, "queries": 1}
 ODD = ["", "a b", "x" * 65, "é", None, 0, 1, -1, 1.5, 2**64, [], {}, True, "T", "x.y", "."]
 
 
@@ -61,35 +63,58 @@ def change_value(value, rng):
     elif kind == 4 and isinstance(held[key], int):
         held[key] = rng.randrange(12)
     elif names:
-        texts = [(other, at) for other in lists_in(value) for at in (other if isinstance(other, dict) else range(len(other))) if isinstance(other[at], str)]
-        other, at = rng.choice(texts)
-        other[at] = rng.choice(names)
+        held, key = rng.choice([(held, key) for held, key in places if isinstance(held[key], str)])
+        held[key] = rng.choice(names)
 
 
-def rename_ends(value, rng):
-    """Exchanges the ends of two links, or the ports of two ends."""
-    ends = [(held, at) for held in lists_in(value) if isinstance(held, list) for at, part in enumerate(held) if isinstance(part, str) and "." in part]
-    if len(ends) > 1:
-        (one, a), (other, b) = rng.sample(ends, 2)
+def exchange_ends(value, rng):
+    """Exchanges the ends of two links, takes a link away, or lets it stand once more."""
+    lists = [part[side] for part in value["productions"] for side in ("edges", "in", "out") if part.get(side)]
+    kind, links = rng.randrange(3), rng.choice(lists)
+    if kind == 0:
+        (one, a), (other, b) = ((rng.choice(rng.choice(lists)), rng.randrange(2)) for _ in range(2))
         one[a], other[b] = other[b], one[a]
+    elif kind == 1:
+        links.remove(rng.choice(links))
+    else:
+        rng.choice(lists).append(list(rng.choice(links)))
+
+
+def like(name, value):
+    """Returns the names of the modules with as many inputs and outputs as one."""
+    sides = {part["name"]: (len(part["in"]), len(part["out"])) for part in value["modules"]}
+    return [other for other, side in sides.items() if side == sides[name]]
+
+
+def hand_on(head, other, value):
+    """Returns a production by which a module is done by another with as many ports."""
+    modules = {part["name"]: part for part in value["modules"]}
+    entries = [[a, f"u.{b}"] for a, b in zip(modules[head]["in"], modules[other]["in"])]
+    exits = [[f"u.{a}", b] for a, b in zip(modules[other]["out"], modules[head]["out"])]
+    return {"head": head, "body": [["u", other]], "in": entries, "out": exits}
 
 
 def change_modules(value, rng):
-    """Lets a position hold another module, a production have another head, or a production stand once more."""
-    productions = value.get("productions")
-    names = [part.get("name") for part in value.get("modules", []) if isinstance(part, dict)]
-    if not productions or not names:
-        return
-    part = rng.choice(productions)
-    kind = rng.randrange(4)
-    if kind == 0 and part.get("body"):
-        rng.choice(part["body"])[1] = rng.choice(names)
+    """Changes what modules are done by, so that most links still fit."""
+    productions, names = value["productions"], [part["name"] for part in value["modules"]]
+    part, kind = rng.choice(productions), rng.randrange(8)
+    if kind == 0:
+        place = rng.choice(part["body"])
+        place[1] = rng.choice(like(place[1], value))
     elif kind == 1:
-        part["head"] = rng.choice(names)
+        part["head"] = rng.choice(like(part["head"], value))
     elif kind == 2:
-        productions.append(json.loads(json.dumps(part)))
-    else:
-        value["versions"] = [[rng.randrange(len(names) + 2), rng.randrange(len(productions) + 2)] for _ in range(rng.randrange(1, 3))]
+        productions.remove(part)
+    elif kind in (3, 4):
+        name = rng.choice(names)
+        productions.append(hand_on(name, rng.choice(like(name, value)), value))
+    elif kind == 5:
+        rng.choice(part["body"])[0] = rng.choice(part["body"])[0]
+    elif kind == 6:
+        part["body"] = part["body"][: rng.randrange(2)]
+    if rng.randrange(3) == 0:
+        versions = [[rng.randrange(len(names) + 2), rng.randrange(len(productions) + 2)] for _ in range(rng.randrange(1, 3))]
+        value["versions"] = versions if kind == 7 else [[len(names), max(0, len(productions) - 1)]]
 
 
 def change_bytes(data, rng):
@@ -107,43 +132,70 @@ def change_bytes(data, rng):
 
 
 def change_json(data, rng):
+    """Changes a file of JSON, in a way that fits a specification where it is one and is whole."""
     try:
         value = json.loads(data)
     except ValueError:
         return change_bytes(data, rng)
-    kind = rng.randrange(4)
-    if kind == 0 and isinstance(value, dict):
-        rename_ends(value, rng)
-    elif kind == 1 and isinstance(value, dict) and isinstance(value.get("modules"), list):
-        try:
-            change_modules(value, rng)
-        except (AttributeError, TypeError, KeyError, IndexError):
-            return change_bytes(data, rng)
-    else:
+    change = rng.choice([change_value, exchange_ends, change_modules, change_modules])
+    try:
+        change(value, rng)
+    except (AttributeError, TypeError, KeyError, IndexError, ValueError):
         change_value(value, rng)
     return json.dumps(value).encode()
+
+
+def change_report(line, lines, rng):
+    """Changes a report: its instance, its production or its names."""
+    try:
+        value = json.loads(line)
+        other = json.loads(rng.choice(lines))
+        kind = rng.randrange(6)
+        if kind == 0:
+            value["production"] = rng.randrange(6)
+        elif kind == 1:
+            value["expand"] = other["expand"]
+        elif kind == 2:
+            value["names"] = value["names"][1:]
+        elif kind == 3:
+            value["names"][rng.randrange(len(value["names"]))] = rng.choice(["r", "a b", "new", other["names"][0]])
+        elif kind == 4:
+            value["start"] = value.pop("expand")
+        else:
+            value["names"], value["time"] = [f"{name}-2" for name in value["names"]], 1.5
+        return json.dumps(value).encode()
+    except (KeyError, IndexError, ValueError, TypeError):
+        return change_bytes(line, rng)
+
+
+def change_name(line, data, rng):
+    """Puts another name of the file in the place of one."""
+    found = list(re.finditer(rb"[\w-]+", line))
+    if not found:
+        return line
+    place = rng.choice(found)
+    return line[: place.start()] + rng.choice(re.findall(rb"[\w-]+", data)) + line[place.end() :]
 
 
 def change_lines(data, rng):
     """Changes the lines of a file at one place."""
     lines = data.split(b"\n")
-    at, other, kind = rng.randrange(len(lines)), rng.randrange(len(lines)), rng.randrange(6)
+    at, other, kind = rng.randrange(len(lines)), rng.randrange(len(lines)), rng.randrange(8)
     if kind == 0:
         del lines[at]
     elif kind == 1:
         lines.insert(other, lines[at])
     elif kind == 2:
         lines[at], lines[other] = lines[other], lines[at]
-    elif kind == 3 and lines[at].startswith(b"{"):
-        lines[at] = change_json(lines[at], rng)
+    elif kind == 3:
+        lines[at] = change_name(lines[at], data, rng)
     elif kind == 4:
-        names = re.findall(rb"[\w-]+", data)
-        found = list(re.finditer(rb"[\w-]+", lines[at]))
-        if found:
-            place = rng.choice(found)
-            lines[at] = lines[at][: place.start()] + rng.choice(names) + lines[at][place.end() :]
-    else:
         lines[at] = change_bytes(lines[at], rng)
+    elif kind == 5:
+        lines[at] += b" " * 65536
+    elif lines[at].startswith(b"{"):
+        changed = change_report(lines[at], lines, rng)
+        lines[at : at + rng.randrange(2)] = [changed]
     return b"\n".join(lines)
 
 
@@ -170,12 +222,18 @@ def change_labels(data, rng):
         end += 2 + int.from_bytes(data[end : end + 2], "big")
         entries.append(data[at:end])
         at = end
-    kind = rng.randrange(4)
+    kind = rng.randrange(6)
     if kind == 0 and entries:
         entries.insert(rng.randrange(len(entries)), rng.choice(entries))
     elif kind == 1 and len(entries) > 1:
         one, other = rng.randrange(len(entries)), rng.randrange(len(entries))
         entries[one], entries[other] = entries[one][: 1 + entries[one][0]] + entries[other][1 + entries[other][0] :], entries[one]
+    elif kind < 5 and entries:
+        one = rng.randrange(len(entries))
+        held = bytearray(entries[one])
+        first = min(1 if kind == 4 else held[0] + 3, len(held) - 1)
+        held[rng.randrange(first, len(held))] ^= 1 << rng.randrange(8)
+        entries[one] = bytes(held)
     else:
         return change_bytes(data, rng)
     return data[:36] + b"".join(entries)
@@ -194,7 +252,7 @@ def mutated(example, rng):
     for name in (third, "queries"):
         if name in there:
             files[name] = held(name)
-    which = rng.choice([name for name in files for _ in range(3 if name == "spec" else 1)])
+    which = rng.choice([name for name in files for _ in range(WEIGHTS[name])])
     for _ in range(rng.choice([1, 1, 1, 2, 3])):
         if which == "view":
             files[which] = change_view(files[which], rng, held("spec"))

@@ -11,7 +11,7 @@ It runs `wfprov` on the files (`check`, `view`, `trace` or `ask`) and finds the 
 the kind of a fault and its place, and no more. VIEW may be `-`: the run is then seen under the default view. A third file that begins with
 the letters `WFL1` is a label file, and any other holds events.
 
-Where nothing is refused it warns of what is accepted and surely not meant: a member that no form knows, or that is given twice; a module
+It warns of what is accepted and surely not meant: a member that no form knows, or that is given twice; a module
 that stands in no body; a module that a view names and never shows; a view that gives a module fewer pairs than its inside has, or than
 the specification gives it; and a question for what is no item, such as an output that leads out of its body.
 
@@ -40,10 +40,10 @@ def findings(files):
     if program and (fault.message() if fault else "") != said:
         return lines + report.of_difference(fault, said), 2
     if fault:
-        return lines + report.of_fault(fault, said), 2
+        return lines + report.of_fault(fault, said) + (report.of_doubts(found.doubts, True) if found.doubts else []), 2
     accepts = f"wfprov accepts the files: {terminal.escaped(files.shown_command())}"
     lines.append(accepts if program else "Nothing is refused by the rules of docs/FORMATS.md.")
-    return (lines + report.of_doubts(found.doubts), 1) if found.doubts else (lines, 0)
+    return (lines + report.of_doubts(found.doubts, False), 1) if found.doubts else (lines, 0)
 
 
 def work(words):

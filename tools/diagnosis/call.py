@@ -6,12 +6,11 @@ import subprocess
 import tempfile
 
 import terminal
-from diagnosis import doubts
+from diagnosis import doubts, specs
 from diagnosis.faults import Fault
 from diagnosis.label_files import MAGIC, check_word, read_labels
 from diagnosis.questions import read_questions
 from diagnosis.runs import read_run
-from diagnosis.specs import read_spec, read_view
 
 TOP = os.path.dirname(os.path.dirname(os.path.dirname(os.path.abspath(__file__))))
 WORDS = "SPEC [VIEW] [EVENTS | LABELS] [QUERIES]"
@@ -105,12 +104,16 @@ class Finding:
             self.fault = fault
 
     def read(self):
-        text, grammar = read_spec(*self.whole("spec", self.files.spec))
-        self.doubts += doubts.of_spec(text, grammar)
+        text, parts = specs.read_parts(*self.whole("spec", self.files.spec))
+        self.doubts += doubts.of_spec(text, parts)
+        grammar = specs.accepted(text, parts)
+        self.doubts += doubts.of_unused(text, grammar)
         if self.files.view is None:
             return
-        text, assignment = read_view(*self.whole("view", self.files.view), grammar)
-        self.doubts += doubts.of_view(text, assignment)
+        text, parts = specs.read_view_parts(*self.whole("view", self.files.view))
+        self.doubts += doubts.of_view(text, parts)
+        assignment = specs.safe(text, parts, grammar)
+        self.doubts += doubts.of_shown(text, assignment)
         for number, word in enumerate(self.files.hexes, 1):
             check_word(grammar, number, word)
         if self.files.third is None:

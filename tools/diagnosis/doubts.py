@@ -32,9 +32,8 @@ def of_deps(text, parts):
         yield from of_members(text, part.node, forms.DEPS, f"part {number} of `deps`")
 
 
-def of_spec(text, grammar):
-    """Yields what is to be said of a specification."""
-    parts = grammar.parts
+def of_spec(text, parts):
+    """Yields what is to be said of the members of a specification, whether it is accepted or not."""
     yield from of_members(text, parts.node, forms.SPEC, "the specification")
     for part in parts.modules:
         missing = [side for side, ports in (("inputs", part.inputs), ("outputs", part.outputs)) if not ports]
@@ -43,6 +42,10 @@ def of_spec(text, grammar):
     for number, part in enumerate(parts.productions):
         yield from of_members(text, part.node, forms.PRODUCTION, f"production {number}")
     yield from of_deps(text, parts.deps)
+
+
+def of_unused(text, grammar):
+    """Yields the modules that stand nowhere."""
     used = {name for production in grammar.productions for name in production.body.values()}
     for module in grammar.modules.values():
         if module.name not in used and module.name != grammar.start:
@@ -50,12 +53,16 @@ def of_spec(text, grammar):
             yield Doubt(what, module.part.name, text)
 
 
-def of_view(text, assignment):
-    """Yields what is to be said of a safe view."""
+def of_view(text, parts):
+    """Yields what is to be said of the members of a view, whether it is accepted or not."""
+    effect = ", and the view expands every composite module" if parts.expand is None else ""
+    yield from of_members(text, parts.node, forms.VIEW, "the view", effect)
+    yield from of_deps(text, parts.deps)
+
+
+def of_shown(text, assignment):
+    """Yields what is to be said of what a safe view names and gives."""
     view, grammar = assignment.view, assignment.grammar
-    effect = ", and the view expands every composite module" if view.parts.expand is None else ""
-    yield from of_members(text, view.parts.node, forms.VIEW, "the view", effect)
-    yield from of_deps(text, view.parts.deps)
     named = [(node, "`expand` names") for node in view.parts.expand or []]
     named += [(part.module, f"part {number} of `deps` gives pairs to") for number, part in enumerate(view.parts.deps)]
     for node, what in named:

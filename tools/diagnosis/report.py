@@ -52,9 +52,10 @@ def of_fault(fault, said):
     return lines + (wrapped(f"To mend it: {fault.mend}") if fault.mend else [])
 
 
-def of_doubts(doubts):
-    """Returns the lines on what is accepted and surely not meant."""
-    lines = ["", "wfprov accepts these, and they are surely not meant:"]
+def of_doubts(doubts, refused):
+    """Returns the lines on what is accepted and surely not meant, which may be the cause where something is refused."""
+    heading = "wfprov ignores or accepts these, and they are surely not meant" if refused else "wfprov accepts these, and they are surely not meant"
+    lines = ["", f"{heading}{', so look here too' if refused else ''}:"]
     for doubt in doubts:
         where = f"{place(doubt.text, doubt.node)}: " if doubt.text is not None else ""
         lines += ["", *wrapped(f"{where}{sentence(doubt.what)}")]

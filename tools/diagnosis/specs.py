@@ -34,23 +34,26 @@ def formed(text, parts):
     return Grammar(parts)
 
 
-def read_spec(path, data):
-    """Returns the text and the grammar of a specification that keeps all rules."""
-    text, parts = read_parts(path, data)
+def accepted(text, parts):
+    """Returns the grammar of parts that keep all rules."""
     grammar = formed(text, parts)
     try:
         for rule in loops.RULES:
             rule(grammar)
     except Fault as fault:
         raise fault.stands_in("spec", text) from None
-    return text, grammar
+    return grammar
 
 
-def read_view(path, data, grammar):
-    """Returns the text of a safe view, and the pairs of what it shows."""
+def read_view_parts(path, data):
+    """Returns the text and the parts of a view."""
     text = Text(path, data)
-    parts = parts_of(text, forms.ViewParts, "view")
+    return text, parts_of(text, forms.ViewParts, "view")
+
+
+def safe(text, parts, grammar):
+    """Returns the pairs of what a view shows that keeps all rules and is safe."""
     try:
-        return text, pairs.is_safe(views.view_of(grammar, parts))
+        return pairs.is_safe(views.view_of(grammar, parts))
     except Fault as fault:
         raise fault.stands_in("view", text) from None

@@ -256,6 +256,13 @@ DECIDE_CASES = {
     "malformed-empty": ({"spec": LINE, "view": b"{}", "hexes": ("", "b0")}, "refused: label 1: Malformed"),
 }
 CLOSED = {"expand": ["Main", "Refine"], "deps": [{"module": "Build", "pairs": [["m", "t"]]}]}
+WITH_WARNINGS = {
+    "misspelt-edges": (spec('"edges":[["u.y"', '"edge":[["u.y"'), "refused: spec: PortUnlinked production 0"),
+    "misspelt-view": (
+        view('{"expanded":["Main"],"deps":[{"module":"Build","pairs":[]}]}', "phylogeny"),
+        "refused: view: DepsOnExpanded deps 0",
+    ),
+}
 WARNINGS = {
     "nothing": ({"spec": LINE, "view": b"{}", "events": EVENTS, "queries": b"r.a i1.y\n"}, ""),
     "expanded": (view(json.dumps({"expanded": ["Main"]}), "phylogeny"), ""),
@@ -268,7 +275,7 @@ WARNINGS = {
     "no-items": (asked(b"r.a i2.y\ni1.x i3.y\nr.a i1.z\n"), ""),
     "no-items-in-labels": (labels(LABELS, queries=b"r.a i2.y\n"), ""),
 }
-CASES = {**SPEC_CASES, **VIEW_CASES, **RUN_CASES, **LABEL_CASES, **QUERY_CASES, **DECIDE_CASES, **WARNINGS}
+CASES = {**SPEC_CASES, **VIEW_CASES, **RUN_CASES, **LABEL_CASES, **QUERY_CASES, **DECIDE_CASES, **WITH_WARNINGS, **WARNINGS}
 
 
 def write(folder):
