@@ -156,6 +156,12 @@ printf '#!/bin/sh\necho "refused: spec: NameBad module 7" >&2\nexit 2\n' >"$work
 chmod +x "$work/other"
 check "a program that says otherwise is told" ends 2 "The program says: refused: spec: NameBad module 7. This tool finds: that nothing is wrong. The program" env WFPROV="$work/other" python3 "$tool" $line/spec
 
+printf '#!/bin/sh\necho "no memory" >&2\nexit 5\n' >"$work/small"
+chmod +x "$work/small"
+check "a program that could not check is told" ends 0 "The program did not check the files: no memory. This is the reading of this tool alone." env WFPROV="$work/small" python3 "$tool" $line/spec
+cp $line/spec "$work/"$'odd\xff'
+check "a path that is no text is read" ends 0 "wfprov accepts the files: wfprov check $work/odd\\xff" python3 "$tool" "$work/"$'odd\xff'
+
 # A name with signs that a terminal obeys is shown with escapes.
 shows_escapes() {
     printf '{"start":"S\\u001b[2J","modules":[]}' >"$work/signs"

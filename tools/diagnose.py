@@ -32,13 +32,15 @@ from terminal import Wrong
 
 def findings(files):
     """Returns the lines on some files, and the status."""
-    program = call.program()
-    said, status = call.said_by(program, files) if program else (None, None)
+    program, lines = call.program(), []
+    said, status = call.said_by(program, files) if program else ("it is not built", None)
+    if status not in call.CHECKED:
+        lines = [*report.wrapped(f"The program did not check the files: {said}. This is the reading of this tool alone."), ""]
+        program = said = None
     found = call.Finding(files)
-    lines = [] if program else ["The program is not built, so this is the reading of this tool alone.", ""]
     fault = found.fault
     if program and (fault.message() if fault else "") != said:
-        return lines + report.of_difference(fault, said), 2
+        return report.of_difference(fault, said), 2
     if fault:
         return lines + report.of_fault(fault, said) + (report.of_doubts(found.doubts, True) if found.doubts else []), 2
     accepts = f"wfprov accepts the files: {terminal.escaped(files.shown_command())}"

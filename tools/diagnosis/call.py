@@ -15,6 +15,8 @@ from diagnosis.runs import read_run
 TOP = os.path.dirname(os.path.dirname(os.path.dirname(os.path.abspath(__file__))))
 WORDS = "SPEC [VIEW] [EVENTS | LABELS] [QUERIES]"
 NO_VIEW, DECIDE = "-", "--decide"
+# The statuses of a program that accepted, refused, or could not read a file.
+CHECKED = (0, 2, 3)
 HEX = re.compile("(?:[0-9A-Fa-f]{2})*")
 
 
@@ -24,8 +26,14 @@ def unreadable(where, path, error):
     return fault.stands_in(where, None)
 
 
+def is_text(path):
+    """Whether a path is UTF-8, as the words of the program are."""
+    return not any("\ud800" <= sign <= "\udfff" for sign in path)
+
+
 class Files:
-    """The files of a call. What is no regular file is read once, into a folder, so that the program and this package read the same."""
+    """The files of a call. What is no regular file, or has a path that the program takes for no word, is read once, into a folder, so that
+    the program and this package read the same."""
 
     def __init__(self, words, folder, hexes=()):
         self.spec, self.view, self.third, self.queries = (*words, None, None, None)[:4]
@@ -47,12 +55,13 @@ class Files:
 
     def kept(self, path):
         """Returns the path of a file that may be read twice."""
-        if path is None or not os.path.exists(path) or os.path.isfile(path) or os.path.isdir(path):
+        if path is None or is_text(path) and (not os.path.exists(path) or os.path.isfile(path) or os.path.isdir(path)):
             return path
         copy = os.path.join(self.folder, str(len(self.names)))
-        with open(path, "rb") as file, open(copy, "wb") as held:
-            shutil.copyfileobj(file, held)
         self.names[copy] = path
+        if os.path.exists(path) and not os.path.isdir(path):
+            with open(path, "rb") as file, open(copy, "wb") as held:
+                shutil.copyfileobj(file, held)
         return copy
 
     def begins_labels(self):
