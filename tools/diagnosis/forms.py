@@ -65,11 +65,14 @@ class Shape:
         """Returns the two texts of each item of a list, each with the item and its place."""
         return [(*self.two(part, "text", at), part, at) for part, at in self.items(node, name, "list", place)]
 
-    def end(self, node, place):
-        """Returns the position and the port that a text with a dot names."""
+    def end(self, node, place, other=None):
+        """Returns the position and the port that a text with a dot names. The other part of its pair is that of the head, if it is given."""
         if "." not in node.value:
             what = f"`{place}` is `{node.value}`, and a position and a port with a dot between belong there."
-            raise self.wrong(node, what, f"Write the position before it, and a dot, as `u.{node.value or 'x'}`.")
+            mend = f"Write the position before it, and a dot, as `u.{node.value or 'x'}`."
+            if other is not None and "." in other.value:
+                mend = "Exchange the two: in `in` the port of the head stands first, and in `out` it stands second."
+            raise self.wrong(node, what, mend)
         return End(node)
 
 
@@ -112,8 +115,8 @@ class ProductionPart:
         self.body_node = shape.member_of(node, "body", "list", place)
         self.body = [(position, module) for position, module, _, _ in shape.pairs(node, "body", place)]
         self.edges = [(shape.end(a, f"{at}[0]"), shape.end(b, f"{at}[1]"), part) for a, b, part, at in shape.pairs(node, "edges", place)]
-        self.entries = [(a, shape.end(b, f"{at}[1]"), part) for a, b, part, at in shape.pairs(node, "in", place)]
-        self.exits = [(shape.end(a, f"{at}[0]"), b, part) for a, b, part, at in shape.pairs(node, "out", place)]
+        self.entries = [(a, shape.end(b, f"{at}[1]", a), part) for a, b, part, at in shape.pairs(node, "in", place)]
+        self.exits = [(shape.end(a, f"{at}[0]", b), b, part) for a, b, part, at in shape.pairs(node, "out", place)]
 
 
 class DepsPart:

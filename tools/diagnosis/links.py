@@ -42,48 +42,58 @@ def sides_of(module):
     return [port.value for port in module.inputs], [port.value for port in module.outputs]
 
 
-def other_side(module, side, port):
-    """Returns a remark where the port is there on the other side."""
-    wanted, there = ("input", "output") if side == "input" else ("output", "input")
-    if port in sides_of(module)[side == "input"]:
-        return f" It is an {there}, and an {wanted} belongs here."
-    return ""
-
-
-def find_port(module, side, port, place, node, owner):
-    """Refuses a port that a module has not on a side."""
+def how_to_name(module, side, exchanged):
+    """Returns how a port that is not there is mended, where the two ends of its link or pair may be exchanged."""
     ports = sides_of(module)[side == "output"]
-    if port not in ports:
-        raise Fault(
-            f"UnknownPort {place}",
-            f"{quoted(port)} is no {side} of {owner}.{other_side(module, side, port)}{near(port, ports)}",
-            f"The {side}s of {quoted(module.name.value)} are: {listed(ports)}. Name one of them, or add this one to the module.",
-            node,
-        )
+    name = quoted(module.name.value)
+    if exchanged:
+        return "Exchange the two: a link begins at an output of a position and ends at an input, and a pair has the input first."
+    if not ports:
+        return f"{name} has no {side}s. Add this one to the module, or take the link or the pair away."
+    return f"The {side}s of {name} are: {listed(ports)}. Name one of them, or add this one to the module."
 
 
-def find_end(body, end, side):
+def find_port(module, side, port, place, node, owner, exchanged=False):
+    """Refuses a port that a module has not on a side."""
+    wanted, others = sides_of(module) if side == "input" else sides_of(module)[::-1]
+    if port not in wanted:
+        one, other = ("an input", "an output") if side == "input" else ("an output", "an input")
+        hint = f" It is {other}, and {one} belongs here." if port in others else near(port, wanted)
+        raise Fault(f"UnknownPort {place}", f"{quoted(port)} is no {side} of {owner}.{hint}", how_to_name(module, side, exchanged), node)
+
+
+def are_exchanged(body, first, second):
+    """Whether an edge begins at an input and ends at an output."""
+    ends = [(body.modules.get(end.position), end.port) for end in (first, second)]
+    return all(module and port in sides_of(module)[k] for k, (module, port) in enumerate(ends))
+
+
+def find_end(body, end, side, exchanged=False):
     """Refuses an end at a position or a port that is not there."""
     place = f"production {body.number}"
     if end.position not in body.modules:
         positions = list(body.modules)
+        there = [position for position, module in body.modules.items() if module.name.value == end.position]
+        hint = f" It is the module at the position {listed(there)}." if there else near(end.position, positions)
         raise Fault(
             f"UnknownPort {place}",
-            f"{quoted(end.node.value)} names the position {quoted(end.position)}, and {body.way} has none of this name."
-            f"{near(end.position, positions)}",
-            f"The positions are: {listed(positions)}. A link names positions, as `POSITION.PORT`, and not modules.",
+            f"{quoted(end.node.value)} names the position {quoted(end.position)}, and {body.way} has none of this name.{hint}",
+            f"The positions are: {listed(positions)}. Name one of them, or add one with this name to `body`. A link names positions, as"
+            " `POSITION.PORT`, and not modules.",
             end.node,
         )
     module = body.modules[end.position]
-    find_port(module, side, end.port, place, end.node, f"the position {quoted(end.position)} (module {quoted(module.name.value)}) of {body.way[:-1]}")
+    owner = f"the position {quoted(end.position)} (module {quoted(module.name.value)}) of {body.way[:-1]}"
+    find_port(module, side, end.port, place, end.node, owner, exchanged)
 
 
 def ports_are_known(parts):
     for body in bodies_of(parts):
         head, place = f"the head {quoted(body.head.name.value)}", f"production {body.number}"
         for first, second, _ in body.part.edges:
-            find_end(body, first, "output")
-            find_end(body, second, "input")
+            exchanged = are_exchanged(body, first, second)
+            find_end(body, first, "output", exchanged)
+            find_end(body, second, "input", exchanged)
         for port, second, _ in body.part.entries:
             find_port(body.head, "input", port.value, place, port, head)
             find_end(body, second, "input")
@@ -97,9 +107,11 @@ def ports_are_known(parts):
 
 def pairs_are_known(module, part, number):
     """Refuses a pair of a part of `deps` that names no input or no output of its module."""
+    inputs, outputs = sides_of(module)
     for first, second in part.pairs:
+        exchanged = first.value in outputs and second.value in inputs
         for port, side in ((first, "input"), (second, "output")):
-            find_port(module, side, port.value, f"deps {number}", port, quoted(module.name.value))
+            find_port(module, side, port.value, f"deps {number}", port, quoted(module.name.value), exchanged)
 
 
 def ports_have_one_link(parts):

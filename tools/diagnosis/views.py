@@ -1,6 +1,6 @@
 """The rules on a view, and what it opens and gives."""
 from diagnosis.faults import Fault
-from diagnosis.links import find_port
+from diagnosis.links import pairs_are_known
 from diagnosis.words import listed, near, quoted
 
 
@@ -63,10 +63,7 @@ def given_are_closed(grammar, parts):
 
 def ports_are_known(grammar, parts):
     for number, part in enumerate(parts.deps):
-        module = grammar.modules[part.module.value]
-        for first, second in part.pairs:
-            for port, side in ((first, "input"), (second, "output")):
-                find_port(module.part, side, port.value, f"deps {number}", port, quoted(module.name))
+        pairs_are_known(grammar.modules[part.module.value].part, part, number)
 
 
 def modules_stand_once(grammar, parts):

@@ -128,6 +128,7 @@ SPEC_CASES = {
     "spec-modules": (spec('"in":["a"],"out":["b"]}', '"in":"a","out":["b"]}'), "refused: spec: WrongShape modules"),
     "spec-productions": (spec('"v.x"]]', '"v.x","u"]]'), "refused: spec: WrongShape productions"),
     "spec-no-dot": (spec('["a","u.x"]', '["a","x"]'), "refused: spec: WrongShape productions"),
+    "spec-exchanged": (spec('["a","u.x"]', '["u.x","a"]'), "refused: spec: WrongShape productions"),
     "spec-deps": (made(deps=lambda _: [{"module": "P"}]), "refused: spec: WrongShape deps"),
     "spec-versions": (made(versions=lambda _: [[3, 1.0]]), "refused: spec: WrongShape versions"),
     "name-bad": (spec('"name":"P"', '"name":"P 1"'), "refused: spec: NameBad module 1"),
