@@ -21,6 +21,9 @@ where in the file, what is wrong by name, and what mends it. tools/diagnose.py r
 | `runs` | the rules on reports |
 | `label_files` | the rules on a label file |
 | `questions` | the rules on queries |
+| `lines` | the lines of EVENTS and QUERIES, and what is refused before they are read |
+| `specs` | a specification and a view, up to their first faults |
 | `doubts` | what is accepted and surely not meant |
 | `call` | which files a call has, and what the program says of them |
+| `report` | what is said of all this, as lines of text |
 """
