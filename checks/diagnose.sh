@@ -62,6 +62,7 @@ LIMITS
 }
 check "files that are too long and runs with too many instances are told, by smaller limits" small_limits
 
+check "at the edges of files, lines, names and labels kind and place are those of the program" python3 checks/edges.py "$program"
 check "on random mutations of the examples kind and place are those of the program" python3 checks/mutations.py "$program" "${1:-500}" "${2:-1}"
 
 # What JSON is, by RFC 8259 and docs/FORMATS.md, in a member that no form knows: the reader and the program take the first, and refuse the second.
