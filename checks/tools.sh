@@ -38,7 +38,7 @@ check "a line of another form is told by its number" \
     says 2 'dot.py: line 2: neither `leaf`, `pending`, `item` nor `link` with its names' 'item r.a\nleaf r\n'
 check "a port without a dot is told by its line" \
     says 2 'dot.py: line 1: `ra` is no instance and port with a dot between' 'link ra i1.x\n'
-check "bytes that are no text are told" says 2 'dot.py: the text is not UTF-8, and so not what `export` writes' '\xff\n'
+check "bytes that are no text are told" says 2 'dot.py: standard input: byte 0: not UTF-8, and so not what `export` writes' '\xff\n'
 check "a file that is not there is told" test "$(python3 tools/dot.py "$work/absent" 2>&1)" = "dot.py: $work/absent: No such file or directory"
 check "the tool tells how it is called" test "$(python3 tools/dot.py --help | grep -c 'export SPEC VIEW EVENTS')" = 1
 check "a picture that cannot be written is told" test "$(python3 tools/dot.py --spec examples/line/spec 2>&1 >/dev/full)" = "dot.py: writing: No space left on device"
@@ -89,39 +89,45 @@ for example in line phylogeny phylogeny-once twisting pair skewed; do
     check "the steps on the cycles of $example are marked" has_cycles "$example"
 done
 
-# Whether dot.py refuses a specification, with this message behind its path.
+# Whether dot.py draws nothing of a specification that is refused, and says of which kind the fault is and who explains it.
 refuses_spec() {
     local ended=0
     printf '%b' "$2" >"$work/spec"
     python3 tools/dot.py --spec "$work/spec" >"$work/out" 2>"$work/err" || ended=$?
-    [ "$ended" = 2 ] && [ ! -s "$work/out" ] && [ "$(cat "$work/err")" = "dot.py: $work/spec: $1" ]
+    [ "$ended" = 2 ] && [ ! -s "$work/out" ] && [ "$(cat "$work/err")" = "dot.py: $work/spec: refused: $1; \`python3 tools/diagnose.py\` says where and why" ]
 }
 
 # The modules P and S of the specifications that follow, and a production of S with these members.
 production() {
     echo '{"start":"S","modules":[{"name":"S","in":["a"],"out":["b"]},{"name":"P","in":["x"],"out":["y"]}],"productions":[{"head":"S",'"$1"'}]}'
 }
-check "what is no JSON is told by line and column" refuses_spec 'line 2 column 1: not JSON' '{"start":\n}'
-check "bytes that are no text are told of a specification" refuses_spec 'not JSON in UTF-8, or nested too deeply' '\xff'
-check "a word that JSON has not is told" refuses_spec 'not JSON in UTF-8, or nested too deeply' '{"start":NaN}'
-check "a list is no specification" refuses_spec 'the file: not an object' '[]'
-check "a member that is not there is told" refuses_spec 'start: not there' '{"modules":[]}'
-check "a member of another form is told" refuses_spec 'modules[0].in[1]: not a text' '{"start":"S","modules":[{"name":"S","in":["a",1]}]}'
-check "a text that is no name is told" refuses_spec 'modules[0].name: `S|` is no name' '{"start":"S","modules":[{"name":"S|"}]}'
-check "a module that stands twice is told" refuses_spec 'modules[1].name: `S` stands twice' '{"start":"S","modules":[{"name":"S"},{"name":"S"}]}'
-check "a port that stands twice is told" refuses_spec 'modules[0].out[0]: `a` stands twice' '{"start":"S","modules":[{"name":"S","in":["a"],"out":["a"]}]}'
-check "an unknown start is told" refuses_spec 'start: `T` is no module' '{"start":"T","modules":[{"name":"S"}]}'
-check "an unknown module of a position is told" refuses_spec 'productions[0].body[0][1]: `T` is no module' "$(production '"body":[["u","T"]]')"
-check "a position that stands twice is told" refuses_spec 'productions[0].body[1][0]: `u` stands twice' "$(production '"body":[["u","P"],["u","P"]]')"
-check "an empty body is told" refuses_spec 'productions[0].body: without a position' "$(production '"body":[]')"
-check "a pair of three is told" refuses_spec 'productions[0].edges[0]: not a list of two texts' "$(production '"body":[["u","P"]],"edges":[["u.y","u.x","u"]]')"
-check "an end without a dot is told" refuses_spec 'productions[0].edges[0][1]: `u` is no position and port with a dot between' "$(production '"body":[["u","P"]],"edges":[["u.y","u"]]')"
-check "an unknown position is told" refuses_spec 'productions[0].in[0][1]: `v` is no position of the body' "$(production '"body":[["u","P"]],"in":[["a","v.x"]]')"
-check "a port of the other side is told" refuses_spec 'productions[0].out[0][0]: `x` is no output of P' "$(production '"body":[["u","P"]],"out":[["u.x","b"]]')"
-check "an unknown port of the head is told" refuses_spec 'productions[0].in[0][0]: `b` is no input of S' "$(production '"body":[["u","P"]],"in":[["b","u.x"]]')"
-check "pairs of a module with productions are told" refuses_spec 'deps[0].module: `S` has productions, and pairs are given to modules that have none' \
-    "$(production '"body":[["u","P"]]}],"deps":[{"module":"S","pairs":[]')"
-check "an unknown port of a pair is told" refuses_spec 'deps[0].pairs[0][1]: `x` is no output of P' "$(production '"body":[["u","P"]]}],"deps":[{"module":"P","pairs":[["x","x"]]')"
+check "what is no JSON is told" refuses_spec 'NotJson' '{"start":\n}'
+check "bytes that are no text are told of a specification" refuses_spec 'NotJson' '\xff'
+check "a word that JSON has not is told" refuses_spec 'NotJson' '{"start":NaN}'
+check "a list is no specification" refuses_spec 'WrongShape top' '[]'
+check "a member that is not there is told" refuses_spec 'WrongShape start' '{"modules":[]}'
+check "a member of another form is told" refuses_spec 'WrongShape modules' '{"start":"S","modules":[{"name":"S","in":["a",1]}]}'
+check "a text that is no name is told" refuses_spec 'NameBad module 0' '{"start":"S","modules":[{"name":"S|"}]}'
+check "a module that stands twice is told" refuses_spec 'NameTwice module 1' '{"start":"S","modules":[{"name":"S"},{"name":"S"}]}'
+check "a port that stands twice is told" refuses_spec 'PortTwice module 0' '{"start":"S","modules":[{"name":"S","in":["a"],"out":["a"]}]}'
+check "an unknown start is told" refuses_spec 'UnknownModule start' '{"start":"T","modules":[{"name":"S"}]}'
+check "an unknown module of a position is told" refuses_spec 'UnknownModule production 0' "$(production '"body":[["u","T"]]')"
+check "a position that stands twice is told" refuses_spec 'PositionTwice production 0' "$(production '"body":[["u","P"],["u","P"]]')"
+check "an empty body is told" refuses_spec 'EmptyBody production 0' "$(production '"body":[]')"
+check "a pair of three is told" refuses_spec 'WrongShape productions' "$(production '"body":[["u","P"]],"edges":[["u.y","u.x","u"]]')"
+check "an end without a dot is told" refuses_spec 'WrongShape productions' "$(production '"body":[["u","P"]],"edges":[["u.y","u"]]')"
+check "an unknown position is told" refuses_spec 'UnknownPort production 0' "$(production '"body":[["u","P"]],"in":[["a","v.x"]]')"
+check "a port of the other side is told" refuses_spec 'UnknownPort production 0' "$(production '"body":[["u","P"]],"out":[["u.x","b"]]')"
+check "an unknown port of the head is told" refuses_spec 'UnknownPort production 0' "$(production '"body":[["u","P"]],"in":[["b","u.x"]]')"
+check "pairs of a module with productions are told" refuses_spec 'DepsOnComposite deps 0' \
+    "$(production '"body":[["u","P"]],"in":[["a","u.x"]],"out":[["u.y","b"]]}],"deps":[{"module":"S","pairs":[]')"
+check "a port without a link is told" refuses_spec 'PortUnlinked production 0' "$(production '"body":[["u","P"]],"in":[["a","u.x"]]')"
+draws_loops() {
+    printf '{"start":"L","modules":[{"name":"L","in":["x"],"out":["y"]}],"productions":[{"head":"L","body":[["p","L"],["q","L"]],"edges":[["p.y","q.x"]],"in":[["x","p.x"]],"out":[["q.y","y"]]}]}' >"$work/spec"
+    [ "$(python3 tools/dot.py --spec "$work/spec" | grep -c '"0\.[pq]" .*penwidth')" = 2 ]
+}
+check "a module with two ways back is drawn with both" draws_loops
+check "an unknown port of a pair is told" refuses_spec 'UnknownPort deps 0' "$(production '"body":[["u","P"]]}],"deps":[{"module":"P","pairs":[["x","x"]]')"
 check "a specification that is not there is told" test "$(python3 tools/dot.py --spec "$work/absent" 2>&1)" = "dot.py: $work/absent: No such file or directory"
 check "missing words are told" test "$(python3 tools/dot.py --spec 2>&1)" = "dot.py: the words behind --spec are not SPEC [SPEC ..] or SPEC --view SHOWN; see --help"
 

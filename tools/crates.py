@@ -6,54 +6,62 @@
 A crate has an arrow to each crate that it uses and that none of the others that it uses stands on. Crates of the kit are left out.
 """
 import os
+import re
 import sys
 
 TOP = os.path.dirname(os.path.dirname(os.path.abspath(__file__)))
+sys.path.insert(0, os.path.dirname(os.path.abspath(__file__)))
+import terminal
+from terminal import Wrong
+
+NAME = re.compile(r"[A-Za-z0-9_-]+")
 
 
 def uses_in(path):
     """Returns for each crate of a file the crates of the file that it uses."""
     uses = {}
-    with open(path, encoding="utf-8") as file:
-        for line in file:
-            name, colon, used = line.partition("#")[0].strip().partition(":")
-            if colon:
-                uses[name.strip()] = used.split()
+    for number, line in enumerate(terminal.read_text(path).splitlines(), 1):
+        name, colon, used = line.partition("#")[0].strip().partition(":")
+        if colon and not NAME.fullmatch(name.strip()):
+            raise Wrong(f"{path}: line {number}: `{name}` is no name of a crate")
+        if colon:
+            uses[name.strip()] = used.split()
     return {name: [other for other in used if other in uses] for name, used in uses.items()}
 
 
-def below(name, uses, found):
-    """Returns all crates on which a crate stands."""
-    if name not in found:
-        found[name] = set(uses[name]).union(*(below(other, uses, found) for other in uses[name]))
-    return found[name]
+def below(uses, path):
+    """Returns for each crate all crates on which it stands."""
+    found, left = {}, dict(uses)
+    while left:
+        ready = [name for name, used in left.items() if all(other in found for other in used)]
+        if not ready:
+            raise Wrong(f"{path}: crates stand on one another in a circle: {', '.join(left)}")
+        for name in ready:
+            found[name] = set(left.pop(name))
+            found[name].update(*(found[other] for other in uses[name]))
+    return found
 
 
-def picture(uses):
-    """Yields the lines of the picture."""
-    found = {}
+def picture(uses, found):
+    """Yields the lines of the picture, from the crates that each uses and those on which it stands."""
     yield "digraph crates {"
     yield "  node [shape=box fontname=Helvetica fontsize=10 height=0.25];"
     yield "  edge [arrowsize=0.6 color=gray40];"
     for name, used in uses.items():
         yield f'  "{name}";'
         for other in used:
-            if not any(other in below(between, uses, found) for between in used):
+            if not any(other in found[between] for between in used):
                 yield f'  "{name}" -> "{other}";'
     yield "}"
 
 
-def main(words):
-    if "--help" in words or "-h" in words:
-        print(__doc__.strip())
-        return 0
-    try:
-        print("\n".join(picture(uses_in(words[0] if words else os.path.join(TOP, "crates.txt")))))
-    except OSError as error:
-        print(f"crates.py: {error.filename}: {error.strerror}", file=sys.stderr)
-        return 2
-    return 0
+def work(words):
+    if len(words) > 1:
+        raise Wrong("at most one CRATES; see --help")
+    path = words[0] if words else os.path.join(TOP, "crates.txt")
+    uses = uses_in(path)
+    terminal.write("\n".join(picture(uses, below(uses, path))) + "\n")
 
 
 if __name__ == "__main__":
-    sys.exit(main(sys.argv[1:]))
+    sys.exit(terminal.run("crates.py", __doc__, work))

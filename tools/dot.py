@@ -22,19 +22,24 @@ entries and exits. A position from which a way leads back to the head, and its p
 cycle. An atomic module that stands in no body is a box of its own. Several specifications have frames with their paths. Under a view
 only the productions of expanded modules are drawn, and the box of each other module lists the pairs that the view shows.
 
-A specification is refused, with the place in the file, where it has not the form of docs/FORMATS.md, where a name is none or stands
-twice, where a module, a position or a port is named that is not there, where a body is empty, and where `deps` names a module with
-productions. The further rules are those of `wfprov check`; this tool does not try them.
+A specification that has not the form of docs/FORMATS.md is refused; `tools/diagnose.py` says where and why. One in which a module is not
+reached, does not end or leads back in two ways is drawn, though `wfprov check` refuses it.
 
 This tool is no part of what is proved. It needs Python's standard library alone.
 """
-import json
+import os
 import re
 import sys
 
+sys.path.insert(0, os.path.dirname(os.path.abspath(__file__)))
+import terminal
+from diagnosis import specs
+from diagnosis.faults import Fault
+from diagnosis.graphs import cycles
+from terminal import Wrong
+
 KINDS = ("leaf", "pending")
 NAME = re.compile(r"[A-Za-z0-9_-]{1,64}")
-FORMS = {dict: "an object", list: "a list", str: "a text"}
 # How many productions stand side by side, in a picture of one specification and of several.
 COLUMNS_OF_ONE, COLUMNS_OF_SEVERAL = 5, 3
 # How many productions the box of a composite module names.
@@ -43,10 +48,6 @@ NAMED_PRODUCTIONS = 4
 PATH = ' color="#1f5fa8" penwidth=2'
 ASKED_ARROW = PATH + ' fontcolor="#1f5fa8"'
 ASKED_OVAL = PATH + ' style=filled fillcolor="#cfe2f7"'
-
-
-class Wrong(Exception):
-    """What is wrong with a line or a specification, with its place."""
 
 
 def name_at(text, place):
@@ -70,7 +71,7 @@ class Export:
     def __init__(self, lines):
         self.closed, self.items, self.links = {}, set(), []
         for number, line in enumerate(lines, 1):
-            self.take(line.rstrip("\n").split(" "), f"line {number}")
+            self.take(line.split(" "), f"line {number}")
 
     def take(self, words, place):
         if words[0] in KINDS and len(words) == 3:
@@ -145,36 +146,6 @@ def path_between(links, first, last):
     return path
 
 
-def of_form(value, form, place):
-    """Returns a value of JSON that has this form."""
-    if not isinstance(value, form):
-        raise Wrong(f"{place}: not {FORMS[form]}")
-    return value
-
-
-def member(value, name, form, place, absent=None):
-    """Returns a member of an object, or what stands for it where it is absent, with its place."""
-    place = f"{place}.{name}" if place else name
-    if name not in value and absent is None:
-        raise Wrong(f"{place}: not there")
-    return of_form(value.get(name, absent), form, place), place
-
-
-def parts(value, name, form, place, absent=None):
-    """Yields the parts of a list that is a member of an object, with their places."""
-    held, place = member(value, name, list, place, absent)
-    for number, part in enumerate(held):
-        yield of_form(part, form, f"{place}[{number}]"), f"{place}[{number}]"
-
-
-def two_texts(value, name, place, absent=None):
-    """Yields the two texts of each part of such a list, with the place of the part."""
-    for part, at in parts(value, name, list, place, absent):
-        if len(part) != 2:
-            raise Wrong(f"{at}: not a list of two texts")
-        yield of_form(part[0], str, f"{at}[0]"), of_form(part[1], str, f"{at}[1]"), at
-
-
 def found_in(name, known, place, what):
     """Returns a name that is among those that are known."""
     if name not in known:
@@ -182,25 +153,14 @@ def found_in(name, known, place, what):
     return name
 
 
-def new_in(name, known, place):
-    """Returns a name that is not among those that are known."""
-    if name_at(name, place) in known:
-        raise Wrong(f"{place}: `{name}` stands twice")
-    return name
-
-
 class Module:
     """A module: its inputs, its outputs, the numbers of its productions, the pairs that `deps` or a view gives, or None, and whether it
     is seen, and its inside shown."""
 
-    def __init__(self, value, place):
-        self.inputs, self.outputs, self.productions, self.pairs = [], [], [], None
+    def __init__(self, module):
+        self.inputs, self.outputs, self.pairs = module.inputs, module.outputs, module.given
+        self.productions = [production.number for production in module.productions]
         self.seen, self.open = True, True
-        known = set()
-        for side, ports in (("in", self.inputs), ("out", self.outputs)):
-            for port, at in parts(value, side, str, place, []):
-                ports.append(new_in(port, known, at))
-                known.add(port)
 
     def is_expanded(self):
         """Whether the productions of the module are drawn, of which there are any."""
@@ -221,60 +181,18 @@ class Production:
     """A production: its head, its body, which has for each position its module, and its links. A link leads from one end to the
     other, and an end is a position and a port, or None and a port of the head."""
 
-    def __init__(self, value, place, modules):
-        head, at = member(value, "head", str, place)
-        self.head = found_in(head, modules, at, "module")
-        self.body = {}
-        for position, module, at in two_texts(value, "body", place):
-            self.body[new_in(position, self.body, f"{at}[0]")] = found_in(module, modules, f"{at}[1]", "module")
-        if not self.body:
-            raise Wrong(f"{place}.body: without a position")
-        self.links = []
-        for first, second, at in two_texts(value, "edges", place, []):
-            self.links.append((self.output(first, f"{at}[0]", modules), self.input(second, f"{at}[1]", modules)))
-        for first, second, at in two_texts(value, "in", place, []):
-            port = found_in(first, modules[self.head].inputs, f"{at}[0]", f"input of {self.head}")
-            self.links.append(((None, port), self.input(second, f"{at}[1]", modules)))
-        for first, second, at in two_texts(value, "out", place, []):
-            port = found_in(second, modules[self.head].outputs, f"{at}[1]", f"output of {self.head}")
-            self.links.append((self.output(first, f"{at}[0]", modules), (None, port)))
-
-    def input(self, text, place, modules):
-        """Returns the end of a link that is an input of a position."""
-        position, port = self.split(text, place)
-        module = self.body[position]
-        return position, found_in(port, modules[module].inputs, place, f"input of {module}")
-
-    def output(self, text, place, modules):
-        """Returns the end of a link that is an output of a position."""
-        position, port = self.split(text, place)
-        module = self.body[position]
-        return position, found_in(port, modules[module].outputs, place, f"output of {module}")
-
-    def split(self, text, place):
-        position, dot, port = text.partition(".")
-        if not dot:
-            raise Wrong(f"{place}: `{text}` is no position and port with a dot between")
-        return found_in(position, self.body, place, "position of the body"), port
+    def __init__(self, production):
+        self.head, self.body, self.links = production.head, production.body, production.links()
 
 
 class Spec:
     """What a specification describes: its start, its modules and its productions, in order, and for each composite module one that
     stands for all that lie on one cycle with it."""
 
-    def __init__(self, value):
-        value = of_form(value, dict, "the file")
-        self.modules, self.productions = {}, []
-        start, start_at = member(value, "start", str, "")
-        for part, at in parts(value, "modules", dict, ""):
-            name, name_place = member(part, "name", str, at)
-            self.modules[new_in(name, self.modules, name_place)] = Module(part, at)
-        self.start = found_in(start, self.modules, start_at, "module")
-        for number, (part, at) in enumerate(parts(value, "productions", dict, "", [])):
-            self.productions.append(Production(part, at, self.modules))
-            self.modules[self.productions[-1].head].productions.append(number)
-        for part, at in parts(value, "deps", dict, "", []):
-            self.take_pairs(part, at)
+    def __init__(self, grammar):
+        self.start = grammar.start
+        self.modules = {name: Module(module) for name, module in grammar.modules.items()}
+        self.productions = [Production(production) for production in grammar.productions]
         self.find_cycles()
 
     def find_cycles(self):
@@ -285,7 +203,7 @@ class Spec:
         for module in self.modules.values():
             module.seen = module.open = False
         for number, line in enumerate(lines, 1):
-            self.take_shown(line.rstrip("\n").split(" "), f"line {number}")
+            self.take_shown(line.split(" "), f"line {number}")
         self.find_cycles()
 
     def take_shown(self, words, place):
@@ -301,16 +219,6 @@ class Spec:
             found_in(first, module.inputs, place, f"input of {words[0]}")
             module.pairs.add((first, found_in(second, module.outputs, place, f"output of {words[0]}")))
 
-    def take_pairs(self, part, place):
-        name, at = member(part, "module", str, place)
-        module = self.modules[found_in(name, self.modules, at, "module")]
-        if module.productions:
-            raise Wrong(f"{at}: `{name}` has productions, and pairs are given to modules that have none")
-        module.pairs = set() if module.pairs is None else module.pairs
-        for first, second, at in two_texts(part, "pairs", place):
-            found_in(first, module.inputs, f"{at}[0]", f"input of {name}")
-            module.pairs.add((first, found_in(second, module.outputs, f"{at}[1]", f"output of {name}")))
-
     def steps(self, module):
         """Returns the modules of the bodies that are drawn of a module."""
         return [step for number in module.productions for step in self.productions[number].body.values()] if module.open else []
@@ -318,39 +226,6 @@ class Spec:
     def ways_back(self, production):
         """Returns the positions of a production from which a way leads back to its head."""
         return [position for position, module in production.body.items() if self.cycle[module] == self.cycle[production.head]]
-
-
-def reached(start, steps, seen):
-    """Yields what is reached from a module and was not seen, each behind what is reached from it first."""
-    seen.add(start)
-    path = [(start, iter(steps[start]))]
-    while path:
-        module, rest = path[-1]
-        for step in rest:
-            if step not in seen:
-                seen.add(step)
-                path.append((step, iter(steps[step])))
-                break
-        else:
-            path.pop()
-            yield module
-
-
-def cycles(steps):
-    """Returns for each module one that stands for all to which it leads and which lead back to it."""
-    back = {module: [] for module in steps}
-    for module, others in steps.items():
-        for other in others:
-            back[other].append(module)
-    seen, order = set(), []
-    for module in steps:
-        if module not in seen:
-            order.extend(reached(module, steps, seen))
-    seen, found = set(), {}
-    for start in reversed(order):
-        if start not in seen:
-            found.update((module, start) for module in reached(start, back, seen))
-    return found
 
 
 def quoted(text):
@@ -482,19 +357,19 @@ def spec_lines(spec, prefix, columns):
 
 def title_of(path):
     """Returns a path as a string of the picture's language, in which any byte may stand."""
-    text = path.encode("utf-8", "backslashreplace").decode()
+    text = terminal.escaped(path)
     return quoted(text.replace("\\", "\\\\").replace('"', '\\"').replace("&", "&amp;"))
 
 
-def spec_picture(specs):
+def spec_picture(held):
     """Yields the lines of the picture of specifications, which are given with their paths."""
     yield "digraph specification {"
     yield "  graph [fontname=Helvetica fontsize=11 nodesep=0.15 ranksep=0.4];"
     yield "  node [fontname=Helvetica fontsize=11 shape=record];"
-    if len(specs) == 1:
-        yield from (f"  {line}" for line in spec_lines(specs[0][1], "", COLUMNS_OF_ONE))
+    if len(held) == 1:
+        yield from (f"  {line}" for line in spec_lines(held[0][1], "", COLUMNS_OF_ONE))
     else:
-        for number, (path, spec) in enumerate(specs):
+        for number, (path, spec) in enumerate(held):
             yield f"  subgraph {quoted(f'cluster_{number}')} {{"
             yield f"    graph [label={title_of(path)}];"
             yield from (f"    {line}" for line in spec_lines(spec, f"{number}/", COLUMNS_OF_SEVERAL))
@@ -502,34 +377,25 @@ def spec_picture(specs):
     yield "}"
 
 
-def not_json(word):
-    raise ValueError(word)
-
-
 def read_spec(path):
-    """Returns the specification of a file."""
+    """Returns the specification of a file, if what it names is there. `wfprov check` may refuse it all the same."""
     try:
-        with open(path, "rb") as file:
-            return Spec(json.loads(file.read().decode("utf-8"), parse_constant=not_json))
-    except OSError as error:
-        raise Wrong(f"{path}: {error.strerror}") from None
-    except json.JSONDecodeError as error:
-        raise Wrong(f"{path}: line {error.lineno} column {error.colno}: not JSON") from None
-    except (ValueError, RecursionError):
-        raise Wrong(f"{path}: not JSON in UTF-8, or nested too deeply") from None
-    except Wrong as wrong:
-        raise Wrong(f"{path}: {wrong}") from None
+        return Spec(specs.formed(*specs.read_parts(path, terminal.read_bytes(path))))
+    except Fault as fault:
+        raise Wrong(f"{path}: refused: {fault.kind}; `python3 tools/diagnose.py` says where and why") from None
+
+
+def lines_in(text):
+    """Returns the lines of a text that the program wrote."""
+    lines = text.split("\n")
+    return lines[:-1] if lines[-1] == "" else lines
 
 
 def read_shown(path, spec):
     """Leaves of a specification what a view shows, as a file tells it."""
+    lines = lines_in(terminal.read_text(path, ", and so not what `view` writes"))
     try:
-        with open(path, encoding="utf-8") as lines:
-            spec.take_view(lines)
-    except OSError as error:
-        raise Wrong(f"{path}: {error.strerror}") from None
-    except UnicodeDecodeError:
-        raise Wrong(f"{path}: not UTF-8, and so not what `view` writes") from None
+        spec.take_view(lines)
     except Wrong as wrong:
         raise Wrong(f"{path}: {wrong}") from None
 
@@ -540,23 +406,17 @@ def picture_of_specs(words):
     paths = words[:1] if view else words
     if not paths or len(view) > 1 or "--view" in paths:
         raise Wrong("the words behind --spec are not SPEC [SPEC ..] or SPEC --view SHOWN; see --help")
-    specs = [(path, read_spec(path)) for path in paths]
+    held = [(path, read_spec(path)) for path in paths]
     for shown in view:
-        read_shown(shown, specs[0][1])
-    return spec_picture(specs)
+        read_shown(shown, held[0][1])
+    return spec_picture(held)
 
 
 def read_export(words):
     """Returns what the lines of a file tell, or those of standard input where no file is given."""
     if len(words) > 1:
         raise Wrong("at most one FILE; see --help")
-    try:
-        with open(words[0] if words else sys.stdin.fileno(), encoding="utf-8") as lines:
-            return Export(lines)
-    except OSError as error:
-        raise Wrong(f"{words[0] if words else 'standard input'}: {error.strerror}") from None
-    except UnicodeDecodeError:
-        raise Wrong("the text is not UTF-8, and so not what `export` writes") from None
+    return Export(lines_in(terminal.read_text(*words, but=", and so not what `export` writes")))
 
 
 def picture_of_run(words):
@@ -569,22 +429,10 @@ def picture_of_run(words):
     return run_picture(export, Question(export, words[1:3]))
 
 
-def main(words):
-    if "--help" in words or "-h" in words:
-        print(__doc__.strip())
-        return 0
-    try:
-        lines = picture_of_specs(words[1:]) if words[:1] == ["--spec"] else picture_of_run(words)
-        sys.stdout.write("\n".join(lines) + "\n")
-        sys.stdout.flush()
-    except OSError as error:
-        print(f"dot.py: writing: {error.strerror}", file=sys.stderr)
-        return 2
-    except Wrong as wrong:
-        print(f"dot.py: {wrong}", file=sys.stderr)
-        return 2
-    return 0
+def work(words):
+    lines = picture_of_specs(words[1:]) if words[:1] == ["--spec"] else picture_of_run(words)
+    terminal.write("\n".join(lines) + "\n")
 
 
 if __name__ == "__main__":
-    sys.exit(main(sys.argv[1:]))
+    sys.exit(terminal.run("dot.py", __doc__, work))

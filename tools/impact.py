@@ -19,10 +19,8 @@ import tempfile
 HERE = os.path.dirname(os.path.dirname(os.path.abspath(__file__)))
 sys.path.insert(0, os.path.dirname(os.path.abspath(__file__)))
 import labels as label_file
-
-
-class Wrong(Exception):
-    """What is wrong, in words."""
+import terminal
+from terminal import Wrong
 
 
 def program():
@@ -33,20 +31,21 @@ def program():
 
 def answers(spec, view, labels, queries):
     """Returns the answers of the program to queries, one for each, as words."""
-    with tempfile.NamedTemporaryFile("w", suffix=".queries") as file:
-        file.write("".join(f"{first} {second}\n" for first, second in queries))
+    with tempfile.NamedTemporaryFile("wb", suffix=".queries") as file:
+        file.write("".join(f"{first} {second}\n" for first, second in queries).encode())
         file.flush()
         ran = subprocess.run([program(), "ask", spec, view, labels, file.name], stdout=subprocess.PIPE, stderr=subprocess.PIPE, check=False)
+    told = ran.stdout.decode("utf-8", "backslashreplace").split()
     if ran.returncode:
-        raise Wrong(ran.stderr.decode().strip())
-    return ran.stdout.decode().split()
+        raise Wrong(terminal.ended(ran.stderr, ran.returncode))
+    if len(told) != len(queries):
+        raise Wrong(f"{program()}: {len(told)} answers to {len(queries)} questions")
+    return told
 
 
 def names_in(labels):
-    """Returns the names of the items of a label file, in order."""
-    with open(labels, "rb") as file:
-        held = file.read()
-    return [name.decode() for name, _ in label_file.entries_of(held)]
+    """Returns the names of the items of a label file, in order. A name that is no text is none of an item, which the program tells."""
+    return [name.decode("utf-8", "backslashreplace") for name, _ in label_file.entries_of(terminal.read_bytes(labels))]
 
 
 def impact(spec, view, labels, item, backwards):
@@ -60,24 +59,13 @@ def impact(spec, view, labels, item, backwards):
     return [name for name, answer in zip(names, told) if answer == "yes"]
 
 
-def main(words):
-    if "--help" in words or "-h" in words:
-        print(__doc__.strip())
-        return 0
+def work(words):
     backwards = words[:1] == ["--of"]
     words = words[1:] if backwards else words
-    try:
-        if len(words) != 4:
-            raise Wrong("the words are not SPEC VIEW LABELS ITEM; see --help")
-        sys.stdout.write("".join(name + "\n" for name in impact(*words, backwards)))
-    except OSError as error:
-        print(f"impact.py: {error.filename}: {error.strerror}", file=sys.stderr)
-        return 2
-    except (Wrong, label_file.Wrong) as wrong:
-        print(f"impact.py: {wrong}", file=sys.stderr)
-        return 2
-    return 0
+    if len(words) != 4:
+        raise Wrong("the words are not SPEC VIEW LABELS ITEM; see --help")
+    terminal.write("".join(name + "\n" for name in impact(*words, backwards)))
 
 
 if __name__ == "__main__":
-    sys.exit(main(sys.argv[1:]))
+    sys.exit(terminal.run("impact.py", __doc__, work))

@@ -8,17 +8,26 @@ The first line is `head` and the 36 bytes of the head in hexadecimal digits. Eac
 its label in hexadecimal digits, in the order of the file. So labels can be kept in a table or a database, and the label file be made
 of them again, byte for byte. `decide` takes labels in these digits.
 
+A label file that is damaged may have entries whose names are those of no item. A byte of such a name that is no printable sign of
+ASCII, a space or a backslash is written as `\\xHH`, an empty name as nothing before the space, and the name `head` as `\\x68ead`.
+
 This tool is no part of what is proved: whether a file is a label file of a grammar is told by `ask`. It needs Python's standard
 library alone.
 """
+import os
+import re
 import sys
+
+sys.path.insert(0, os.path.dirname(os.path.abspath(__file__)))
+import terminal
+from terminal import Wrong
 
 HEAD = 36
 MAGIC = b"WFL1"
-
-
-class Wrong(Exception):
-    """What is wrong with a file or a line, with its place."""
+DIGITS = re.compile("(?:[0-9A-Fa-f]{2})*")
+HIDDEN = re.compile(rb"[^!-\[\]-~]")
+ESCAPE = re.compile(rb"\\x([0-9A-Fa-f]{2})")
+NAME = re.compile(rb"(?:[!-\[\]-~]|\\x[0-9A-Fa-f]{2})*")
 
 
 def entries_of(labels):
@@ -37,78 +46,73 @@ def entries_of(labels):
         yield name, label
 
 
+def name_word(name):
+    """Returns the bytes of a name as a word of a line."""
+    if name == b"head":
+        return "\\x68ead"
+    return HIDDEN.sub(lambda found: b"\\x%02x" % found[0][0], name).decode()
+
+
 def lines_of(labels):
     """Yields the lines of a label file."""
     if labels[:4] != MAGIC or len(labels) < HEAD:
         raise Wrong("the file does not begin with the head of a label file")
     yield f"head {labels[:HEAD].hex()}"
     for name, label in entries_of(labels):
-        if not name.isascii() or b" " in name or b"\n" in name:
-            raise Wrong(f"`{name!r}` is no name of an item")
-        yield f"{name.decode()} {label.hex()}"
+        yield f"{name_word(name)} {label.hex()}"
 
 
 def bytes_of(digits, number):
     """Returns the bytes of hexadecimal digits."""
-    try:
-        return bytes.fromhex(digits) if " " not in digits else None
-    except ValueError:
-        raise Wrong(f"line {number}: `{digits}` is not hexadecimal digits, two for each byte") from None
+    if not DIGITS.fullmatch(digits):
+        raise Wrong(f"line {number}: `{digits}` is not hexadecimal digits, two for each byte")
+    return bytes.fromhex(digits)
 
 
-def file_of(lines):
-    """Yields the parts of the label file of lines."""
-    for number, line in enumerate(lines, 1):
-        words = line.rstrip("\n").split(" ")
+def name_of(word, number):
+    """Returns the bytes of the name that a word of a line stands for."""
+    written = word.encode()
+    if not NAME.fullmatch(written):
+        raise Wrong(f"line {number}: `{word}` is no name: of other signs than those that can be printed, `\\xHH` stands there")
+    return ESCAPE.sub(lambda found: bytes.fromhex(found[1].decode()), written)
+
+
+def words_in(text):
+    """Yields the words of the lines of a text, with their numbers. A line may end with a carriage return."""
+    lines = text.split("\n")
+    for number, line in enumerate(lines[:-1] if lines[-1] == "" else lines, 1):
+        words = line[:-1].split(" ") if line.endswith("\r") else line.split(" ")
         if len(words) != 2 or (words[0] == "head") != (number == 1):
             raise Wrong(f"line {number}: not {'`head`' if number == 1 else 'a name'} and hexadecimal digits with one space between")
-        name, told = words[0].encode(), bytes_of(words[1], number)
+        yield number, words
+
+
+def file_of(text):
+    """Yields the parts of the label file of lines."""
+    for number, words in words_in(text):
+        told = bytes_of(words[1], number)
         if number == 1:
             if told[:4] != MAGIC or len(told) != HEAD:
                 raise Wrong("line 1: these digits are not the head of a label file")
             yield told
-        elif not 0 < len(name) < 256 or len(told) > 65535:
+            continue
+        name = name_of(words[0], number)
+        if len(name) > 255 or len(told) > 65535:
             raise Wrong(f"line {number}: the name has more than 255 bytes, or the label more than 65,535")
-        else:
-            yield bytes([len(name)]) + name + len(told).to_bytes(2, "big") + told
+        yield bytes([len(name)]) + name + len(told).to_bytes(2, "big") + told
 
 
-def write_lines(words):
-    with open(words[0], "rb") as file:
-        labels = file.read()
-    sys.stdout.write("".join(line + "\n" for line in lines_of(labels)))
-
-
-def write_file(words):
-    with open(words[0] if words else sys.stdin.fileno(), encoding="utf-8") as lines:
-        whole = b"".join(file_of(lines))
-    if not whole:
-        raise Wrong("line 1: there is none, and the head of the label file stands there")
-    sys.stdout.buffer.write(whole)
-
-
-def main(words):
-    if "--help" in words or "-h" in words:
-        print(__doc__.strip())
-        return 0
-    try:
-        if words[:1] == ["lines"] and len(words) == 2:
-            write_lines(words[1:])
-        elif words[:1] == ["file"] and len(words) <= 2:
-            write_file(words[1:])
-        else:
-            raise Wrong("the words are not `lines LABELS` or `file [LINES]`; see --help")
-    except OSError as error:
-        print(f"labels.py: {words[1]}: {error.strerror}", file=sys.stderr)
-        return 2
-    except UnicodeDecodeError:
-        print("labels.py: the lines are not UTF-8", file=sys.stderr)
-        return 2
-    except Wrong as wrong:
-        print(f"labels.py: {wrong}", file=sys.stderr)
-        return 2
-    return 0
+def work(words):
+    if words[:1] == ["lines"] and len(words) == 2:
+        terminal.write("".join(line + "\n" for line in lines_of(terminal.read_bytes(words[1]))))
+    elif words[:1] == ["file"] and len(words) <= 2:
+        whole = b"".join(file_of(terminal.read_text(*words[1:])))
+        if not whole:
+            raise Wrong("line 1: there is none, and the head of the label file stands there")
+        terminal.write(whole)
+    else:
+        raise Wrong("the words are not `lines LABELS` or `file [LINES]`; see --help")
 
 
 if __name__ == "__main__":
-    sys.exit(main(sys.argv[1:]))
+    sys.exit(terminal.run("labels.py", __doc__, work))

@@ -12,7 +12,7 @@ without the run, and shows the picture of the workflow in place of that of the r
 The picture is made by `wfprov export`, tools/dot.py and Graphviz. A run of more than 200 links has the picture of its workflow
 instead, if this has no more than 500 links, and its links are listed at the end of the page; so they are where Graphviz is not
 installed. If there are more than 2,000 links, the page has their number alone. Of the run and of the workflow the page shows only what
-the view shows.
+the view shows. A page has at most 10,000 questions.
 
 The tool refuses what `wfprov` refuses, in its words; a file that is no regular file, since each is read more than once; a file that
 changes meanwhile; and a LABELS and an EVENTS of different runs. It then writes no page. Its messages name the file or the command.
@@ -22,6 +22,7 @@ proved. It needs Python's standard library alone.
 """
 import hashlib
 import html
+import itertools
 import json
 import os
 import re
@@ -32,8 +33,14 @@ import sys
 import tempfile
 
 HERE = os.path.dirname(os.path.abspath(__file__))
+sys.path.insert(0, HERE)
+import terminal
+from terminal import Wrong
+
 # How many links of a run are drawn and listed at most, and how many of a workflow are drawn.
 DRAWN_LINKS, LISTED_LINKS, DRAWN_WORKFLOW = 200, 2000, 500
+# How many questions a page has at most.
+QUESTIONS = 10_000
 # How many bytes are read at a time.
 PART = 1 << 20
 
@@ -53,14 +60,9 @@ ul.links { columns: 18rem; padding-left: 1.2rem; font-size: .9em; }
 """
 
 
-class Wrong(Exception):
-    """What is wrong, with the file or the command."""
-
-
 def plain(text):
     """Returns a text for HTML, with a name in place of each sign that cannot be printed."""
-    signs = (sign if sign.isprintable() else sign.encode("unicode_escape", "backslashreplace").decode() for sign in text)
-    return html.escape("".join(signs))
+    return html.escape(terminal.escaped(text))
 
 
 def code(text):
@@ -101,8 +103,7 @@ class Program:
         """Writes what a command writes to a file."""
         ran = subprocess.run([self.path, *words], stdin=subprocess.DEVNULL, stdout=file, stderr=subprocess.PIPE, check=False)
         if ran.returncode:
-            said = ran.stderr.decode("utf-8", "backslashreplace").strip() or f"ended with status {ran.returncode}"
-            raise Wrong(f"wfprov {shlex.join(words)}: {said}")
+            raise Wrong(f"wfprov {shlex.join(words)}: {terminal.ended(ran.stderr, ran.returncode)}")
         file.seek(0)
 
     def lines(self, words):
@@ -134,13 +135,25 @@ def named_by(path):
         raise Wrong(f"{path}: Python cannot read its JSON: {error}") from None
 
 
-def questions_of(path):
-    """Yields the two items of each line of QUERIES that asks a question. The program has taken each of them."""
+def lines_of(path):
+    """Yields the lines of QUERIES that are not empty."""
     with open(path, "rb") as file:
         for line in file:
-            line = line.removesuffix(b"\n").removesuffix(b"\r")
+            line = line.rstrip(b"\n")
+            line = line[:-1] if line.endswith(b"\r") else line
             if line:
-                yield line.decode().split(" ")
+                yield line
+
+
+def refuse_too_many(path):
+    """Refuses a file with more questions than a page has."""
+    if any(True for _ in itertools.islice(lines_of(path), QUESTIONS, None)):
+        raise Wrong(f"{path}: more than {QUESTIONS:,} questions, which are too many for a page; `wfprov` answers them without one")
+
+
+def questions_of(path):
+    """Yields the two items of each line of QUERIES that asks a question. The program has taken each of them."""
+    return (line.decode().split(" ") for line in lines_of(path))
 
 
 class Run:
@@ -166,10 +179,10 @@ class Picture:
         """Returns the picture that dot.py makes with these words from a text, as an element of HTML."""
         made = subprocess.run([sys.executable, os.path.join(HERE, "dot.py"), *words], input=text, capture_output=True, check=False)
         if made.returncode:
-            raise Wrong(made.stderr.decode().strip())
+            raise Wrong(terminal.ended(made.stderr, made.returncode))
         drawn = subprocess.run([self.dot, "-Tsvg"], input=made.stdout, capture_output=True, check=False)
         if drawn.returncode:
-            raise Wrong(f"dot -Tsvg: {drawn.stderr.decode('utf-8', 'replace').strip()}")
+            raise Wrong(f"dot -Tsvg: {terminal.ended(drawn.stderr, drawn.returncode)}")
         svg = drawn.stdout.decode()
         svg = re.sub(r"<!--.*?-->\n?|<title>.*?</title>\n?", "", svg[svg.index("<svg") :], flags=re.DOTALL)
         svg = re.sub(r'\s+xmlns:xlink="[^"]*"', "", svg, count=1)
@@ -416,6 +429,7 @@ def page(program, words):
     """Returns the lines of the page."""
     files = [(word, path, *digest_of(path)) for word, path in words.items() if path != "-"]
     files.append(("wfprov", program.path, *digest_of(program.path)))
+    refuse_too_many(words["QUERIES"])
     of_labels = "LABELS" in words
     grammar = Grammar(program, words["SPEC"])
     shown = program.lines(["view", words["SPEC"], words["VIEW"]])
@@ -451,22 +465,9 @@ def words_of(words):
     return found
 
 
-def main(words):
-    if "--help" in words or "-h" in words:
-        print(__doc__.strip())
-        return 0
-    try:
-        text = "\n".join(page(Program(), words_of(words))) + "\n"
-        sys.stdout.buffer.write(text.encode())
-        sys.stdout.buffer.flush()
-    except OSError as error:
-        print(f"page.py: {error.filename or 'writing'}: {error.strerror}", file=sys.stderr)
-        return 2
-    except Wrong as wrong:
-        print(f"page.py: {wrong}", file=sys.stderr)
-        return 2
-    return 0
+def work(words):
+    terminal.write("\n".join(page(Program(), words_of(words))) + "\n")
 
 
 if __name__ == "__main__":
-    sys.exit(main(sys.argv[1:]))
+    sys.exit(terminal.run("page.py", __doc__, work))

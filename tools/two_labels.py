@@ -13,18 +13,18 @@ Where both name one production of one instance, they share the production, and p
 This tool is no part of what is proved. It refuses a label that is none of the specification, and does not try the rest of the label
 file; `wfprov ask` does. It needs Python's standard library alone.
 """
+import html
 import os
 import sys
 
 sys.path.insert(0, os.path.dirname(os.path.abspath(__file__)))
 import dot
 import labels as label_file
+import terminal
+from label_bits import Bits
+from terminal import Wrong
 
 GREY, BARE, LEFT = ' bgcolor="gray80"', ' border="0"', ' border="0" align="left"'
-
-
-class Wrong(Exception):
-    """What is wrong, in words."""
 
 
 class Cell:
@@ -49,30 +49,10 @@ class Part:
         self.word, self.bits, self.cells = word, bits, cells
 
 
-class Bits:
-    """The bits of a label. `taken` has those that were read since it was emptied, as they were taken."""
-
-    def __init__(self, label):
-        self.left = "".join(f"{byte:08b}" for byte in label)
-        self.taken = []
-
-    def take(self, count):
-        """Returns the next bits, so many."""
-        if len(self.left) < count:
-            raise Wrong("it ends too early")
-        bits, self.left = self.left[:count], self.left[count:]
-        self.taken.append(bits)
-        return bits
-
-    def number(self):
-        """Returns the number that the next gamma code stands for, less one."""
-        zeros = len(self.left) - len(self.left.lstrip("0"))
-        return int(self.take(2 * zeros + 1), 2) - 1
-
-    def part(self, word, *cells):
-        """Returns a part with the bits that were read since the last."""
-        bits, self.taken = " ".join(self.taken), []
-        return Part(word, bits, *cells)
+def part_of(bits, word, *cells):
+    """Returns a part with the bits that were read since the last."""
+    taken, bits.taken = " ".join(bits.taken), []
+    return Part(word, taken, *cells)
 
 
 def at(held, number, what, owner):
@@ -87,19 +67,24 @@ def continuing_steps(count):
     return f"{count} continuing step{'s' * (count != 1)}"
 
 
-def continuing(spec, module):
-    """Returns the module to which the continuing step of a module leads, or None where it has none."""
-    for number in spec.modules[module].productions:
-        for position in spec.ways_back(spec.productions[number]):
-            return spec.productions[number].body[position]
-    return None
+def continuing(spec):
+    """Returns for each module that leads back to itself its continuing step, as the production and the position."""
+    steps = {}
+    for production in spec.productions:
+        for position in spec.ways_back(production):
+            if production.head in steps:
+                raise Wrong(f"`{production.head}` leads back to itself in two ways, so `wfprov check` refuses the specification")
+            steps[production.head] = production, position
+    return steps
 
 
-def after(spec, module, count):
+def after(steps, module, count):
     """Returns the module to which so many continuing steps lead."""
-    around = [module]
-    while continuing(spec, around[-1]) != module:
-        around.append(continuing(spec, around[-1]))
+    around = []
+    while not around or module != around[0]:
+        around.append(module)
+        production, position = steps[module]
+        module = production.body[position]
     return around[count % len(around)]
 
 
@@ -107,9 +92,9 @@ def port_parts(spec, bits):
     """Yields the parts of the label of an input or an output of the run, of which the first bit was read."""
     start = spec.modules[spec.start]
     side, ports = ("output", start.outputs) if bits.take(1) == "1" else ("input", start.inputs)
-    yield bits.part("kind", Cell(side, f"{side} of the run"))
+    yield part_of(bits, "kind", Cell(side, f"{side} of the run"))
     port = at(ports, bits.number(), side, spec.start)
-    yield bits.part(side, Cell(port, port))
+    yield part_of(bits, side, Cell(port, port))
 
 
 def production_at(spec, module, bits):
@@ -122,25 +107,27 @@ def ending(production, bits, cell):
     """Returns the part that names an edge of a production."""
     edges = [(".".join(first), ".".join(second)) for first, second in production.links if first[0] and second[0]]
     edge = at(edges, bits.number(), "edge", f"a production of {production.head}")
-    return bits.part("ending", cell, Cell(edge, f"edge {edge[0]} to {edge[1]}"))
+    return part_of(bits, "ending", cell, Cell(edge, f"edge {edge[0]} to {edge[1]}"))
 
 
 def edge_parts(spec, bits):
     """Yields the parts of the label of what an edge carries, of which the first bit was read."""
-    yield bits.part("kind", Cell("edge", "carried by an edge"))
-    module = spec.start
+    yield part_of(bits, "kind", Cell("edge", "carried by an edge"))
+    module, steps = spec.start, continuing(spec)
     while True:
-        if continuing(spec, module):
+        if module in steps:
             count = bits.number()
-            yield bits.part("chain number", Cell(count, continuing_steps(count)))
-            module = after(spec, module, count)
+            yield part_of(bits, "chain number", Cell(count, continuing_steps(count)))
+            module = after(steps, module, count)
         goes_on = bits.take(1) == "1"
         production, cell = production_at(spec, module, bits)
         if not goes_on:
             yield ending(production, bits, cell)
             return
         position = at(list(production.body), bits.number(), "position", f"a production of {production.head}")
-        yield bits.part("step", cell, Cell(position, f"position {position}"))
+        if steps.get(module) == (production, position):
+            raise Wrong(f"a step along the cycle of {module} stands alone, and belongs to the chain number before it")
+        yield part_of(bits, "step", cell, Cell(position, f"position {position}"))
         module = production.body[position]
 
 
@@ -148,10 +135,8 @@ def parts_of(spec, label):
     """Returns the parts of a label, and behind them the bits that fill the last byte."""
     bits = Bits(label)
     parts = list(edge_parts(spec, bits) if bits.take(1) == "1" else port_parts(spec, bits))
-    if len(bits.left) > 7 or "1" in bits.left:
-        raise Wrong("more stands behind it than zero bits that fill a byte")
-    if bits.take(len(bits.left)):
-        parts.append(bits.part("filling"))
+    if bits.take(bits.end()):
+        parts.append(part_of(bits, "filling"))
     return parts
 
 
@@ -180,6 +165,11 @@ def texts_of(parts):
     return [text for part in parts for cell in part.cells for text in cell.texts()]
 
 
+def plain(text):
+    """Returns a text of a file as one that has no meaning in the picture's table."""
+    return html.escape(terminal.escaped(text))
+
+
 def cell(text, width=1, shared=False, more=""):
     """Returns a cell of the picture's table, so many columns wide."""
     span = f' colspan="{width}"' if width > 1 else ""
@@ -188,7 +178,7 @@ def cell(text, width=1, shared=False, more=""):
 
 def rows_of(parts, item, label):
     """Yields the rows of a label: the words for its parts, with the item; their bits, with the bytes; and what they say."""
-    words, bits, says = [cell(item, more=LEFT)], [cell(label.hex(), more=LEFT)], [cell("", more=BARE)]
+    words, bits, says = [cell(plain(item), more=LEFT)], [cell(label.hex(), more=LEFT)], [cell("", more=BARE)]
     for part in parts:
         texts = texts_of([part])
         width = max(len(texts), 1)
@@ -215,8 +205,8 @@ def picture(labels):
 def picture_of(spec_path, labels_path, items):
     """Returns the lines of the picture of the labels that a label file has of two items."""
     spec = dot.read_spec(spec_path)
-    with open(labels_path, "rb") as file:
-        held = {name.decode("utf-8", "backslashreplace"): label for name, label in label_file.entries_of(file.read())}
+    entries = label_file.entries_of(terminal.read_bytes(labels_path))
+    held = {name.decode("utf-8", "backslashreplace"): label for name, label in entries}
     rows = []
     for item in items:
         if item not in held:
@@ -229,23 +219,11 @@ def picture_of(spec_path, labels_path, items):
     return picture(rows)
 
 
-def main(words):
-    if "--help" in words or "-h" in words:
-        print(__doc__.strip())
-        return 0
-    try:
-        if len(words) != 4:
-            raise Wrong("the words are not SPEC LABELS ITEM ITEM; see --help")
-        sys.stdout.write("\n".join(picture_of(words[0], words[1], words[2:])) + "\n")
-        sys.stdout.flush()
-    except OSError as error:
-        print(f"two_labels.py: {error.filename or 'writing'}: {error.strerror}", file=sys.stderr)
-        return 2
-    except (Wrong, dot.Wrong, label_file.Wrong) as wrong:
-        print(f"two_labels.py: {wrong}", file=sys.stderr)
-        return 2
-    return 0
+def work(words):
+    if len(words) != 4:
+        raise Wrong("the words are not SPEC LABELS ITEM ITEM; see --help")
+    terminal.write("\n".join(picture_of(words[0], words[1], words[2:])) + "\n")
 
 
 if __name__ == "__main__":
-    sys.exit(main(sys.argv[1:]))
+    sys.exit(terminal.run("two_labels.py", __doc__, work))

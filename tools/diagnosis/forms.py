@@ -1,0 +1,178 @@
+"""What JSON values SPEC, VIEW and a line of EVENTS are, as docs/FORMATS.md lists their members.
+
+A part keeps the nodes of its names, so that a rule can say where it is broken. A value of another form is the fault `WrongShape`, with
+the member of the table that it stands in.
+"""
+import difflib
+import json
+
+from diagnosis.faults import Fault
+from diagnosis.files import Span
+
+# The members that a form knows.
+MODULE, PRODUCTION, DEPS = ("name", "in", "out"), ("head", "body", "edges", "in", "out"), ("module", "pairs")
+SPEC, VIEW = ("start", "modules", "productions", "deps", "versions"), ("expand", "deps")
+WRITTEN = {"object": "an object", "list": "a list", "text": "a text", "number": "a whole number"}
+HOW = {
+    "object": "Write an object there, with its members between `{` and `}`.",
+    "list": "Write a list there, between `[` and `]`; a list of nothing is `[]`.",
+    "text": "Write a text there, between double quotes.",
+    "number": "Write a whole number there, as `2`.",
+}
+
+
+class Shape:
+    """Takes values of the forms that are wanted, in one member of the table, and refuses others by that member."""
+
+    def __init__(self, member):
+        self.member = member
+
+    def wrong(self, node, what, mend):
+        return Fault("WrongShape" if self.member is None else f"WrongShape {self.member}", what, mend, node)
+
+    def take(self, node, kind, place):
+        """Returns a node of this kind."""
+        if node.kind != kind:
+            raise self.wrong(node, f"`{place}` is {node.called()}, and {WRITTEN[kind]} belongs there.", in_its_place(node, kind))
+        return node
+
+    def member_of(self, node, name, kind, place):
+        """Returns a member that has to be there."""
+        found = node.member(name)
+        if found is None:
+            owner = f"`{place}`" if place else "The file"
+            what = f"{owner} has no member `{name}`, which is {WRITTEN[kind]}.{like_member(node, name)}"
+            raise self.wrong(Span(node.at, node.at + 1), what, f"Add a member `{name}`. docs/FORMATS.md has an example of each.")
+        return self.take(found, kind, f"{place}.{name}" if place else name)
+
+    def items(self, node, name, kind, place):
+        """Returns the items of a member that is a list, with their places; there are none where the member is not there."""
+        found, place = node.member(name), f"{place}.{name}" if place else name
+        parts = [] if found is None else self.take(found, "list", place).value
+        return [(self.take(part, kind, f"{place}[{k}]"), f"{place}[{k}]") for k, part in enumerate(parts)]
+
+    def texts(self, node, name, place):
+        return [part for part, _ in self.items(node, name, "text", place)]
+
+    def two(self, node, kind, place):
+        """Returns the two items of a list of two."""
+        if len(node.value) != 2:
+            what = f"`{place}` is a list of {len(node.value)}, and a list of two belongs there."
+            raise self.wrong(node, what, "Write exactly two parts; further pairs are lists of their own, with commas between.")
+        return [self.take(part, kind, f"{place}[{k}]") for k, part in enumerate(node.value)]
+
+    def pairs(self, node, name, place):
+        """Returns the two texts of each item of a list, each with the item and its place."""
+        return [(*self.two(part, "text", at), part, at) for part, at in self.items(node, name, "list", place)]
+
+    def end(self, node, place, other=None):
+        """Returns the position and the port that a text with a dot names. The other part of its pair is that of the head, if it is given."""
+        if "." not in node.value:
+            what = f"`{place}` is `{node.value}`, and a position and a port with a dot between belong there."
+            mend = f"Write the position before it, and a dot, as `u.{node.value or 'x'}`."
+            if other is not None and "." in other.value:
+                mend = "Exchange the two: in `in` the port of the head stands first, and in `out` it stands second."
+            raise self.wrong(node, what, mend)
+        return End(node)
+
+
+def in_its_place(node, kind):
+    """Returns what to write in place of a value of another form."""
+    if kind == "list" and node.kind in ("text", "object"):
+        return f"Put it into a list: `[{json.dumps(node.value) if node.kind == 'text' else '{..}'}]`."
+    if kind == "text" and node.kind in ("number", "word"):
+        return f'Put it between double quotes: `"{node.value}"`.'
+    return HOW[kind]
+
+
+def like_member(node, name):
+    """Returns a sentence on a member that may be meant as one that is missing."""
+    close = difflib.get_close_matches(name, [key.value[:64] for key, _ in node.value], 1, 0.5)
+    return f" It has a member `{close[0]}`: is that the one?" if close else ""
+
+
+class End:
+    """An end of a link at a position: what stands before the first dot, and behind it."""
+
+    def __init__(self, node):
+        self.node = node
+        self.position, _, self.port = node.value.partition(".")
+
+
+class ModulePart:
+    def __init__(self, shape, node, place):
+        self.node = node
+        self.name = shape.member_of(node, "name", "text", place)
+        self.inputs, self.outputs = shape.texts(node, "in", place), shape.texts(node, "out", place)
+
+
+class ProductionPart:
+    """A production: its head, the positions with their modules, and its links, each with the item of the list."""
+
+    def __init__(self, shape, node, place):
+        self.node = node
+        self.head = shape.member_of(node, "head", "text", place)
+        self.body_node = shape.member_of(node, "body", "list", place)
+        self.body = [(position, module) for position, module, _, _ in shape.pairs(node, "body", place)]
+        self.edges = [(shape.end(a, f"{at}[0]"), shape.end(b, f"{at}[1]"), part) for a, b, part, at in shape.pairs(node, "edges", place)]
+        self.entries = [(a, shape.end(b, f"{at}[1]", a), part) for a, b, part, at in shape.pairs(node, "in", place)]
+        self.exits = [(shape.end(a, f"{at}[0]", b), b, part) for a, b, part, at in shape.pairs(node, "out", place)]
+
+
+class DepsPart:
+    def __init__(self, shape, node, place):
+        self.node = node
+        self.module = shape.member_of(node, "module", "text", place)
+        shape.member_of(node, "pairs", "list", place)
+        self.pairs = [(a, b) for a, b, _, _ in shape.pairs(node, "pairs", place)]
+
+
+class VersionPart:
+    def __init__(self, shape, node, place):
+        self.node = node
+        self.modules, self.productions = (self.number(shape, part, place, k) for k, part in enumerate(shape.two(node, "number", place)))
+
+    @staticmethod
+    def number(shape, node, place, k):
+        found = node.whole()
+        if found is None:
+            what = f"`{place}[{k}]` is `{node.value}`, and a whole number without sign, fraction or exponent belongs there."
+            raise shape.wrong(node, what, HOW["number"])
+        return found
+
+
+def top(node, what):
+    """Returns a node that is an object."""
+    if node.kind != "object":
+        raise Fault("WrongShape top", f"the file holds {node.called()}, and {what} is an object.", "Put its members between `{` and `}`.", node)
+    return node
+
+
+class SpecParts:
+    """The parts of a specification."""
+
+    def __init__(self, node):
+        self.node = top(node, "a specification")
+        self.start = Shape("start").member_of(node, "start", "text", "")
+        shape = Shape("modules")
+        shape.member_of(node, "modules", "list", "")
+        self.modules = [ModulePart(shape, part, at) for part, at in shape.items(node, "modules", "object", "")]
+        shape = Shape("productions")
+        self.productions = [ProductionPart(shape, part, at) for part, at in shape.items(node, "productions", "object", "")]
+        self.deps = deps_of(node)
+        shape = Shape("versions")
+        self.versions = [VersionPart(shape, part, at) for part, at in shape.items(node, "versions", "list", "")]
+
+
+def deps_of(node):
+    shape = Shape("deps")
+    return [DepsPart(shape, part, at) for part, at in shape.items(node, "deps", "object", "")]
+
+
+class ViewParts:
+    """The parts of a view: the names that it expands, or None where it expands all, and the modules to which it gives pairs."""
+
+    def __init__(self, node):
+        self.node = top(node, "a view")
+        self.expand = None if node.member("expand") is None else Shape("expand").texts(node, "expand", "")
+        self.deps = deps_of(node)

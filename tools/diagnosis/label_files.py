@@ -1,0 +1,175 @@
+"""The rules on a label file: its head, and each entry in turn."""
+import hashlib
+import json
+
+from diagnosis.faults import Fault
+from diagnosis.questions import ITEM, item_fault
+from diagnosis.words import counted, quoted
+from label_bits import Bits
+from terminal import Wrong
+
+MOST, HEAD, MAGIC = 1073741824, 36, b"WFL1"
+
+
+def canonical(grammar, modules, productions):
+    """Returns the canonical text of the first so many modules and productions."""
+
+    def dotted(end):
+        return f"{end[0]}.{end[1]}"
+
+    held = list(grammar.modules.values())[:modules]
+    value = {
+        "start": grammar.start,
+        "modules": [{"name": module.name, "in": module.inputs, "out": module.outputs} for module in held],
+        "productions": [
+            {
+                "head": production.head,
+                "body": [list(position) for position in production.body.items()],
+                "edges": [[dotted(first), dotted(second)] for first, second in production.edges],
+                "in": [[port, dotted(production.entries[port])] for port in grammar.modules[production.head].inputs],
+                "out": [[dotted(production.exits[port]), port] for port in grammar.modules[production.head].outputs],
+            }
+            for production in grammar.productions[:productions]
+        ],
+    }
+    return json.dumps(value, separators=(",", ":"))
+
+
+def digests(grammar):
+    """Returns the digests of a specification and of its versions."""
+    numbers = [(len(grammar.modules), len(grammar.productions))]
+    numbers += [(version.modules, version.productions) for version in grammar.parts.versions]
+    return [hashlib.sha256(canonical(grammar, *pair).encode()).digest() for pair in numbers]
+
+
+def at(held, number, what, owner):
+    """Returns the element of a list with this number, where the owner has one."""
+    if number >= len(held):
+        raise Wrong(f"{owner} has no {what} number {number}")
+    return held[number]
+
+
+def port_of(grammar, bits):
+    """Reads the label of an input or an output of the run, of which the first bit was read, and returns the port."""
+    start = grammar.modules[grammar.start]
+    side, ports = ("output", start.outputs) if bits.take(1) == "1" else ("input", start.inputs)
+    return at(ports, bits.number(), side, quoted(start.name))
+
+
+def edge_of(grammar, bits):
+    """Reads the label of what an edge carries, of which the first bit was read, and returns the production and the edge."""
+    module = grammar.start
+    while True:
+        if module in grammar.continuing:
+            module = after(grammar, module, bits.number())
+        goes_on = bits.take(1) == "1"
+        production = at(grammar.modules[module].productions, bits.number(), "production", quoted(module))
+        if not goes_on:
+            return production, at(production.edges, bits.number(), "edge", f"production {production.number}")
+        position = at(list(production.body), bits.number(), "position", f"production {production.number}")
+        if grammar.continuing.get(module) == (production, position):
+            raise Wrong(f"a step along the cycle of {quoted(module)} stands alone, and belongs to the chain number before it")
+        module = production.body[position]
+
+
+def after(grammar, module, count):
+    """Returns the module to which so many steps along a cycle lead."""
+    around = []
+    while not around or module != around[0]:
+        around.append(module)
+        production, position = grammar.continuing[module]
+        module = production.body[position]
+    return around[count % len(around)]
+
+
+def label_fault(grammar, label):
+    """Returns why bytes are no label of a grammar, or nothing."""
+    bits = Bits(label)
+    try:
+        if bits.take(1) == "1":
+            edge_of(grammar, bits)
+        else:
+            port_of(grammar, bits)
+        bits.end()
+    except Wrong as wrong:
+        return str(wrong)
+    return ""
+
+
+def head_fault(data, grammar):
+    if len(data) > MOST:
+        return Fault("TooLong", f"the file has {len(data):,} bytes, and at most {MOST:,} are read.", "Ask from the events, by `trace`.")
+    if data[:4] != MAGIC or len(data) < HEAD:
+        why = "it does not begin with the letters `WFL1`" if data[:4] != MAGIC else f"it has {counted(len(data), 'byte')}, and its head has {HEAD}"
+        return Fault("NotLabels", f"this is no label file: {why}.", "Give the file that `wfprov ingest SPEC EVENTS` wrote, whole and as bytes.")
+    known = digests(grammar)
+    if data[4:HEAD] not in known:
+        return Fault(
+            "OtherSpec",
+            f"the file was written for another specification. Its digest begins with {data[4:12].hex()}; that of SPEC"
+            f" {'and those of its versions begin' if len(known) > 1 else 'begins'} with {', '.join(digest[:8].hex() for digest in known)}.",
+            "Give the specification that the file was written for; `check` writes the text of which the digest is made. If the workflow has grown"
+            " since by modules and productions at the end of their lists, name the earlier one in `versions`.",
+        )
+    return None
+
+
+def check_word(grammar, number, word):
+    """Refuses the word of a label that is none of a grammar."""
+    why = label_fault(grammar, bytes.fromhex(word))
+    if why:
+        mend = "The labels of a run stand in its label file; `tools/labels.py lines` writes them as such words."
+        raise Fault("Malformed", f"`{word[:80]}` is no label of the specification: {why}.", mend).stands_in(f"label {number}", None)
+
+
+class Entries:
+    """The entries of a label file that keep the rules so far."""
+
+    def __init__(self, data, grammar):
+        self.data, self.grammar, self.names = data, grammar, {}
+
+    def read(self):
+        """Reads all entries, or refuses the first that breaks a rule."""
+        offset = HEAD
+        while offset < len(self.data):
+            offset = self.take(offset)
+
+    def take(self, offset):
+        number, data = len(self.names), self.data
+        name = data[offset + 1 : offset + 1 + data[offset]]
+        behind = offset + 1 + data[offset]
+        size = int.from_bytes(data[behind : behind + 2], "big")
+        label = data[behind + 2 : behind + 2 + size]
+        if len(data) < behind + 2 or len(label) < size:
+            what = f"the last entry, number {number}, begins at byte {offset} and is not whole: the file ends at byte {len(data)}."
+            mend = f"Make the file again by `ingest`. The first {offset} bytes are whole entries, and are a label file: `head -c {offset} LABELS`."
+            raise Fault(f"Truncated offset {offset}", what, mend)
+        self.check(number, offset, name.decode("utf-8", "backslashreplace"), label)
+        return behind + 2 + size
+
+    def check(self, number, offset, name, label):
+        where = f"entry {number}, which begins at byte {offset},"
+        if not ITEM.fullmatch(name):
+            what = f"{where} has a name that is that of no item: {item_fault(name)}."
+            raise Fault(f"BadName entry {number}", what, "Make the file again by `ingest`; `tools/labels.py lines` shows what is in it.")
+        earlier = self.names.setdefault(name, number)
+        if earlier != number:
+            what = f"{where} has the name {quoted(name)}, and so has entry {earlier}."
+            raise Fault(f"NameTwice entry {number}", what, "An item has one label. If two files were put together, ask from each by itself.")
+        why = label_fault(self.grammar, label)
+        if why:
+            what = f"{where} is named {quoted(name)}, and its label `{label.hex()[:80]}` is none of the specification: {why}."
+            raise Fault(f"BadLabel entry {number}", what, "Make the file again by `ingest`; `tools/two_labels.py` draws what a label says.")
+
+
+def read_labels(data, grammar):
+    """Returns the names of the items of a label file, each with its number."""
+    entries = Entries(data, grammar)
+    try:
+        fault = head_fault(data, grammar)
+        if fault:
+            raise fault
+        entries.read()
+    except Fault as fault:
+        raise fault.stands_in("labels", None) from None
+    return entries.names

@@ -1,0 +1,90 @@
+"""The rules on a view, and what it opens and gives."""
+from diagnosis.faults import Fault
+from diagnosis.links import pairs_are_known
+from diagnosis.words import listed, near, quoted
+
+
+class View:
+    """A view that keeps the rules: the modules that it expands, those that are seen, and the pairs that it gives to modules."""
+
+    def __init__(self, grammar, parts):
+        self.grammar, self.parts = grammar, parts
+        composite = [module.name for module in grammar.composite()]
+        self.expanded = set(composite if parts.expand is None else (node.value for node in parts.expand))
+        self.given = {part.module.value: {(a.value, b.value) for a, b in part.pairs} for part in parts.deps}
+        self.seen = grammar.reached([grammar.start], self.expanded)
+
+    def shown_pairs(self, module):
+        """Returns the pairs of a module that the view does not expand."""
+        if module.name in self.given:
+            return self.given[module.name]
+        return module.all_pairs() if module.productions else self.grammar.atomic_pairs(module)
+
+
+def modules_are_known(grammar, parts):
+    names = list(grammar.modules)
+    for number, node in enumerate(parts.expand or []):
+        if node.value not in grammar.modules:
+            raise unknown(node, f"expand {number}", f"`expand` names {quoted(node.value)}", names)
+    for number, part in enumerate(parts.deps):
+        if part.module.value not in grammar.modules:
+            raise unknown(part.module, f"deps {number}", f"part {number} of `deps` gives pairs to {quoted(part.module.value)}", names)
+
+
+def unknown(node, place, what, names):
+    mend = f"Name a module of the specification: {listed(names)}. A view names modules, and not positions or instances."
+    return Fault(f"UnknownModule {place}", f"{what}, and the specification has no module of this name.{near(node.value, names)}", mend, node)
+
+
+def expanded_are_composite(grammar, parts):
+    for number, node in enumerate(parts.expand or []):
+        if not grammar.modules[node.value].productions:
+            raise Fault(
+                f"NotComposite expand {number}",
+                f"`expand` names {quoted(node.value)}, which has no production in the specification, and so no inside that could be shown.",
+                f"Take it from the list. The modules that have an inside are: {listed([module.name for module in grammar.composite()])}.",
+                node,
+            )
+
+
+def given_are_closed(grammar, parts):
+    expanded = {module.name for module in grammar.composite()} if parts.expand is None else {node.value for node in parts.expand}
+    for number, part in enumerate(parts.deps):
+        if part.module.value in expanded:
+            absent = " The view has no member `expand`, so it expands every composite module." if parts.expand is None else ""
+            raise Fault(
+                f"DepsOnExpanded deps {number}",
+                f"part {number} of `deps` gives pairs to {quoted(part.module.value)}, and the view expands this module.{absent}",
+                f"Name in `expand` the modules to be shown with their inside, without {quoted(part.module.value)}; or take the part away, and its"
+                " pairs follow from its inside.",
+                part.module,
+            )
+
+
+def ports_are_known(grammar, parts):
+    for number, part in enumerate(parts.deps):
+        pairs_are_known(grammar.modules[part.module.value].part, part, number)
+
+
+def modules_stand_once(grammar, parts):
+    for nodes, word in ((parts.expand or [], "expand"), ([part.module for part in parts.deps], "deps")):
+        known = {}
+        for number, node in enumerate(nodes):
+            first = known.setdefault(node.value, number)
+            if first != number:
+                raise Fault(
+                    f"ModuleTwice {word} {number}",
+                    f"{quoted(node.value)} stands twice in `{word}`: as number {first} and as number {number}, from 0.",
+                    "Take one of the two away." if word == "expand" else "Put the pairs of both parts into one.",
+                    node,
+                )
+
+
+RULES = (modules_are_known, expanded_are_composite, given_are_closed, ports_are_known, modules_stand_once)
+
+
+def view_of(grammar, parts):
+    """Returns the view of parts that keep the rules."""
+    for rule in RULES:
+        rule(grammar, parts)
+    return View(grammar, parts)
