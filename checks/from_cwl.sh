@@ -133,6 +133,18 @@ check "an unknown option is told" refuses 'call: `--trace` is no option; see --h
 python3 tools/from_cwl.py --help >"$work/help"
 check "the tool tells how it is called" grep -q 'WORKFLOW --run RECORD SPEC EVENTS' "$work/help"
 
+printf '{"cwlVersion":"v1.0\\u001b[31m"}' >"$work/wrong"
+check "control characters are shown as escapes" refuses \
+    'document: cwlVersion is `v1.0\x1b[31m`, and not one of v1.0, v1.1, v1.2' "$work/wrong" "$work/spec"
+cp "$golden/mapping/workflow.json" "$golden/mapping/record.json" "$work"
+importer=$PWD/tools/from_cwl.py given=(workflow.json --run record.json) kept=record.json
+. checks/outputs.sh
+given=(workflow.json --run "$PWD/$golden/cwlprov/metadata/provenance/primary.cwlprov.json")
+keeps_the_document() {
+    kept=workflow.json && cp "$golden/cwlprov/workflow/packed.cwl" "$work/workflow.json" && keeps_what_it_reads
+}
+check "no output is written over the document" keeps_the_document
+
 # Random workflows: each answer is compared with reachability in the workflow, and the counts are printed.
 cases=${CASES:-1000}
 check "$cases random workflows answer as reachability in them does" python3 "$golden/property.py" "$program" "$cases"

@@ -372,8 +372,7 @@ def one_case(program, folder, seed, counts):
     for word, text in (("trace", trace_text), ("dag", written_dag(pipeline)), ("view", "{}")):
         with open(path[word], "w", encoding="utf-8") as file:
             file.write(text)
-    if from_nextflow.main([path[word] for word in ("trace", "dag", "spec", "events")]):
-        raise AssertionError("it is refused")
+    from_nextflow.work([path[word] for word in ("trace", "dag", "spec", "events")])
     expected = Expected(pipeline, order)
     names = list(expected.items)
     pairs = [(first, second) for first in names for second in names]

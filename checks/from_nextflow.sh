@@ -91,6 +91,17 @@ check "a process that stands twice is told" mermaid_with '8s/SORT/ALIGN/' 'dag l
 check "a DAG of another form is told" mermaid_with '1s/.*/<gexf>/' 'dag line 1: a DAG begins with `digraph` (DOT) or `flowchart` (Mermaid), and this does not'
 check "a DAG without a process is told" mermaid_with '2,$d' 'dag line 1: the DAG has no process'
 
+# A task that failed under one process and is done under another of its name: the process of the first has no task.
+refuses_another_process() {
+    rm -f "$work/spec" "$work/events"
+    printf '%s\n' 'flowchart TD' 'p1[A]' >"$work/dag"
+    printf 'process\tname\tstatus\n%s\tA (x)\tFAILED\n%s\tA (x)\tCOMPLETED\n' A 'A (x)' >"$work/trace"
+    refuses 'trace line 2: the task `A (x)` is FAILED, and no task of that name was completed'
+}
+check "a task that is done under another process is told" refuses_another_process
+check "control characters are shown as escapes" trace_with "2s/COMPLETED/\x1b[31mred/" \
+    'trace line 2: the status `\x1b[31mred` is none of a task that has ended'
+
 # Two processes whose names become one.
 refuses_alike() {
     begin mmd
@@ -157,6 +168,10 @@ check "a file that is not there is told" says "$work/absent: No such file or dir
 check "a file that cannot be written is told" says "$work/no/spec: No such file or directory" "$golden/mapping.trace" "$golden/mapping.dot" "$work/no/spec" "$work/events"
 check "other words are told" says 'TRACE DAG SPEC EVENTS are asked for; see --help' "$golden/mapping.trace"
 check "the tool tells how coarse an answer is" grep -q 'How coarse an answer is' <(python3 "$tool" --help)
+
+begin dot
+importer=$tool given=(trace dag) kept=dag
+. checks/outputs.sh
 
 check "random pipelines are answered as a search in their tasks answers" python3 checks/from_nextflow.py "$program" "${1:-1000}" "${2:-1}"
 

@@ -54,8 +54,13 @@ limits of wfprov. Nothing is written then.
 This tool is no part of what is proved. It needs Python's standard library alone.
 """
 import json
+import os
 import re
 import sys
+
+sys.path.insert(0, os.path.dirname(os.path.abspath(__file__)))
+import outputs
+import terminal
 
 # The limits of wfprov.
 PORTS = POSITIONS = NAME_LENGTH = 64
@@ -70,12 +75,9 @@ OPERATORS = EACH_ALONE | frozenset(
     " subscribe sum take toDouble toFloat toInteger toList toLong toSortedList unique until".split())
 
 
-class Wrong(Exception):
-    """A place and what is wrong there."""
-
-
 def refuse(place, what):
-    raise Wrong(f"{place}: {what}")
+    """Refuses what stands at a place."""
+    raise terminal.Wrong(f"{place}: {what}")
 
 
 def plain(text, place):
@@ -115,7 +117,7 @@ def lines_of(path):
                 except UnicodeDecodeError:
                     refuse(place, "the text is not UTF-8")
     except OSError as error:
-        refuse(path, error.strerror)
+        refuse(path, terminal.reason(error))
 
 
 # The trace.
@@ -173,8 +175,8 @@ class Trace:
             if len(fields) != width:
                 refuse(place, f"the line has {len(fields)} fields, and the header {width}")
             self.take(place, fields, columns)
-        for name, (place, status) in self.without.items():
-            if name not in self.completed:
+        for (process, name), (place, status) in self.without.items():
+            if self.completed.get(name, (None, None))[1] != process:
                 refuse(place, f"the task `{name}` is {status}, and no task of that name was completed")
 
     def take(self, place, fields, columns):
@@ -183,13 +185,13 @@ class Trace:
         process, tag = task_of(place, fields, columns)
         self.first.setdefault(process, place)
         if status in ENDED_WITHOUT_RESULT:
-            self.without.setdefault(name, (place, status))
+            self.without.setdefault((process, name), (place, status))
         elif status != "COMPLETED":
             refuse(place, f"the status `{status}` is none of a task that has ended")
         elif name in self.completed:
-            refuse(place, f"two tasks are named `{name}`, and the other ({self.completed[name]}) was completed too")
+            refuse(place, f"two tasks are named `{name}`, and the other ({self.completed[name][0]}) was completed too")
         else:
-            self.completed[name] = place
+            self.completed[name] = place, process
             self.tasks.setdefault(process, []).append((tag, place))
 
     def tags(self, process):
@@ -749,35 +751,17 @@ class Converter:
         yield {"expand": waiting, "production": production + 1, "names": [ending]}
 
 
-def write(path, text):
-    """Writes a text to a file."""
-    try:
-        with open(path, "w", encoding="ascii") as file:
-            file.write(text)
-    except OSError as error:
-        refuse(path, error.strerror)
-
-
-def main(words):
-    if "--help" in words or "-h" in words:
-        print(__doc__.strip())
-        return 0
+def work(words):
+    """Imports what the words name."""
     if len(words) != 4:
-        print("from_nextflow.py: TRACE DAG SPEC EVENTS are asked for; see --help", file=sys.stderr)
-        return 2
+        raise terminal.Wrong("TRACE DAG SPEC EVENTS are asked for; see --help")
     trace_path, dag_path, spec_path, events_path = words
-    try:
-        spec, events = Converter(Trace(trace_path), Dag(dag_path), dag_path).convert()
-        for path, text, most in ((spec_path, spec, SPEC_BYTES), (events_path, events, EVENTS_BYTES)):
-            if len(text) > most:
-                refuse(path, f"the text would have {len(text)} bytes, and at most {most} are taken")
-        write(spec_path, spec)
-        write(events_path, events)
-    except Wrong as wrong:
-        print(f"from_nextflow.py: {wrong}", file=sys.stderr)
-        return 2
-    return 0
+    spec, events = Converter(Trace(trace_path), Dag(dag_path), dag_path).convert()
+    for path, text, most in ((spec_path, spec, SPEC_BYTES), (events_path, events, EVENTS_BYTES)):
+        if len(text) > most:
+            refuse(path, f"the text would have {len(text)} bytes, and at most {most} are taken")
+    outputs.write_all([(spec_path, spec), (events_path, events)], [trace_path, dag_path])
 
 
 if __name__ == "__main__":
-    sys.exit(main(sys.argv[1:]))
+    sys.exit(terminal.run("from_nextflow.py", __doc__, work))
