@@ -54,6 +54,18 @@ check "they give the files that are kept" is_kept cwlprov
 check "they are taken, and the default view is safe" is_taken
 check "they answer as by hand" answers cwlprov
 
+# A record of cwltool with all of its members, and another document that it contradicts.
+linear=tools/golden/from_cwlprov/linear
+check "a record that its document allows is imported" imports "$linear/workflow/packed.cwl" "$linear/metadata/provenance/primary.cwlprov.json"
+contradicts() {
+    local made
+    sed 's|"source": "#main/order/sorted"|"source": "#main/again/sorted"|' "$linear/workflow/packed.cwl" >"$work/other"
+    ! cmp -s "$work/other" "$linear/workflow/packed.cwl" || return 1
+    ! python3 tools/from_cwl.py "$work/other" --run "$linear/metadata/provenance/primary.cwlprov.json" "$work/spec" "$work/events" 2>"$work/err" || return 1
+    grep -q "^from_cwl.py: $linear/metadata/provenance/primary.cwlprov.json: id:[^ ]*: it used \`id:[^ ]*\` in the role \`left\`, which id:[^ ]* made, and document: #main/join/left lets it come from elsewhere$" "$work/err"
+}
+check "a record of another document is refused with both places" contradicts
+
 writes_spec_alone() {
     rm -f "$work/spec"
     python3 tools/from_cwl.py "$golden/mapping/workflow.json" "$work/spec" && cmp -s "$work/spec" "$golden/mapping/spec"

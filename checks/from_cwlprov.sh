@@ -1,7 +1,7 @@
 #!/usr/bin/env bash
 # Checks of tools/from_cwlprov.py: records of runs of cwltool, of which the answers on files were worked out by hand from the document, the
 # inputs and the record; records and documents that are refused; and random ones.
-# The words are how many random records are tried, and from which seed; 300 and 1 where they are not given.
+# The words are how many random records are tried, and from which seed; 100 and 1 where they are not given.
 set -euo pipefail
 
 cd "$(dirname "${BASH_SOURCE[0]}")/.."
@@ -123,5 +123,8 @@ keeps_the_record() {
         cmp -s "$work/run/$document" "$golden/chained/$document"
 }
 check "the record is not written over" keeps_the_record
+
+cases=${1:-100}
+check "$cases random runs answer as what was noted when their files were made" python3 checks/from_cwlprov.py "$program" "$cases" "${2:-1}"
 
 finish

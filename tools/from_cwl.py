@@ -67,6 +67,7 @@ from collections import deque
 from urllib.parse import unquote
 
 sys.path.insert(0, os.path.dirname(os.path.abspath(__file__)))
+import from_cwlprov
 import outputs
 import terminal
 
@@ -814,6 +815,12 @@ class Run:
         self.waiting.append((self.turn, base, names[2], loop, identity, path, number + 1, elements, place))
 
 
+def compare(workflow, record, path):
+    """Refuses files of CWLProv by which an execution used or made something that the document lets come from elsewhere."""
+    if isinstance(record, dict) and "activity" in record:
+        from_cwlprov.Import(from_cwlprov.Reading(path, from_cwlprov.Document(workflow, "document"), []))
+
+
 def imported(workflow, record, path, read):
     """Returns the texts of SPEC and, where a record is given, of EVENTS. The path is that of the record."""
     document = Document(workflow)
@@ -821,6 +828,7 @@ def imported(workflow, record, path, read):
     if record is None:
         return [library.text()]
     lines = Run(document, library, record_of(record, path, document, read)).lines
+    compare(workflow, record, path)
     return [library.text(), "".join(compact(line) + "\n" for line in lines)]
 
 

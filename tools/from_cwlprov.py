@@ -457,6 +457,7 @@ class Import:
         expressions = [value for value in allowed if value in self.lazy and self.lazy[value][2]]
         missing = [value for value in allowed if value in self.lazy and not self.lazy[value][2]]
         if entity in self.maker and (entity in there or expressions):
+            self.note_ways(step, role, (entity in there) + len(expressions))
             return [entity] + self.revived(expressions)
         if entity in self.maker and role not in step.changed:
             refuse(place, f"it used `{entity}` in the role `{role}`, which {self.maker[entity][0]} made, "
@@ -466,10 +467,16 @@ class Import:
         if len(alike) > 1:
             self.note(step, f"several values that may come to `{role}` have one content: each of them is taken")
         if alike or expressions:
+            self.note_ways(step, role, bool(alike) + len(expressions))
             return alike + self.revived(expressions)
         if missing:
             return self.revived(missing) + (there if role in step.changed else [])
         return self.computed(step, role, entity, there, place)
+
+    def note_ways(self, step, role, count):
+        """Notes that a file may have come through this or that expression, or through none."""
+        if count > 1:
+            self.note(step, f"what came to `{role}` may have come through an ExpressionTool, in {count} ways: each of them is taken")
 
     def computed(self, step, role, entity, there, place):
         """Returns what an entity may be that is no value of the record: all that may come there, or a constant of the document."""
@@ -517,6 +524,11 @@ def words_of(words):
     return coarse, document, rest
 
 
+def complain(line):
+    """Says on standard error what is coarse."""
+    terminal.complain("from_cwlprov.py", line)
+
+
 def work(words):
     """Imports what the words name."""
     coarse, document, (record, *places) = words_of(words)
@@ -530,9 +542,9 @@ def work(words):
     imported = actions.imported(made.record, coarse)
     outputs.write_all(list(zip(places, (imported.spec, imported.events, imported.table))), read)
     for place, what in made.notes:
-        terminal.complain("from_cwlprov.py", f"{place}: {what}")
+        complain(f"{place}: {what}")
     for note in imported.notes:
-        terminal.complain("from_cwlprov.py", note)
+        complain(note)
 
 
 if __name__ == "__main__":
