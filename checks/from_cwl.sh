@@ -149,6 +149,7 @@ printf '{"cwlVersion":"v1.0\\u001b[31m"}' >"$work/wrong"
 check "control characters are shown as escapes" refuses \
     'document: cwlVersion is `v1.0\x1b[31m`, and not one of v1.0, v1.1, v1.2' "$work/wrong" "$work/spec"
 cp "$golden/mapping/workflow.json" "$golden/mapping/record.json" "$work"
+more=()
 importer=$PWD/tools/from_cwl.py given=(workflow.json --run record.json) kept=record.json
 . checks/outputs.sh
 given=(workflow.json --run "$PWD/$golden/cwlprov/metadata/provenance/primary.cwlprov.json")

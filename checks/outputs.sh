@@ -1,9 +1,9 @@
 # Tries that an importer writes both of its files or none, never over a file that it reads, and ends without a traceback. It is read by
-# the checks of the importers. They set `importer`, the words for what is read in `given`, and one of these files in `kept`; all of it
-# stands in the folder `work`.
+# the checks of the importers. They set `importer`, the words for what is read in `given`, one of these files in `kept`, and in `more` the
+# places of what is written behind EVENTS; all of it stands in the folder `work`.
 
 # Runs the importer in the folder on these two places, and keeps what it says.
-imports_to() { (cd "$work" && python3 "$importer" "${given[@]}" "$@" >out 2>err); }
+imports_to() { (cd "$work" && python3 "$importer" "${given[@]}" "$@" "${more[@]}" >out 2>err); }
 
 # Whether it ends with status 2 and this one line.
 is_told() {
@@ -31,7 +31,7 @@ keeps_what_it_reads() {
 
 # Whether both files come where one of them is a pipe.
 writes_to_a_pipe() {
-    (cd "$work" && python3 "$importer" "${given[@]}" new/spec new/events && python3 "$importer" "${given[@]}" /dev/stdout new/again | cmp - new/spec) &&
+    (cd "$work" && python3 "$importer" "${given[@]}" new/spec new/events "${more[@]}" && python3 "$importer" "${given[@]}" /dev/stdout new/again "${more[@]}" | cmp - new/spec) &&
         cmp -s "$work/new/events" "$work/new/again" && rm -r "$work/new"
 }
 
@@ -57,6 +57,6 @@ check "no output is written over a file that is read" keeps_what_it_reads
 check "two outputs at one place are refused" is_told "new/../new/one: two outputs would be this one file" new/one new/../new/one
 check "an output may be a pipe" writes_to_a_pipe
 mkdir -p "$work/new"
-check "closed streams are no traceback" ends_closed 0 "${given[@]}" new/spec new/events
-check "closed streams are no traceback where it is refused" ends_closed 2 "${given[@]}" no/spec new/events
+check "closed streams are no traceback" ends_closed 0 "${given[@]}" new/spec new/events "${more[@]}"
+check "closed streams are no traceback where it is refused" ends_closed 2 "${given[@]}" no/spec new/events "${more[@]}"
 check "a full device is no traceback" ends_on_full

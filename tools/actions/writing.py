@@ -74,6 +74,23 @@ class Plan:
 
 
 def fitting(graph, coarse):
+    """Returns the specification of a graph: by its groups, otherwise without them, and otherwise, if this is asked for, a coarse one."""
+    groups, first = graph.groups, None
+    for kept, loose in ((True, False), (False, False), (True, True)):
+        graph.groups = groups if kept else [()] * len(groups)
+        if loose and not coarse or not kept and not any(groups):
+            continue
+        try:
+            text = exact(graph, loose)
+        except terminal.Wrong as wrong:
+            first = wrong
+            continue
+        text.ungrouped = not kept
+        return text
+    raise first
+
+
+def exact(graph, coarse):
     """Returns the specification of a graph, by the largest bodies that are within the limits."""
     excess = ""
     for most in SIZES:
@@ -94,7 +111,7 @@ class Specification:
     """The modules and productions that a part needs, in their order."""
 
     def __init__(self, root, library):
-        self.root, self.coarse = root, library.coarse
+        self.root, self.coarse, self.ungrouped = root, library.coarse, False
         self.modules, self.productions, self.numbers = [], [], {}
         seen, waiting = {root.module.number}, [root.module]
         for module in waiting:
@@ -117,8 +134,9 @@ class Specification:
         return ""
 
     def notes(self):
-        """Returns what became coarse."""
-        return [f"coarse: {sum(counts)} values share a port of `{title}`" for title, counts in sorted(self.coarse.items())]
+        """Returns what became coarse, and whether groups were left aside."""
+        aside = ["the run cannot be cut by its groups exactly: its bodies are not those of its groups"] if self.ungrouped else []
+        return aside + [f"coarse: {sum(counts)} values share a port of `{title}`" for title, counts in sorted(self.coarse.items())]
 
     def text(self):
         """Returns the text of SPEC, with a line for each module, production and part of the pairs."""
