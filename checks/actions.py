@@ -100,10 +100,19 @@ def nested(run, _):
     for number in range(run.draw.randint(3, 12)):
         group = [["sample", f"s{number}"]] if run.draw.random() < 0.8 else []
         bam, log = run.act("ALIGN", run.outside() + reference, 2, group=group)
-        regions = [run.act("SORT", run.act("REGION", [bam] + reference, group=group + [["region", f"r{region}"]]), 1, group=group + [["region", f"r{region}"]])[0]
-                   for region in range(run.draw.choice([5, 5, 40]))]
+        inner = [group + [["region", f"r{region}"]] for region in range(run.draw.choice([5, 5, 40]))]
+        regions = [run.act("SORT", run.act("REGION", [bam] + reference, group=own), 1, group=own)[0] for own in inner]
         logs += [log] + run.act("GATHER", regions, group=group)
     run.act("REPORT", logs)
+
+
+def crossing(run, _):
+    """Two groups, and more samples than a group has ports: the groups are left aside, and no answer changes."""
+    shared = run.outside()
+    for _ in range(run.draw.randint(65, 100)):
+        bam, log = run.act("ALIGN", run.outside() + shared, 2, group=[["flow", "align"]])
+        vcf, = run.act("CALL", [bam] + shared, 1, group=[["flow", "call"]])
+        run.act("CHECK", [vcf, log], 1, group=[["flow", "call"]])
 
 
 def failing(run, _):
@@ -123,7 +132,7 @@ FORMS = [
     ("medium", lambda run, draw: irregular(run, draw.randint(30, 150), 12)),
     ("samples", lambda run, draw: samples(run, draw.randint(2, 40), draw.random() < 0.5, False, draw.random() < 0.5)),
     ("joint", lambda run, draw: samples(run, draw.randint(2, 40), draw.random() < 0.5, True, draw.random() < 0.5)),
-    ("wide", wide), ("nested", nested), ("failing", failing),
+    ("wide", wide), ("nested", nested), ("failing", failing), ("crossing", crossing),
 ]
 
 
@@ -181,6 +190,7 @@ def compare(program, folder, run, draw, counts, coarse=False, most=MOST_PAIRS):
             counts["coarse"] += answer != want
             if answer != want and not (coarse and made.notes and want == "no"):
                 raise AssertionError(f"{word} answers {answer} to {a} {b}, and {want} is wanted")
+    counts["runs whose groups were left aside"] += any("groups" in note for note in made.notes)
     counts["bodies"] += made.spec.count('{"head":')
     counts["loops"] += made.spec.count('["each') > 0
 

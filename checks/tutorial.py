@@ -1,7 +1,7 @@
 #!/usr/bin/env python3
-"""Runs the blocks of docs/TUTORIAL.md, one after the other in one folder, and compares what they print.
+"""Runs the blocks of docs/TUTORIAL.md, or of another page, one after the other in one folder, and compares what they print.
 
-  python3 checks/tutorial.py PROGRAM [--write]
+  python3 checks/tutorial.py PROGRAM [--page PAGE] [--write]
 
 A block of the kind `console` has commands behind `$ `, each followed by what it prints. With --write the page is given what the
 commands printed. The last line is `N passed, M failed`, where a command is one case, and the status is 1 where one failed.
@@ -38,7 +38,8 @@ def run_all(commands, program):
 
 
 def main(words):
-    with open(PAGE, encoding="utf-8") as file:
+    path = words[words.index("--page") + 1] if "--page" in words else PAGE
+    with open(path, encoding="utf-8") as file:
         page = file.read()
     cases = [case for block in BLOCK.findall(page) for case in commands_of(block)]
     printed = run_all([command for command, _ in cases], words[0])
@@ -49,10 +50,10 @@ def main(words):
         else:
             failed += 1
             print(f"FAILED: {command}\n--- the page has\n{wanted}--- it printed\n{got}")
-    if words[1:] == ["--write"]:
+    if "--write" in words:
         told = iter(printed)
         page = BLOCK.sub(lambda m: "".join(f"$ {command}\n{next(told)}" for command, _ in commands_of(m[0])), page)
-        with open(PAGE, "w", encoding="utf-8") as file:
+        with open(path, "w", encoding="utf-8") as file:
             file.write(page)
     print(f"{len(cases) - failed} passed, {failed} failed")
     return 1 if failed or not cases else 0
