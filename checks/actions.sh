@@ -1,7 +1,7 @@
 #!/usr/bin/env bash
 # Checks of tools/actions, tools/from_actions.py and tools/files.py: runs of which the answers on files were worked out by hand, runs that
 # are refused, and random runs, whose answers are compared with a search in them.
-# The words are how many random runs are tried, and from which seed; 120 and 1 where they are not given.
+# The words are how many random runs are tried, and from which seed; 80 and 1 where they are not given.
 set -euo pipefail
 
 cd "$(dirname "${BASH_SOURCE[0]}")/.."
@@ -108,7 +108,7 @@ keeps_its_table_apart() {
 }
 check "where the table cannot be written nothing is" keeps_its_table_apart
 
-check "${1:-120} random runs answer as a search in them does" python3 checks/actions.py "$program" "${1:-120}" "${2:-1}"
+check "${1:-80} random runs answer as a search in them does" python3 checks/actions.py "$program" "${1:-80}" "${2:-1}"
 check "5,000 actions in samples that wait for one another are cut exactly" python3 checks/actions.py "$program" large
 check "what cannot be cut exactly is refused, and coarse if asked for" python3 checks/actions.py "$program" barriers
 
