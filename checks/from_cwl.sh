@@ -54,6 +54,18 @@ check "they give the files that are kept" is_kept cwlprov
 check "they are taken, and the default view is safe" is_taken
 check "they answer as by hand" answers cwlprov
 
+# A record of cwltool with all of its members, and another document that it contradicts.
+linear=tools/golden/from_cwlprov/linear
+check "a record that its document allows is imported" imports "$linear/workflow/packed.cwl" "$linear/metadata/provenance/primary.cwlprov.json"
+contradicts() {
+    local made
+    sed 's|"source": "#main/order/sorted"|"source": "#main/again/sorted"|' "$linear/workflow/packed.cwl" >"$work/other"
+    ! cmp -s "$work/other" "$linear/workflow/packed.cwl" || return 1
+    ! python3 tools/from_cwl.py "$work/other" --run "$linear/metadata/provenance/primary.cwlprov.json" "$work/spec" "$work/events" 2>"$work/err" || return 1
+    grep -q "^from_cwl.py: $linear/metadata/provenance/primary.cwlprov.json: id:[^ ]*: it used \`id:[^ ]*\` in the role \`left\`, which id:[^ ]* made, and document: #main/join/left lets it come from elsewhere$" "$work/err"
+}
+check "a record of another document is refused with both places" contradicts
+
 writes_spec_alone() {
     rm -f "$work/spec"
     python3 tools/from_cwl.py "$golden/mapping/workflow.json" "$work/spec" && cmp -s "$work/spec" "$golden/mapping/spec"
@@ -132,6 +144,19 @@ check "a record without its file is told" refuses 'call: the words are WORKFLOW 
 check "an unknown option is told" refuses 'call: `--trace` is no option; see --help' "$work/wide" --trace "$work/spec"
 python3 tools/from_cwl.py --help >"$work/help"
 check "the tool tells how it is called" grep -q 'WORKFLOW --run RECORD SPEC EVENTS' "$work/help"
+
+printf '{"cwlVersion":"v1.0\\u001b[31m"}' >"$work/wrong"
+check "control characters are shown as escapes" refuses \
+    'document: cwlVersion is `v1.0\x1b[31m`, and not one of v1.0, v1.1, v1.2' "$work/wrong" "$work/spec"
+cp "$golden/mapping/workflow.json" "$golden/mapping/record.json" "$work"
+more=()
+importer=$PWD/tools/from_cwl.py given=(workflow.json --run record.json) kept=record.json
+. checks/outputs.sh
+given=(workflow.json --run "$PWD/$golden/cwlprov/metadata/provenance/primary.cwlprov.json")
+keeps_the_document() {
+    kept=workflow.json && cp "$golden/cwlprov/workflow/packed.cwl" "$work/workflow.json" && keeps_what_it_reads
+}
+check "no output is written over the document" keeps_the_document
 
 # Random workflows: each answer is compared with reachability in the workflow, and the counts are printed.
 cases=${CASES:-1000}

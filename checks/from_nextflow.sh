@@ -1,6 +1,6 @@
 #!/usr/bin/env bash
-# Checks of tools/from_nextflow.py: pipelines of which the files and the answers were worked out by hand, pairs that are refused, and random pipelines.
-# The words are how many random pipelines are tried, and from which seed; 1000 and 1 where they are not given.
+# Checks of tools/from_nextflow.py: pipelines of which the answers were worked out by hand, pairs that are refused, and random pipelines.
+# The words are how many random pipelines are tried, and from which seed; 500 and 1 where they are not given.
 set -euo pipefail
 
 cd "$(dirname "${BASH_SOURCE[0]}")/.."
@@ -9,44 +9,63 @@ cd "$(dirname "${BASH_SOURCE[0]}")/.."
 
 golden=tools/golden/from_nextflow
 tool=$PWD/tools/from_nextflow.py
+export WFPROV=$program
 echo '{}' >"$work/view"
 
-# Whether the tool makes of a trace and a DAG the files that are kept.
-is_imported() {
-    rm -f "$work/spec" "$work/events"
-    python3 "$tool" "$golden/$1.trace" "$golden/$2" "$work/spec" "$work/events" >"$work/out" 2>"$work/err" || return 1
-    [ ! -s "$work/out" ] && [ ! -s "$work/err" ] && cmp -s "$work/spec" "$golden/$1.spec" && cmp -s "$work/events" "$golden/$1.events"
+# Imports a trace and a DAG, with an assumption or without.
+imports() {
+    rm -f "$work/spec" "$work/events" "$work/table"
+    python3 "$tool" "${@:3}" "$golden/$1.trace" "$golden/$2" "$work/spec" "$work/events" "$work/table" >"$work/out" 2>"$work/err" || return 1
+    [ ! -s "$work/out" ] && "$program" view "$work/spec" "$work/view" >"$work/shown" && "$program" ingest "$work/spec" "$work/events" >"$work/labels"
 }
 
-is_accepted() {
-    "$program" check "$golden/$1.spec" >"$work/out" && "$program" view "$golden/$1.spec" "$work/view" >"$work/out" &&
-        "$program" ingest "$golden/$1.spec" "$golden/$1.events" >"$work/labels"
+# Whether the questions of a pipeline are answered as in this column of their file, by labels and by the run.
+answers() {
+    cut -f1,2 "$golden/$1.questions" >"$work/questions"
+    python3 tools/files.py ask "$work/spec" "$work/view" "$work/labels" "$work/table" "$work/questions" | cmp -s - <(cut -f"$2" "$golden/$1.questions") &&
+        python3 tools/files.py --trace ask "$work/spec" "$work/view" "$work/events" "$work/table" "$work/questions" |
+        cmp -s - <(cut -f"$2" "$golden/$1.questions")
 }
 
-is_answered() {
-    "$program" trace "$golden/$1.spec" "$work/view" "$golden/$1.events" "$golden/$1.queries" | cmp -s - "$golden/$1.answers" || return 1
-    "$program" ask "$golden/$1.spec" "$work/view" "$work/labels" "$golden/$1.queries" | cmp -s - "$golden/$1.answers"
-}
+# Whether the import said this on standard error, in these lines and no others.
+said() { cmp -s "$work/err" <([ $# = 0 ] || printf 'from_nextflow.py: %s\n' "$@"); }
 
-for pair in mapping/mapping.dot mapping/mapping.mmd mapping-newer/mapping-newer.mmd multiqc/multiqc.mmd phylogeny/phylogeny.dot calling/calling.dot; do
-    check "the pipeline of ${pair#*/} becomes the files that are kept" is_imported "${pair%/*}" "${pair#*/}"
+for pair in mapping/mapping.dot mapping/mapping.mmd mapping/mapping.html mapping-newer/mapping-newer.mmd multiqc/multiqc.mmd phylogeny/phylogeny.dot \
+    calling/calling.dot states/states.mmd; do
+    check "the pipeline of ${pair#*/} is imported" imports "${pair%/*}" "${pair#*/}"
+    check "it answers as by hand where nothing is assumed" answers "${pair%/*}" 3
+    check "it is imported by tags" imports "${pair%/*}" "${pair#*/}" --assume tags-pair
+    check "it answers as by hand where tags pair" answers "${pair%/*}" 4
 done
-for name in mapping mapping-newer multiqc phylogeny calling; do
-    check "the program accepts the files of $name" is_accepted "$name"
-    check "trace and ask answer of $name what was worked out" is_answered "$name"
-done
+all='each of its tasks is taken to have read all that the tasks of'
+says_what_is_coarse() {
+    imports mapping mapping.dot && said "ALIGN: $all \`TRIM\` gave" "SORT: $all \`ALIGN\` gave" &&
+        imports mapping mapping.dot --assume tags-pair && said
+}
+check "what is coarse is told by process, and is none where tags pair" says_what_is_coarse
+says_states() {
+    imports states states.mmd --assume tags-pair && said 'STORED: the trace has no task of it: it is taken to have handed on all that came to it' \
+        "MULTIQC: $all \`A:TRIM\` gave" "MULTIQC: $all \`A:ALIGN\` gave"
+}
+check "a process without tasks is told" says_states
+has_states() { [ "$(awk -F'\t' '$1 == "action" && $5 != "done" { printf "%s=%s;", $2, $5 }' "$work/table")" = "$1" ]; }
+check "the table has cached, failed and unfinished tasks" has_states \
+    'A:TRIM (s1)=cached;A:TRIM (s2) failed=failed;A:TRIM (s3) failed=failed;LATE (1) failed=failed;LATE (2) never=never;'
+made() { python3 tools/files.py made "$work/table" "$1" | cmp -s - <(printf '%s\n' "${@:2}"); }
+check "results are found by a container" made trimmer:0.39 'A:TRIM (s1)/trimmed' 'A:TRIM (s1)/log' 'A:TRIM (s2)/trimmed' 'A:TRIM (s2)/log'
+check "workflows around processes are modules" grep -q '"A"' "$work/spec"
 
 # Begins a pair that is to be refused: the files of the mapping pipeline, with the DAG in this form.
 begin() {
     cp "$golden/mapping.trace" "$work/trace"
     cp "$golden/mapping.$1" "$work/dag"
-    rm -f "$work/spec" "$work/events"
+    rm -f "$work/spec" "$work/events" "$work/table"
 }
 
 # Whether the tool refuses the pair with this message, and writes nothing.
 refuses() {
     local ended=0
-    (cd "$work" && python3 "$tool" trace dag spec events >out 2>err) || ended=$?
+    (cd "$work" && python3 "$tool" trace dag spec events table >out 2>err) || ended=$?
     [ "$ended" = 2 ] && [ ! -s "$work/out" ] && [ ! -e "$work/spec" ] && [ ! -e "$work/events" ] && [ "$(cat "$work/err")" = "from_nextflow.py: $1" ]
 }
 
@@ -55,15 +74,8 @@ trace_with() { begin dot && sed -i -e "$1" "$work/trace" && refuses "$2"; }
 dot_with() { begin dot && sed -i -e "$1" "$work/dag" && refuses "$2"; }
 mermaid_with() { begin mmd && sed -i -e "$1" "$work/dag" && refuses "$2"; }
 
-check "a process that the trace lacks is told" dot_with 's/"SORT"/"SORTED"/' 'dag line 28: the trace has no task of the process `SORTED`'
 check "a process that the DAG lacks is told" trace_with '12s/SORT/COUNT/' 'trace line 12: the DAG has no process `COUNT`'
-check "a task that failed for good is told" trace_with 6d 'trace line 4: the task `TRIM (liver_2)` is FAILED, and no task of that name was completed'
-check "a task that was aborted is told" trace_with 12s/COMPLETED/ABORTED/ \
-    'trace line 12: the task `SORT (liver_2)` is ABORTED, and no task of that name was completed'
-check "a cached task is told" trace_with 2s/COMPLETED/CACHED/ 'trace line 2: the task `INDEX` is CACHED, and no task of that name was completed'
-check "two tasks with one tag are told" trace_with 4s/FAILED/COMPLETED/ \
-    'trace line 6: two tasks are named `TRIM (liver_2)`, and the other (trace line 4) was completed too'
-check "a task that has not ended is told" trace_with 9s/COMPLETED/RUNNING/ 'trace line 9: the status `RUNNING` is none of a task that has ended'
+check "an unknown status is told" trace_with 9s/COMPLETED/LOST/ 'trace line 9: the status `LOST` is none of a task'
 check "a line with a field less is told" trace_with '5s/\t[^\t]*$//' 'trace line 5: the line has 13 fields, and the header 14'
 check "a header without the status is told" trace_with 1s/status/state/ 'trace line 1: the header of a trace has a column `status`, and this has none'
 check "a header with a column twice is told" trace_with 1s/hash/name/ 'trace line 1: the column `name` stands twice'
@@ -71,10 +83,6 @@ check "a task without a closing parenthesis is told" trace_with '3s/liver_1)/liv
     'trace line 3: `TRIM (liver_1` is no name of a task, as `PROCESS` or `PROCESS (TAG)`'
 check "an empty trace is told" trace_with 1,12d 'trace line 1: the header of a trace has a column `name`, and this has none'
 check "a trace that is no text is told" trace_with '7s/kidney/\xff/' 'trace line 7: the text is not UTF-8'
-check "tags that become one are told" trace_with 's/kidney_1/liver 1/' \
-    'trace line 5: `ALIGN-in1 (liver 1)` and `ALIGN-in1 (liver_1)` (trace line 3) both become the instance `ALIGN-in1-liver_1`'
-check "a name that is too long is told" trace_with 's/liver_2/a_sample_of_the_liver_of_the_second_animal_in_the_third_week/' \
-    'trace line 6: the name `ALIGN-in1-a_sample_of_the_liver_of_the_second_animal_in_the_third_week` has 70 characters, and at most 64 are taken'
 check "a cycle is told" dot_with '/^}/i p6 -> p4;' 'dag line 39: the edge from `p6` to `p4` is on a cycle'
 check "a line that is none of DOT is told" dot_with '2s/.*/subgraph cluster_0 {/' 'dag line 2: `subgraph cluster_0 {` is no line of DOT that Nextflow writes'
 check "another shape of DOT is told" dot_with '8s/circle/box/' 'dag line 8: `p3` has the shape `box`, which is none of a process, an operator or an end'
@@ -91,13 +99,16 @@ check "a process that stands twice is told" mermaid_with '8s/SORT/ALIGN/' 'dag l
 check "a DAG of another form is told" mermaid_with '1s/.*/<gexf>/' 'dag line 1: a DAG begins with `digraph` (DOT) or `flowchart` (Mermaid), and this does not'
 check "a DAG without a process is told" mermaid_with '2,$d' 'dag line 1: the DAG has no process'
 
-# Two processes whose names become one.
-refuses_alike() {
-    begin mmd
-    sed -i -e 's/INDEX/A:B/; s/SORT/A_B/' "$work/trace" "$work/dag"
-    refuses 'dag line 8: `A_B` and `A_B` (dag line 3) both become the module `A_B`'
+# A task that failed, and none of its name was completed.
+takes_a_failure() {
+    rm -f "$work/spec" "$work/events" "$work/table"
+    printf '%s\n' 'flowchart TD' 'p1[A]' >"$work/dag"
+    printf 'process\tname\tstatus\nA\tA (x)\tFAILED\nA\tA (y)\tCOMPLETED\n' >"$work/trace"
+    (cd "$work" && python3 "$tool" trace dag spec events table) && [ "$(cut -f2,5 "$work/table" | sed -n '2,3p')" = $'A (x) failed\tfailed\nA (y)\tdone' ]
 }
-check "processes whose names become one are told" refuses_alike
+check "a task that failed for good is taken as one that failed" takes_a_failure
+check "control characters are shown as escapes" trace_with "2s/COMPLETED/\x1b[31mred/" \
+    'trace line 2: the status `\x1b[31mred` is none of a task'
 
 # A trace whose columns tell another process than the name.
 refuses_columns() {
@@ -107,57 +118,40 @@ refuses_columns() {
 }
 check "a process that is not that of the name is told" refuses_columns
 
-# Writes a pipeline of one process P with a number of inputs and with these tasks.
-many_inputs() {
-    rm -f "$work/spec" "$work/events"
-    { printf 'name\tstatus\n'; printf '%s\tCOMPLETED\n' "${@:2}"; } >"$work/trace"
-    { echo 'flowchart TD'; echo 'p0[P]'; for ((i = 1; i <= $1; i++)); do printf 'p%s((c))\np%s --> p0\n' "$i" "$i"; done; } >"$work/dag"
-}
+# A pipeline of many processes, each of which reads what the one before made, with names of more than 64 characters.
 many_processes() {
-    rm -f "$work/spec" "$work/events"
-    { printf 'name\tstatus\n'; for ((i = 1; i <= $1; i++)); do printf 'P%s\tCOMPLETED\n' "$i"; done; } >"$work/trace"
-    { echo 'flowchart TD'; for ((i = 1; i <= $1; i++)); do echo "p$i[P$i]"; done; } >"$work/dag"
+    { printf 'name\tstatus\n'; for ((i = 1; i <= $1; i++)); do for sample in a b c; do printf 'NFCORE_LONGNAME:SUBWORKFLOW_NUMBER_ONE:A_PROCESS_WITH_A_VERY_LONG_NAME_%s (%s)\tCOMPLETED\n' "$i" "$sample"; done; done; } >"$work/trace"
+    { echo 'flowchart TD'; for ((i = 1; i <= $1; i++)); do echo "p$i[NFCORE_LONGNAME:SUBWORKFLOW_NUMBER_ONE:A_PROCESS_WITH_A_VERY_LONG_NAME_$i]"; done
+      for ((i = 1; i < $1; i++)); do echo "p$i -->|bam| p$((i + 1))"; done; } >"$work/dag"
 }
-accepts() { (cd "$work" && python3 "$tool" trace dag spec events) && "$program" ingest "$work/spec" "$work/events" >"$work/labels"; }
-accepts_inputs() { many_inputs "$@" && accepts; }
-refuses_inputs() { many_inputs "${@:2}" && refuses "$1"; }
-accepts_processes() { many_processes 64 && accepts; }
-refuses_processes() { many_processes 65 && refuses 'dag line 66: `P65` would be position 65 of `workflow`, and at most 64 are taken'; }
-check "a process with 64 inputs is taken" accepts_inputs 64 P
-check "65 inputs of the workflow are told" refuses_inputs 'dag line 131: the workflow has 65 inputs, and at most 64 are taken' 65 P
-refuses_ports() {
-    begin mmd
-    for ((i = 1; i <= 63; i++)); do echo 'p4 -->|trimmed| p5'; done >>"$work/dag"
-    refuses 'dag line 7: the module `ALIGN` has 65 inputs, and at most 64 are taken'
+takes_processes() {
+    many_processes 100 && (cd "$work" && python3 "$tool" --assume tags-pair trace dag spec events table) &&
+        "$program" ingest "$work/spec" "$work/events" >"$work/labels" || return 1
+    local name=NFCORE_LONGNAME:SUBWORKFLOW_NUMBER_ONE:A_PROCESS_WITH_A_VERY_LONG_NAME_
+    printf '%s\t%s\n' "${name}1 (a)" "${name}100 (a)" "${name}1 (a)" "${name}100 (b)" "${name}99 (c)" "${name}100 (c)" "${name}100 (a)" "${name}1 (a)" >"$work/questions"
+    python3 tools/files.py ask "$work/spec" "$work/view" "$work/labels" "$work/table" "$work/questions" | cmp -s - <(printf '%s\n' yes no yes no)
 }
-check "a process with 65 inputs is told" refuses_ports
-check "a loop of 64 positions is taken" accepts_inputs 62 'P (a)' 'P (b)'
-check "a loop of 65 positions is told" refuses_inputs 'dag line 2: `loop-1` would be position 65 of `loop-1`, and at most 64 are taken' 63 'P (a)' 'P (b)'
-check "64 processes are taken" accepts_processes
-check "65 processes are told" refuses_processes
+check "100 processes of long names and 300 tasks are taken" takes_processes
 
-# Writes N processes that each feed a process of two tags by 62 channels. So there are N loops with bodies of 64 positions, and one of 1.
-many_loops() {
-    rm -f "$work/spec" "$work/events"
-    { printf 'name\tstatus\n'; for ((i = 1; i <= $1; i++)); do printf 'Q%s\tCOMPLETED\nP%s (a)\tCOMPLETED\nP%s (b)\tCOMPLETED\n' "$i" "$i" "$i"; done; } >"$work/trace"
-    { echo 'flowchart TD'; for ((i = 1; i <= $1; i++)); do printf 'q%s[Q%s]\np%s[P%s]\n' "$i" "$i" "$i" "$i"; for ((j = 1; j <= 62; j++)); do echo "q$i -->|c$j| p$i"; done; done; } >"$work/dag"
-}
-accepts_loops() { many_loops 15 && accepts; }
-refuses_loops() { many_loops 16 && refuses 'dag line 963: the squares of the lengths of the bodies come to 66575, and at most 65536 are taken'; }
-check "15 long loops are taken" accepts_loops
-check "16 long loops are told" refuses_loops
-
+echo '<html><body>cytoscape</body></html>' >"$work/page"
 # Whether the tool ends with status 2 and this message on these words.
 says() {
     local ended=0
     python3 "$tool" "${@:2}" >"$work/out" 2>"$work/err" || ended=$?
     [ "$ended" = 2 ] && [ ! -s "$work/out" ] && [ "$(cat "$work/err")" = "from_nextflow.py: $1" ]
 }
-check "a file that is not there is told" says "$work/absent: No such file or directory" "$work/absent" "$golden/mapping.dot" "$work/spec" "$work/events"
-check "a file that cannot be written is told" says "$work/no/spec: No such file or directory" "$golden/mapping.trace" "$golden/mapping.dot" "$work/no/spec" "$work/events"
-check "other words are told" says 'TRACE DAG SPEC EVENTS are asked for; see --help' "$golden/mapping.trace"
+check "a file that is not there is told" says "$work/absent: No such file or directory" "$work/absent" "$golden/mapping.dot" "$work/spec" "$work/events" "$work/table"
+check "a file that cannot be written is told" says "$work/no/spec: No such file or directory" "$golden/mapping.trace" "$golden/mapping.dot" "$work/no/spec" "$work/events" "$work/table"
+check "other words are told" says 'call: the words are [--assume tags-pair] [--coarse] TRACE DAG SPEC EVENTS TABLE; see --help' "$golden/mapping.trace"
+check "another assumption is told" says 'call: `names-pair` is no assumption; `tags-pair` is one' --assume names-pair
+check "HTML without Mermaid is told" says "$work/page: the HTML has no Mermaid in it, as newer releases of Nextflow write it" \
+    "$golden/mapping.trace" "$work/page" "$work/spec" "$work/events" "$work/table"
 check "the tool tells how coarse an answer is" grep -q 'How coarse an answer is' <(python3 "$tool" --help)
 
-check "random pipelines are answered as a search in their tasks answers" python3 checks/from_nextflow.py "$program" "${1:-1000}" "${2:-1}"
+begin dot
+importer=$tool given=(--assume tags-pair trace dag) kept=dag more=(new/table)
+. checks/outputs.sh
+
+check "random pipelines are answered as a search in their tasks answers" python3 checks/from_nextflow.py "$program" "${1:-500}" "${2:-1}"
 
 finish

@@ -1,7 +1,7 @@
 #!/usr/bin/env python3
-"""Runs the blocks of docs/TUTORIAL.md, one after the other in one folder, and compares what they print.
+"""Runs the blocks of docs/TUTORIAL.md, or of another page, one after the other in one folder, and compares what they print.
 
-  python3 checks/tutorial.py PROGRAM [--write]
+  python3 checks/tutorial.py PROGRAM [--page PAGE] [--write]
 
 A block of the kind `console` has commands behind `$ `, each followed by what it prints. A block of another kind that has a word behind
 its kind, as `json spec`, is written to the file of this name, and prints nothing. With --write the page is given what the commands
@@ -57,7 +57,8 @@ def written(block, printed):
 
 
 def main(words):
-    with open(PAGE, encoding="utf-8") as file:
+    path = words[words.index("--page") + 1] if "--page" in words else PAGE
+    with open(path, encoding="utf-8") as file:
         page = file.read()
     cases = [case for kind, block in BLOCK.findall(page) for case in commands_of(kind, block)]
     printed = run_all([command for command, _ in cases], words[0])
@@ -68,10 +69,10 @@ def main(words):
         else:
             failed += 1
             print(f"FAILED: {command}\n--- the page has\n{wanted}--- it printed\n{got}")
-    if words[1:] == ["--write"]:
+    if "--write" in words:
         told = iter(printed)
         page = BLOCK.sub(lambda block: written(block, told), page)
-        with open(PAGE, "w", encoding="utf-8") as file:
+        with open(path, "w", encoding="utf-8") as file:
             file.write(page)
     print(f"{len(cases) - failed} passed, {failed} failed")
     return 1 if failed or not cases else 0

@@ -66,6 +66,11 @@ import sys
 from collections import deque
 from urllib.parse import unquote
 
+sys.path.insert(0, os.path.dirname(os.path.abspath(__file__)))
+import from_cwlprov
+import outputs
+import terminal
+
 VERSIONS = ("v1.0", "v1.1", "v1.2")
 TOOLS = ("CommandLineTool", "ExpressionTool")
 NAME = re.compile(r"[A-Za-z0-9_-]{1,64}")
@@ -76,7 +81,7 @@ MOST_INSTANCES = MOST_BYTES = 16777216
 HEAD = ""
 
 
-class Wrong(Exception):
+class Wrong(terminal.Wrong):
     """What is refused: the place and what is wrong there."""
 
     def __init__(self, place, what):
@@ -93,13 +98,14 @@ def distinct_members(pairs):
     return found
 
 
-def load(path):
-    """Returns the JSON value of a file."""
+def load(path, read):
+    """Returns the JSON value of a file, and notes its path among those that were read."""
+    read.append(path)
     try:
         with open(path, encoding="utf-8") as text:
             return json.load(text, object_pairs_hook=distinct_members)
     except OSError as error:
-        raise Wrong(path, error.strerror) from None
+        raise Wrong(path, terminal.reason(error)) from None
     except UnicodeDecodeError:
         raise Wrong(path, "the text is not UTF-8") from None
     except json.JSONDecodeError as error:
@@ -697,8 +703,8 @@ def objects(value, member, path):
 class Provenance:
     """Reads a run from the files of CWLProv: that of the run, and those that it names of executions of workflows."""
 
-    def __init__(self, path, value, document, record):
-        self.document, self.record, self.folder = document, record, os.path.dirname(path)
+    def __init__(self, path, value, document, record, read):
+        self.document, self.record, self.folder, self.read = document, record, os.path.dirname(path), read
         self.waiting = deque([(path, value, document.start, "")])
         while self.waiting:
             self.file(*self.waiting.popleft())
@@ -719,7 +725,7 @@ class Provenance:
                 self.record.add(inside + step.title, name, None, place)
                 if self.document.processes[step.run].is_workflow:
                     inner = self.inner(parts, place)
-                    self.waiting.append((inner, load(inner), step.run, f"{inside}{step.title}/"))
+                    self.waiting.append((inner, load(inner, self.read), step.run, f"{inside}{step.title}/"))
 
     def step(self, steps, plan, place):
         """Returns the step of a plan: `wf:main/STEP`, with `_2` and so on behind it where the engine ran other steps of this name."""
@@ -743,11 +749,11 @@ class Provenance:
         return os.path.join(self.folder, names[0])
 
 
-def record_of(value, path, document):
-    """Returns the record of a run, from a plain list or from files of CWLProv."""
+def record_of(value, path, document, read):
+    """Returns the record of a run, from a plain list or from files of CWLProv, whose paths are noted among those that were read."""
     record = Record()
     if isinstance(value, dict) and "activity" in value:
-        Provenance(path, value, document, record)
+        Provenance(path, value, document, record, read)
     else:
         record.add_list(value)
     return record
@@ -809,13 +815,20 @@ class Run:
         self.waiting.append((self.turn, base, names[2], loop, identity, path, number + 1, elements, place))
 
 
-def imported(workflow, record, path=None):
+def compare(workflow, record, path):
+    """Refuses files of CWLProv by which an execution used or made something that the document lets come from elsewhere."""
+    if isinstance(record, dict) and "activity" in record:
+        from_cwlprov.Import(from_cwlprov.Reading(path, from_cwlprov.Document(workflow, "document"), []))
+
+
+def imported(workflow, record, path, read):
     """Returns the texts of SPEC and, where a record is given, of EVENTS. The path is that of the record."""
     document = Document(workflow)
     library = Library(document)
     if record is None:
         return [library.text()]
-    lines = Run(document, library, record_of(record, path, document)).lines
+    lines = Run(document, library, record_of(record, path, document, read)).lines
+    compare(workflow, record, path)
     return [library.text(), "".join(compact(line) + "\n" for line in lines)]
 
 
@@ -837,24 +850,14 @@ def words_of(words):
     return paths[0], record, paths[1:]
 
 
-def main(words):
-    if "--help" in words or "-h" in words:
-        print(__doc__.strip())
-        return 0
-    try:
-        workflow, record, paths = words_of(words)
-        written = imported(load(workflow), None if record is None else load(record), record)
-        for path, text in zip(paths, written):
-            try:
-                with open(path, "w", encoding="utf-8") as file:
-                    file.write(text)
-            except OSError as error:
-                raise Wrong(path, error.strerror) from None
-    except Wrong as wrong:
-        print(f"from_cwl.py: {wrong}", file=sys.stderr)
-        return 2
-    return 0
+def work(words):
+    """Imports what the words name."""
+    workflow, record, paths = words_of(words)
+    read = []
+    value = load(workflow, read)
+    texts = imported(value, None if record is None else load(record, read), record, read)
+    outputs.write_all(list(zip(paths, texts)), read)
 
 
 if __name__ == "__main__":
-    sys.exit(main(sys.argv[1:]))
+    sys.exit(terminal.run("from_cwl.py", __doc__, work))

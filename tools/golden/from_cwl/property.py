@@ -294,7 +294,7 @@ def main(words):
             flow, reference = draw_case(draw)
             document = Document(flow, draw).value
             pairs = reference.questions()
-            texts = importer.imported(json.loads(json.dumps(document)), json.loads(json.dumps(reference.record)))
+            texts = importer.imported(json.loads(json.dumps(document)), json.loads(json.dumps(reference.record)), None, [])
             lines = "".join(f"{first} {second}\n" for first, second, _ in pairs)
             for path, text in zip((spec, events, view, queries), (*texts, "{}", lines)):
                 with open(path, "w", encoding="utf-8") as file:
