@@ -1,5 +1,5 @@
 #!/usr/bin/env bash
-# Checks of tools/diagnose.py: a case for each refusal and each warning with the text that is kept, random mutations of the examples on which it and the program have to agree, its reader of JSON, and what it does at its edges.
+# Checks of tools/diagnose.py: a case for each refusal and each warning with the text that is kept, mistakes with their mends, random mutations of the examples on which it and the program have to agree, its reader of JSON, and what it does at its edges.
 # The words are how many mutations are tried, and from which seed; 500 and 1 where they are not given.
 set -euo pipefail
 
@@ -17,6 +17,15 @@ while read -r result name; do
     [ "$result" = ok ] || echo "$name"
     check "the case ${name%%:*} is told as it is kept" test "$result" = ok
 done <"$work/tried"
+
+# Mistakes that were made in the examples: what is said of each has its kind and place, and with the mend that it names the program accepts.
+mkdir "$work/mistakes"
+python3 checks/mistakes.py "$program" "$work/mistakes" >"$work/mended"
+while read -r result name; do
+    [ "$result" = ok ] || echo "$name"
+    check "the mistake is told and mended: ${name:0:80}" test "$result" = ok
+done <"$work/mended"
+check "there are ten mistakes or more of each file" test "$(cut -d: -f1 "$work/mended" | sort | uniq -c | awk '$1 >= 10' | wc -l)" = 5
 
 # Each kind of refusal that docs/FORMATS.md names has a case, but for two that need more than a few bytes, and are tried below.
 has_cases() {

@@ -170,6 +170,35 @@ other_lines() {
 }
 check "empty lines and carriage returns are passed over" other_lines
 
+# A page about files, by a table in which one file has three items.
+. checks/two_items.sh
+mkdir "$work/two"
+two_items "$work/two"
+two=$work/two
+text questions 'r.bam r.vcf\ncp.b r.vcf\n' >/dev/null
+text names 'out/a.bam\ta.vcf\nr.bam\tr.vcf\ncall\talign\nsha1$11\told/reads.fq\n' >/dev/null
+says_output() {
+    page "$two/spec" "$two/open" "$two/events" "$work/questions" && is_whole "$work/questions" "$(text said 'no\nyes\n')" "$two"/{spec,open,events} "$work/questions" "$program" &&
+        has '<code>r.bam</code> goes out of the run, so nothing rests on it' '<code>r.vcf</code> rests on <code>cp.b</code>' && ! has 'does not rest on <code>r.bam</code>'
+}
+check "an item that goes out of the run is told" says_output
+says_output_of_labels() {
+    page --labels "$two/labels" "$two/spec" "$two/open" - "$work/questions" && has '<code>r.bam</code> goes out of the run, so nothing rests on it'
+}
+check "it is told of labels without the run" says_output_of_labels
+text shown 'out/a.bam out/a.vcf\nout/a.bam out/a.vcf\nout/a.vcf out/a.bam\nin/reads.fq old/reads.fq\n' >/dev/null
+about_files() {
+    page --table "$two/table" "$two/spec" "$two/open" "$two/events" "$work/names" &&
+        is_whole "$work/shown" "$(text said 'yes\nyes\nno\nno\n')" "$two"/{spec,open,events} "$work/names" "$two/table" "$program" &&
+        has '<code>out/a.vcf</code> rests on <code>out/a.bam</code>' 'sha1$33' "files.py --trace ask $two/spec $two/open $two/events $two/table $work/names"
+}
+check "by a table a page has the paths of files, and a file has all of its items" about_files
+about_files_of_labels() {
+    page --table "$two/table" --labels "$two/labels" "$two/spec" "$two/closed" - "$work/names" &&
+        is_whole "$work/shown" "$(text said 'hidden\nhidden\nhidden\nno\n')" "$two"/{spec,closed} "$work/names" "$two"/{labels,table} "$program" && ! grep -q 'cp\.b\|al\.bam' "$work/page"
+}
+check "items that the view hides are not on it" about_files_of_labels
+
 # A path is shown as text, whatever stands in it.
 odd=$work/'<b>&"'$'\n'
 escapes() {
@@ -190,8 +219,8 @@ refuses() {
     page "$@" || ended=$?
     [ "$ended" = 2 ] && [ ! -s "$work/page" ] && [ "$(cat "$work/err")" = "page.py: $message" ]
 }
-check "too few words are told" refuses 'the words are not [--labels LABELS] SPEC VIEW EVENTS QUERIES; see --help' $line/spec $line/view $line/events
-check "a missing LABELS is told" refuses 'the words are not [--labels LABELS] SPEC VIEW EVENTS QUERIES; see --help' --labels
+check "too few words are told" refuses 'the words are not [--labels LABELS] [--table TABLE] SPEC VIEW EVENTS QUERIES; see --help' $line/spec $line/view $line/events
+check "a missing LABELS is told" refuses 'the words are not [--labels LABELS] [--table TABLE] SPEC VIEW EVENTS QUERIES; see --help' --labels
 check "a page without the run and without labels is refused" refuses 'EVENTS can be `-` only with --labels; see --help' $line/spec $line/view - $line/queries
 check "a file that is not there is told" refuses "$work/absent: No such file or directory" $line/spec "$work/absent" $line/events $line/queries
 check "a folder is told" refuses "$line: not a regular file" $line $line/view $line/events $line/queries
@@ -205,6 +234,12 @@ check "a query that is refused is told" refuses "wfprov trace $line/spec $line/v
 check "a label file of another workflow is told" refuses "wfprov ask $line/spec $line/view $once/labels $line/queries: refused: labels: OtherSpec" --labels $once/labels $line/spec $line/view - $line/queries
 check "a label file of another run is told" refuses "$work/bad: byte 37: not the label file of $line/events, nor one that begins it or goes on from it" \
     --labels "$(sed 's/"r"/"q"/' $line/events >"$work/other" && "$program" ingest $line/spec "$work/other" >"$work/bad" && echo "$work/bad")" $line/spec $line/view $line/events $line/queries
+check "a name of several files is refused with the list" refuses "$two/table: \`reads.fq\` means 2 files: \`f1\` (in/reads.fq), \`f2\` (old/reads.fq)" \
+    --table "$two/table" "$two/spec" "$two/open" "$two/events" "$(text bad 'reads.fq\tout/a.bam\n')"
+check "a table of another run is told" refuses "$line/events: it has no item of \`in/reads.fq\` or of \`out/a.vcf\`: the table is one of another run" \
+    --table "$two/table" $line/spec $line/view $line/events "$(text bad 'f1\tf4\n')"
+check "an option that is given twice is refused" refuses 'the words are not [--labels LABELS] [--table TABLE] SPEC VIEW EVENTS QUERIES; see --help' \
+    --table "$two/table" --table "$two/table" "$two/spec" "$two/open" "$two/events" "$work/names"
 
 no_program() {
     WFPROV=$work/absent refuses "$work/absent: no program; \`./wfprov\` builds it, and the variable WFPROV may name another" $line/spec $line/view $line/events $line/queries

@@ -458,9 +458,11 @@ asks_far() {
     (head -c 36 examples/phylogeny/labels; printf '\x08run.seqs\x00\x01\x20\x07run.cfg\x00\x01\x10\x06far.m2\x00\x08\xe8\x00\x00\x02\x00\x00\x00\xc0') >"$work/far"
     for _ in {1..5000}; do printf 'run.seqs far.m2\nrun.cfg far.m2\n'; done >"$work/far_queries"
     for _ in {1..5000}; do printf 'yes\nno\n'; done >"$work/far_answers"
-    run ask examples/phylogeny/spec examples/phylogeny/view "$work/far" "$work/far_queries" && ended 0 "$work/far_answers" "$nothing"
+    timeout 10 "$program" ask examples/phylogeny/spec examples/phylogeny/view "$work/far" "$work/far_queries" >"$work/far_told" &&
+        cmp -s "$work/far_told" "$work/far_answers"
 }
-check "ten thousand questions on the longest chain are answered, though no run is so long" asks_far
+# A walk along the chain would take some 10^11 steps.
+check "ten thousand questions on the longest chain are answered within ten seconds, though no run is so long" asks_far
 
 # A label file of the twisting grammar, made by hand: ports of its root, an item of its first instances, and three behind the longest chain.
 asks_behind_the_longest_chain() {
@@ -628,5 +630,32 @@ drills() {
 }
 check "a chain of the twisting grammar is drilled" drills twisting 1001 1 'instances 3002\nitems 4004\nbits 30\nyes 240\nno 760\nhidden 0\n'
 check "a start of the line is drilled" drills line 0 3 'instances 1\nitems 2\nbits 3\nyes 246\nno 754\nhidden 0\n'
+
+# A chain of 100,001 repetitions. Item 3 k + 2 is made by the k-th crossing of the two ports, so the first input reaches its first port after an even number of crossings alone. Each command has a minute.
+chain() {
+    timeout 60 "$program" "$1" examples/twisting/spec "${@:2}"
+}
+makes_the_chain() {
+    chain gen 100002 1 >"$work/chain_events" && [ "$(wc -c <"$work/chain_events")" -eq 7451997 ]
+}
+labels_the_chain() {
+    chain ingest "$work/chain_events" >"$work/chain_labels" && [ "$(wc -c <"$work/chain_labels")" -eq 7168525 ]
+}
+# Whether these queries at the end of the chain are answered so, from its labels or from its events.
+answers_at_the_end() {
+    printf 'n0.a1 n299999.y1\nn0.a1 n300002.y1\nn0.a1 n300002.y2\n' >"$work/end_queries"
+    chain "$1" examples/twisting/view "$work/$2" "$work/end_queries" >"$work/end_answers" &&
+        cmp -s "$work/end_answers" <(printf 'yes\nno\nyes\n')
+}
+answers_along_the_chain() {
+    awk 'BEGIN { for (k = 0; k < 100000; k++) print "n0.a1 n" 3 * k + 2 ".y1" }' >"$work/along_queries"
+    chain ask examples/twisting/view "$work/chain_labels" "$work/along_queries" >"$work/along_answers" &&
+        cmp -s "$work/along_answers" <(awk 'BEGIN { for (k = 0; k < 100000; k++) print k % 2 ? "yes" : "no" }')
+}
+check "a chain of 100,001 repetitions is made within a minute, and has its worked size" makes_the_chain
+check "it is labelled within a minute, and its label file has its worked size" labels_the_chain
+check "three questions at its end are answered from its labels within a minute" answers_at_the_end ask chain_labels
+check "they are answered from its events within a minute" answers_at_the_end trace chain_events
+check "100,000 questions along it are answered from its labels within a minute" answers_along_the_chain
 
 finish

@@ -20,6 +20,9 @@ python3 tools/labels.py lines $line/labels >"$work/lines"
 "$program" export $line/spec $line/view $line/events >"$work/export"
 "$program" view $line/spec $line/view >"$work/shown"
 
+printf '#wfprov files 1\nvalue\ta\t\t\t\t\tr.a\nvalue\tb\t\t\t\t\tr.b\n' >"$work/table"
+printf 'a\tb\n' >"$work/names"
+
 # Runs a tool on words with which it writes something.
 works() {
     case $1 in
@@ -29,6 +32,8 @@ works() {
         file) python3 tools/labels.py file "$work/lines" ;;
         two_labels) python3 tools/two_labels.py $line/spec $line/labels r.a r.b ;;
         impact) python3 tools/impact.py $line/spec $line/view $line/labels r.a ;;
+        impact_of_file) python3 tools/impact.py --table "$work/table" $line/spec $line/view $line/labels a ;;
+        page_of_files) python3 tools/page.py --table "$work/table" $line/spec $line/view $line/events "$work/names" ;;
         page) python3 tools/page.py $line/spec $line/view $line/events $line/queries ;;
         crates) python3 tools/crates.py ;;
     esac
@@ -43,6 +48,8 @@ fails() {
         file) python3 tools/labels.py file "$work/absent" ;;
         two_labels) python3 tools/two_labels.py $line/spec "$work/absent" r.a r.b ;;
         impact) python3 tools/impact.py $line/spec $line/view "$work/absent" r.a ;;
+        impact_of_file) python3 tools/impact.py --table "$work/absent" $line/spec $line/view $line/labels a ;;
+        page_of_files) python3 tools/page.py --table "$work/absent" $line/spec $line/view $line/events "$work/names" ;;
         page) python3 tools/page.py $line/spec $line/view $line/events "$work/absent" ;;
         crates) python3 tools/crates.py "$work/absent" ;;
     esac
@@ -53,6 +60,8 @@ tool_of() {
     case $1 in
         export) echo dot.py ;;
         file) echo labels.py ;;
+        impact_of_file) echo impact.py ;;
+        page_of_files) echo page.py ;;
         *) echo "$1.py" ;;
     esac
 }
@@ -79,7 +88,7 @@ at_no_error() {
     fails "$1" >>"$work/out" 2>/dev/full || full=$?
     [ "$ended" = 2 ] && [ "$full" = 2 ] && [ ! -s "$work/out" ]
 }
-for tool in dot export labels file two_labels impact page crates; do
+for tool in dot export labels file two_labels impact impact_of_file page page_of_files crates; do
     check "$tool: a full device is told" at_full "$tool"
     check "$tool: closed standard output is told" at_closed_output "$tool"
     check "$tool: closed standard input changes nothing" at_closed_input "$tool"

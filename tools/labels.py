@@ -46,6 +46,11 @@ def entries_of(labels):
         yield name, label
 
 
+def goes_out(label):
+    """Returns whether a label is that of an output of the run: it begins with the bits 01."""
+    return label[:1] != b"" and label[0] >> 6 == 1
+
+
 def name_word(name):
     """Returns the bytes of a name as a word of a line."""
     if name == b"head":

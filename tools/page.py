@@ -3,11 +3,17 @@
 
   python3 tools/page.py SPEC VIEW EVENTS QUERIES > page.html
   python3 tools/page.py --labels LABELS SPEC VIEW EVENTS QUERIES > page.html
+  --table TABLE  before SPEC: by the table of an importer, a question is the names of two files with a tab between, as files.py takes it
 
 The page has the picture of the run under the view, the view in words, the questions with their answers, how each was obtained, with
 the SHA-256 of each file, and what is proved and what is not. It has no script, fetches nothing, and can be printed. `wfprov trace`
 gives the answers; with `--labels`, `wfprov ask` gives them from the label file LABELS. EVENTS may then be `-`: the page is made
 without the run, and shows the picture of the workflow in place of that of the run.
+
+With `--table` the page shows the files by their paths, or by their names in TABLE where they have none, and lists their checksums. These
+are on the page whatever the view hides. A file rests on another where any item of the one rests on any item of the other; all these pairs go to the program in one
+call. An item is an edge: what one step gave out and another took. On an item that goes out of the run nothing rests, and the page says
+so; what a step reads of the same value is another item.
 
 The picture is made by `wfprov export`, tools/dot.py and Graphviz. A run of more than 200 links has the picture of its workflow
 instead, if this has no more than 500 links, and its links are listed at the end of the page; so they are where Graphviz is not
@@ -34,6 +40,8 @@ import tempfile
 
 HERE = os.path.dirname(os.path.abspath(__file__))
 sys.path.insert(0, HERE)
+import file_table
+import labels as label_file
 import terminal
 from terminal import Wrong
 
@@ -120,7 +128,7 @@ class Grammar:
         told = json.loads(program.lines(["check", spec])[0])
         self.inputs = {module["name"]: module["in"] for module in told["modules"]}
         self.outputs = {module["name"]: module["out"] for module in told["modules"]}
-        self.composite = {}
+        self.start, self.composite = told["start"], {}
         for production in told["productions"]:
             links = sum(len(production[side]) for side in ("edges", "in", "out"))
             self.composite[production["head"]] = self.composite.get(production["head"], 0) + links
@@ -157,12 +165,17 @@ def questions_of(path):
 
 
 class Run:
-    """What `export` tells of a run: its text where it is short enough to be shown, and how many links there are."""
+    """What `export` tells of a run: its text where it is short enough to be shown, how many links there are, and the first instance, of
+    which the first item is, if it has any."""
 
     def __init__(self, program, words):
         with tempfile.TemporaryFile() as file:
             program.write(words, file)
-            self.links = sum(line.startswith(b"link ") for line in file)
+            self.links, self.first = 0, ""
+            for line in file:
+                self.links += line.startswith(b"link ")
+                if not self.first and line.startswith(b"item "):
+                    self.first = line[5:].decode().partition(".")[0]
             file.seek(0)
             self.text = file.read() if self.links <= LISTED_LINKS else b""
 
@@ -295,26 +308,52 @@ MEANINGS = {
 }
 
 
-def meaning(answer, first, second):
-    """Returns what an answer says of two items."""
-    if answer == "yes":
-        return f"{code(second)} rests on {code(first)}"
-    if answer == "no":
-        return f"{code(second)} does not rest on {code(first)}"
-    return {"hidden": "the view hides an item", "unknown": "an item is not there", "clash": "no run has both items"}[answer]
+FILE_MEANINGS = {
+    "yes": "the file rests on the other; data lead from an item of the one to one of the other, in whatever way the run is finished",
+    "no": "the file does not rest on the other; no data lead there, in whatever way the run is finished",
+    "hidden": "the view hides an item of one of the two files, or of both, and gives no answer",
+}
 
 
-def questions_part(questions, answers, where):
+class Asked:
+    """The questions, as pairs of names, with their answers; and the files of the names, or which items go out of the run."""
+
+    def __init__(self, questions, answers, files=(), outputs=()):
+        self.questions, self.answers, self.files, self.outputs = questions, answers, files, outputs
+
+    def meaning(self, number):
+        """Returns what an answer says of the two names of its question."""
+        (first, second), answer = self.questions[number], self.answers[number]
+        if answer == "yes":
+            return f"{code(second)} rests on {code(first)}"
+        if answer == "no" and first in self.outputs:
+            return f"{code(first)} goes out of the run, so nothing rests on it; what a step reads of its value is another item"
+        if answer == "no":
+            return f"{code(second)} does not rest on {code(first)}"
+        return {"hidden": "the view hides an item", "unknown": "an item is not there", "clash": "no run has both items"}[answer]
+
+
+def questions_part(asked, where):
     """Yields the part of the page with the questions and their answers."""
-    totals = {answer: answers.count(answer) for answer in MEANINGS if answer in answers}
+    meanings = FILE_MEANINGS if asked.files else MEANINGS
+    totals = {answer: asked.answers.count(answer) for answer in meanings if answer in asked.answers}
     yield "<ul>"
     for answer, total in totals.items():
-        yield f"<li><strong>{answer}</strong> ({counted(total, 'time')}): {MEANINGS[answer].replace('WHERE', where)}.</li>"
+        yield f"<li><strong>{answer}</strong> ({counted(total, 'time')}): {meanings[answer].replace('WHERE', where)}.</li>"
     yield "</ul>"
     yield "<table>\n<thead><tr><th>No.</th><th>Question</th><th>Answer</th><th>What it says</th></tr></thead>\n<tbody>"
-    for number, ((first, second), answer) in enumerate(zip(questions, answers), 1):
-        asked = f"Does {code(second)} rest on {code(first)}?"
-        yield f'<tr><td>{number}</td><td>{asked}</td><td class="answer">{answer}</td><td>{meaning(answer, first, second)}</td></tr>'
+    for number, ((first, second), answer) in enumerate(zip(asked.questions, asked.answers)):
+        question = f"Does {code(second)} rest on {code(first)}?"
+        yield f'<tr><td>{number + 1}</td><td>{question}</td><td class="answer">{answer}</td><td>{asked.meaning(number)}</td></tr>'
+    yield "</tbody>\n</table>"
+
+
+def files_part(files):
+    """Yields the part of the page with the files that the questions name. Makers and items are left out: the view may hide them."""
+    yield "<table>\n<thead><tr><th>File</th><th>Its name in the table</th><th>Its checksum there</th></tr></thead>\n<tbody>"
+    for name, file in files.items():
+        checksum = f'<code class="digest">{plain(file.checksum)}</code>' if file.checksum else "none"
+        yield f"<tr><td>{code(name)}</td><td>{code(file.identity)}</td><td>{checksum}</td></tr>"
     yield "</tbody>\n</table>"
 
 
@@ -351,6 +390,19 @@ def how_part(files, commands, agreement):
     yield "</tbody>\n</table>"
 
 
+ITEMS = """. ITEMS was made of QUERIES and TABLE: it has, for each question, a line for each item of the first file and each of the \
+second. A question is answered <code>yes</code> if one of its lines is, and otherwise <code>hidden</code> if one of its lines is. \
+This command gives these answers too: {}"""
+
+
+def files_call(words):
+    """Returns the call of files.py that gives the answers of the page."""
+    trace = [] if "LABELS" in words else ["--trace"]
+    run = words.get("LABELS", words["EVENTS"])
+    call = [*trace, "ask", words["SPEC"], words["VIEW"], run, words["TABLE"], words["QUERIES"]]
+    return code("python3 tools/files.py " + shlex.join(call))
+
+
 def commands_of(words, run):
     """Returns the commands with what they were run for."""
     spec, view, queries = words["SPEC"], words["VIEW"], words["QUERIES"]
@@ -366,6 +418,9 @@ def commands_of(words, run):
         told.append((["ask", spec, view, words["LABELS"], queries], "answered the questions, each from the labels of its two items"))
     else:
         told.append((["trace", spec, view, words["EVENTS"], queries], "answered the questions, each by a search in the graph of the run"))
+    if "TABLE" in words:
+        command, what = told.pop()
+        told.append(([*command[:-1], "ITEMS"], what.replace("the questions", "the lines of ITEMS") + ITEMS.format(files_call(words))))
     return [("wfprov " + shlex.join(command), f"{what[0].upper()}{what[1:]}.") for command, what in told]
 
 
@@ -384,6 +439,9 @@ on it, were made by tools outside the proof; the commands above give the answers
 NOT_PROVED_LABELS = """<p>A label file is bound to its workflow by a SHA-256, which leaves out the pairs of <code>deps</code>: it passes \
 for each workflow that differs from this one in its pairs alone. A view hides items from the answers, and not from one who reads the \
 label file.</p>"""
+
+NOT_PROVED_TABLE = """<p>The proof is about items. That they are the files that the table says was written by an importer, and taken at its \
+word; that a file rests on a file where an item of the one rests on an item of the other was worked out by this tool.</p>"""
 
 
 def head():
@@ -407,22 +465,47 @@ def opening(words, count):
         told.append(f"the run is {code(words['EVENTS'])}")
     if "LABELS" in words:
         told.append(f"the answers are given from the label file {code(words['LABELS'])}")
+    what, named = "data item", (
+        "A data item is named by the step that makes it, a dot and the output there; an input or output of the run by the run and its port."
+    )
+    if "TABLE" in words:
+        told.append(f"the table {code(words['TABLE'])} says which data items are which files")
+        what, named = "file", "A file is named by its path, or by the name that the table has for it."
     yield (
-        f"<p>This page has the answers to {counted(count, 'question')} about a run of a workflow: whether one data item rests on"
-        f" another. {listed(told)}. A data item is named by the step that makes it, a dot and the output there; an input or output of"
-        " the run by the run and its port.</p>"
+        f"<p>This page has the answers to {counted(count, 'question')} about a run of a workflow: whether one {what} rests on"
+        f" another. {listed(told)}. {named}</p>"
     )
 
 
-def asked_and_answered(program, words):
+def outputs_of_run(grammar, run, words):
+    """Returns the items that go out of the run. The program has taken the files."""
+    if run:
+        return {f"{run.first}.{port}" for port in grammar.outputs[grammar.start]}
+    entries = label_file.entries_of(terminal.read_bytes(words["LABELS"]))
+    return {name.decode() for name, label in entries if label_file.goes_out(label)}
+
+
+def asked_of_files(command, words):
+    """Returns the questions about files, and their answers."""
+    table = file_table.Table(words["TABLE"])
+    pairs = file_table.questions(table, words["QUERIES"])
+    answers = file_table.Asker(command[0], *command[1:4]).answers(pairs)
+    questions = [tuple(map(table.shown, pair)) for pair in pairs]
+    names = {name: file for pair, two in zip(questions, pairs) for name, file in zip(pair, two)}
+    return Asked(questions, answers, names)
+
+
+def asked_and_answered(program, grammar, run, words):
     """Returns the questions and their answers."""
     source_word = "LABELS" if "LABELS" in words else "EVENTS"
     command = ["ask" if "LABELS" in words else "trace", words["SPEC"], words["VIEW"], words[source_word], words["QUERIES"]]
+    if "TABLE" in words:
+        return asked_of_files(command, words)
     answers = program.lines(command)
     questions = list(questions_of(words["QUERIES"]))
     if len(questions) != len(answers) or not MEANINGS.keys() >= set(answers):
         raise Wrong(f"{words['QUERIES']}: {len(questions)} questions, and {len(answers)} answers, or one that is no answer")
-    return questions, answers
+    return Asked(questions, answers, outputs=outputs_of_run(grammar, run, words))
 
 
 def page(program, words):
@@ -435,14 +518,17 @@ def page(program, words):
     shown = program.lines(["view", words["SPEC"], words["VIEW"]])
     run = Run(program, ["export", words["SPEC"], words["VIEW"], words["EVENTS"]]) if words["EVENTS"] != "-" else None
     agreement = same_run(program, words) if of_labels and run else ""
-    questions, answers = asked_and_answered(program, words)
+    asked = asked_and_answered(program, grammar, run, words)
     picture = Picture()
-    lines = [*head(), *opening(words, len(questions))]
+    lines = [*head(), *opening(words, len(asked.questions))]
     lines += section("picture", "The run under the view" if run else "The workflow", run_part(picture, run, grammar, words["SPEC"], shown))
     lines += section("view", "The view in words", view_part(grammar, words, shown))
-    lines += section("questions", "Questions and answers", questions_part(questions, answers, "label file" if of_labels else "run"))
+    lines += section("questions", "Questions and answers", questions_part(asked, "label file" if of_labels else "run"))
+    if asked.files:
+        lines += section("files", "The files that the questions name", files_part(asked.files))
     lines += section("how", "How the answers were obtained", how_part(files, commands_of(words, run), agreement))
     proved = [PROVED, PROVED_LABELS, NOT_PROVED, NOT_PROVED_LABELS] if of_labels else [PROVED, NOT_PROVED]
+    proved += [NOT_PROVED_TABLE] if "TABLE" in words else []
     lines += section("proved", "What is proved, and what is not", proved)
     if run and 0 < run.links <= LISTED_LINKS and not is_drawn(picture, run):
         lines += section("links", "The links of the run under the view", links_part(run))
@@ -454,13 +540,13 @@ def page(program, words):
 
 def words_of(words):
     """Returns the paths of the files by their words."""
-    labels = words[1:2] if words[:1] == ["--labels"] else []
-    words = words[2:] if labels else words
+    named, options = {}, {"--labels": "LABELS", "--table": "TABLE"}
+    while len(words) > 1 and options.get(words[0], words[0]) not in (words[0], *named):
+        named[options[words[0]]], words = words[1], words[2:]
     if len(words) != 4 or words[0].startswith("--"):
-        raise Wrong("the words are not [--labels LABELS] SPEC VIEW EVENTS QUERIES; see --help")
-    found = dict(zip(("SPEC", "VIEW", "EVENTS", "QUERIES"), words))
-    found.update(("LABELS", path) for path in labels)
-    if found["EVENTS"] == "-" and not labels:
+        raise Wrong("the words are not [--labels LABELS] [--table TABLE] SPEC VIEW EVENTS QUERIES; see --help")
+    found = {**dict(zip(("SPEC", "VIEW", "EVENTS", "QUERIES"), words)), **{word: named[word] for word in sorted(named)}}
+    if found["EVENTS"] == "-" and "LABELS" not in named:
         raise Wrong("EVENTS can be `-` only with --labels; see --help")
     return found
 

@@ -6,10 +6,10 @@ import subprocess
 import tempfile
 
 import terminal
-from diagnosis import doubts, specs
-from diagnosis.faults import Fault
+from diagnosis import doubts, kinds, specs
+from diagnosis.faults import Doubt, Fault
 from diagnosis.label_files import MAGIC, check_word, read_labels
-from diagnosis.questions import read_questions
+from diagnosis.questions import read_questions, with_items
 from diagnosis.runs import read_run
 
 TOP = os.path.dirname(os.path.dirname(os.path.dirname(os.path.abspath(__file__))))
@@ -22,7 +22,12 @@ HEX = re.compile("(?:[0-9A-Fa-f]{2})*")
 
 def unreadable(where, path, error):
     """Returns the fault of a file that cannot be read, which the program tells as a fault of reading."""
-    fault = Fault("", f"`{path}` cannot be read: {terminal.reason(error)}.", "Look for the path, and for the right to read the file.")
+    mend = "Look for the path, and for the right to read the file."
+    if isinstance(error, IsADirectoryError):
+        mend = f"Give a file: the folder `{path}` has{' one' if os.path.isfile(os.path.join(path, where)) else ' none'} that is called `{where}`."
+    elif isinstance(error, FileNotFoundError):
+        mend = "Look how the path is spelled. If it does not begin with `/`, it leads from the folder in which you are."
+    fault = Fault("", f"`{path}` cannot be read: {terminal.reason(error)}.", mend)
     return fault.stands_in(where, None)
 
 
@@ -110,7 +115,9 @@ class Finding:
         try:
             self.read()
         except Fault as fault:
-            self.fault = fault
+            word = fault.where.split(" ")[0]
+            path = {"spec": files.spec, "view": files.view, "queries": files.queries}.get(word, files.third)
+            self.fault = kinds.better(fault, path) if path else fault
 
     def read(self):
         text, parts = specs.read_parts(*self.whole("spec", self.files.spec))
@@ -129,14 +136,21 @@ class Finding:
             return
         if self.files.labels:
             names = read_labels(self.whole("labels", self.files.third)[1], grammar)
-            self.ask(lambda item: doubts.of_entry(names, item))
+            self.ask(lambda item: doubts.of_entry(names, item), lambda word: [item for item in names if item.startswith(f"{word}.")])
         else:
             run = self.opened("events", self.files.third, lambda path, file: read_run(path, file, grammar))
-            self.ask(lambda item: doubts.of_item(run, item))
+            if not run.instances:
+                self.doubts.append(Doubt("the file of events has no report, so nothing is in the run, and each answer is `unknown`."))
+            self.ask(lambda item: doubts.of_item(run, item), lambda word: run.items_of(word, doubts.of_item))
 
-    def ask(self, why):
-        if self.files.queries is not None:
+    def ask(self, why, items):
+        """Reads the queries, if they are given: `why` says of an item why it is none, and `items` lists those of an instance."""
+        if self.files.queries is None:
+            return
+        try:
             self.doubts += self.opened("queries", self.files.queries, lambda path, file: list(doubts.of_questions(read_questions(path, file), why)))
+        except Fault as fault:
+            raise with_items(fault, items) from None
 
     def whole(self, where, path):
         """Returns the name and the bytes of a file."""

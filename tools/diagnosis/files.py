@@ -1,10 +1,31 @@
 """A file, or a line of one, with its places; and the fault that it is no JSON."""
+import re
+
 import located_json
 from diagnosis.faults import Fault
 
 LOOK = "Look at the place that is marked and just before it: a comma, a quote or a bracket may be missing there, or be too many."
+# What mends a text that is no JSON, by words of what is wrong with it.
+MENDS = (
+    ("nested", "No form of docs/FORMATS.md is nested so deep: take levels away."),
+    ("JSON has no comments", "Take the comment away. A remark may stand in a member that no form knows, as `\"note\":\"..\"`."),
+    ("here is `'`", "Write a double quote in the place of each single one, here and in the whole file."),
+    ("a comma stands before", "Take this comma away, or write what is missing behind it."),
+    ("is no value of JSON", "Put it between double quotes, if it is a text."),
+    ("no quote ends it", "Write a double quote where the text ends."),
+    ("sign U+", "Take the sign away: a name has no tabs, blanks or other signs that are not seen."),
+)
+BEFORE_VALUE = re.compile(r"a comma or `.` is to stand here, and here is `[\[{\"]`")
 # How many signs of a line a message shows, and how many of them before the place.
 SHOWN, BEFORE = 100, 60
+
+
+def mend_of(what):
+    """Returns what mends a text that is no JSON."""
+    for words, mend in MENDS:
+        if words in what:
+            return mend
+    return "Write a comma before it, behind what comes before; or a bracket that closes is missing there." if BEFORE_VALUE.search(what) else LOOK
 
 
 class Span:
@@ -52,5 +73,4 @@ class Text:
             return located_json.read(self.text)
         except located_json.NotJson as wrong:
             what = wrong.what[0].upper() + wrong.what[1:]
-            mend = "No form of docs/FORMATS.md is nested so deep: take levels away." if "nested" in wrong.what else LOOK
-            raise Fault("NotJson", f"this is no JSON. {what}.", mend, Span(wrong.at, wrong.at + 1)) from None
+            raise Fault("NotJson", f"this is no JSON. {what}.", mend_of(wrong.what), Span(wrong.at, wrong.at + 1)) from None

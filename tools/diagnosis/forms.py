@@ -13,6 +13,17 @@ from diagnosis.files import Span
 MODULE, PRODUCTION, DEPS = ("name", "in", "out"), ("head", "body", "edges", "in", "out"), ("module", "pairs")
 SPEC, VIEW = ("start", "modules", "productions", "deps", "versions"), ("expand", "deps")
 WRITTEN = {"object": "an object", "list": "a list", "text": "a text", "number": "a whole number"}
+# The forms of the lists, by the members that they are, and a member that the objects of such a list have.
+ITEMS = {
+    "modules": '[{"name":"MODULE","in":["INPUT"],"out":["OUTPUT"]},..]',
+    "productions": '[{"head":"MODULE","body":[["POSITION","MODULE"]]},..]',
+    "deps": '[{"module":"MODULE","pairs":[["INPUT","OUTPUT"],..]},..]',
+    "versions": "[[9,3],..]",
+    "body": '[["POSITION","MODULE"],..]',
+    "edges": '[["POSITION.OUTPUT","POSITION.INPUT"],..]',
+    "pairs": '[["INPUT","OUTPUT"],..]',
+}
+OBJECTS = {"modules": "name", "productions": "head", "deps": "module"}
 HOW = {
     "object": "Write an object there, with its members between `{` and `}`.",
     "list": "Write a list there, between `[` and `]`; a list of nothing is `[]`.",
@@ -33,7 +44,7 @@ class Shape:
     def take(self, node, kind, place):
         """Returns a node of this kind."""
         if node.kind != kind:
-            raise self.wrong(node, f"`{place}` is {node.called()}, and {WRITTEN[kind]} belongs there.", in_its_place(node, kind))
+            raise self.wrong(node, f"`{place}` is {node.called()}, and {WRITTEN[kind]} belongs there.", in_its_place(node, kind, place))
         return node
 
     def member_of(self, node, name, kind, place):
@@ -76,13 +87,29 @@ class Shape:
         return End(node)
 
 
-def in_its_place(node, kind):
+def in_its_place(node, kind, place):
     """Returns what to write in place of a value of another form."""
-    if kind == "list" and node.kind in ("text", "object"):
-        return f"Put it into a list: `[{json.dumps(node.value) if node.kind == 'text' else '{..}'}]`."
+    member = place.rpartition(".")[2]
+    if kind == "list" and node.kind == "text" and member in ITEMS:
+        return f"Write a list there, of the form `{ITEMS[member]}`."
+    if kind == "list" and node.kind == "text":
+        return f"Put it into a list: `[{json.dumps(node.value)}]`."
+    if kind == "list" and node.kind == "object":
+        return f"Write a list there, of the form `{as_list(node, member)}`."
     if kind == "text" and node.kind in ("number", "word"):
         return f'Put it between double quotes: `"{node.value}"`.'
     return HOW[kind]
+
+
+def as_list(node, member):
+    """Returns the list that an object is meant as, or the form of the list that belongs there."""
+    texts = [json.dumps([name.value, part.value]) for name, part in node.value if part.kind == "text"]
+    if member in ("body", "edges", "in", "out", "pairs") and texts and len(texts) == len(node.value) and len(texts) <= 8:
+        return f"[{','.join(texts)}]"
+    known = [name.value for name, _ in node.value]
+    if member in OBJECTS and OBJECTS[member] in known:
+        return "[{..}]"
+    return ITEMS.get(member, '["NAME",..]')
 
 
 def like_member(node, name):

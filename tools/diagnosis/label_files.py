@@ -9,6 +9,8 @@ from label_bits import Bits
 from terminal import Wrong
 
 MOST, HEAD, MAGIC = 1073741824, 36, b"WFL1"
+# An entry that is torn has no more bytes than this: labels of runs are short.
+LONG = 512
 
 
 def canonical(grammar, modules, productions):
@@ -104,14 +106,35 @@ def head_fault(data, grammar):
         return Fault("NotLabels", f"this is no label file: {why}.", "Give the file that `wfprov ingest SPEC EVENTS` wrote, whole and as bytes.")
     known = digests(grammar)
     if data[4:HEAD] not in known:
+        if saved_as_text(data) in known:
+            return Fault("OtherSpec", "the file was saved anew as text, so that its bytes are others.", "Make it again by `ingest`, and copy it as bytes.")
         return Fault(
             "OtherSpec",
             f"the file was written for another specification. Its digest begins with {data[4:12].hex()}; that of SPEC"
             f" {'and those of its versions begin' if len(known) > 1 else 'begins'} with {', '.join(digest[:8].hex() for digest in known)}.",
             "Give the specification that the file was written for; `check` writes the text of which the digest is made. If the workflow has grown"
-            " since by modules and productions at the end of their lists, name the earlier one in `versions`.",
+            f" since by modules and productions at the end of their lists, name the earlier one in `versions`{earlier(data[4:HEAD], grammar)}.",
         )
     return None
+
+
+def saved_as_text(data):
+    """Returns the digest of a label file whose bytes were taken for signs and written as UTF-8, or nothing."""
+    try:
+        return data[: 2 * HEAD].decode("utf-8", "ignore").encode("latin-1", "ignore")[4:HEAD]
+    except ValueError:
+        return None
+
+
+def earlier(digest, grammar):
+    """Returns the version of a specification that has a digest, in words, if it has few enough."""
+    modules, productions = len(grammar.modules), len(grammar.productions)
+    if modules * productions > 1024:
+        return ""
+    for pair in ((m, p) for m in range(modules, 0, -1) for p in range(productions, -1, -1)):
+        if hashlib.sha256(canonical(grammar, *pair).encode()).digest() == digest:
+            return f", which is `\"versions\":[[{pair[0]},{pair[1]}]]`"
+    return ""
 
 
 def check_word(grammar, number, word):
@@ -141,11 +164,22 @@ class Entries:
         size = int.from_bytes(data[behind : behind + 2], "big")
         label = data[behind + 2 : behind + 2 + size]
         if len(data) < behind + 2 or len(label) < size:
-            what = f"the last entry, number {number}, begins at byte {offset} and is not whole: the file ends at byte {len(data)}."
-            mend = f"Make the file again by `ingest`. The first {offset} bytes are whole entries, and are a label file: `head -c {offset} LABELS`."
-            raise Fault(f"Truncated offset {offset}", what, mend)
+            raise Fault(f"Truncated offset {offset}", *self.broken(offset))
         self.check(number, offset, name.decode("utf-8", "backslashreplace"), label)
         return behind + 2 + size
+
+    def broken(self, offset):
+        """Returns what is wrong with an entry that is not whole, and what mends it."""
+        number, data = len(self.names), self.data
+        whole = f"The first {offset} bytes are whole entries, and are a label file: `head -c {offset} LABELS`."
+        if data[offset : offset + 4] == MAGIC:
+            what = f"another label file begins at byte {offset}, behind {counted(number, 'item')}: two were put together."
+            return what, f"Ask from each by itself. {whole}"
+        if len(data) - offset > LONG:
+            what = f"entry {number}, which begins at byte {offset}, is longer than the {len(data) - offset} bytes that are left, so bytes of it or before"
+            return f"{what} it were changed, as by a transfer of text.", "Make the file again by `ingest`, and copy it as bytes."
+        what = f"the last entry, number {number}, begins at byte {offset} and is not whole: the file ends at byte {len(data)}."
+        return what, f"Make the file again by `ingest`. {whole}"
 
     def check(self, number, offset, name, label):
         where = f"entry {number}, which begins at byte {offset},"

@@ -205,8 +205,9 @@ def lead_onward(parts):
             raise Fault(
                 f"BodyCycle production {body.number}",
                 f"in {body.way} edges lead from a position back to it: {around}.",
-                "Take one of these edges away. A step that repeats is written as a module that stands inside itself, as `Refine` in"
-                " examples/phylogeny: each repetition is a new instance, and none feeds itself.",
+                "One of these edges begins or ends in the wrong place. Each port has one link, so where its end is changed, another edge changes"
+                " with it: look for the edge whose end belongs here. A step that repeats is written as a module that stands inside itself, as"
+                " `Refine` in examples/phylogeny: each repetition is a new instance, and none feeds itself.",
                 circle[0],
                 steps,
             )

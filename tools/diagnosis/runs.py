@@ -3,7 +3,7 @@ import heapq
 import re
 
 from diagnosis.faults import Fault
-from diagnosis.files import Text
+from diagnosis.files import Span, Text
 from diagnosis.forms import Shape
 from diagnosis.lines import lines_of
 from diagnosis.words import counted, is_name, listed, mended, near, quoted
@@ -14,6 +14,9 @@ SEARCHED = 20000
 
 
 FORMS = '`{"start":"r"}` begins the run, and `{"expand":"r","production":0,"names":["a","b"]}` says how an instance is done.'
+# A second report in a line, and a report with a comma behind it.
+BEGUN = re.compile(r'\{\s*"(?:start|expand)"\s*:')
+REPORT = re.compile(r"\s*\{.*\}\s*,\s*")
 # A report as most programs write it, which needs no reader of JSON.
 PLAIN = re.compile(rb'\{"expand":"([\w-]+)","production":(0|[1-9][0-9]{0,17}),"names":\["([\w-]+(?:","[\w-]+)*)"\]\}')
 
@@ -68,7 +71,8 @@ def production_in(shape, node):
         what = "the report has no member `production`"
         if found is not None:
             what = f"`production` is {f'`{found.value}`' if found.kind == 'number' else found.called()}"
-        mend = "Write the number of a production, from 0, in the order of the specification, as `\"production\":0`."
+        meant = int(found.value) if found is not None and found.kind == "text" and re.fullmatch("[0-9]{1,4}", found.value) else 0
+        mend = f"Write the number of a production, from 0, in the order of the specification, as `\"production\":{meant}`."
         raise shape.wrong(found or node, f"{what}, and a whole number without sign, fraction or exponent belongs there.", mend)
     return found
 
@@ -123,6 +127,14 @@ class Run:
                 waiting = self.held.pop(name)
                 heapq.heappush(self.ready, (waiting.number, waiting))
 
+    def items_of(self, name, why):
+        """Returns the items of an instance: what it makes, and of the first one what goes into the run. `why` says why a name is that of none."""
+        if name not in self.instances:
+            return []
+        module = self.grammar.modules[self.instances[name].module]
+        ports = [*module.inputs, *module.outputs] if name == self.root else module.outputs
+        return [item for item in (f"{name}.{port}" for port in ports) if not why(self, item)]
+
     def finish(self):
         """Refuses a whole file of which reports are still held."""
         if self.held:
@@ -137,7 +149,9 @@ def placed(run, report):
     module = grammar.modules[instance.module]
     told = f"{quoted(report.subject)} is of the module {quoted(module.name)}, made in line {instance.line}"
     ways = ", ".join(str(production.number) for production in module.productions)
-    mend = f"Write a production of {quoted(module.name)}, of which there are: {ways}."
+    fitting = [str(production.number) for production in module.productions if len(production.body) == len(names)]
+    fits = f" The report has {counted(len(names), 'name')}, as has {' or '.join(fitting)}." if fitting and len(module.productions) > 1 else ""
+    mend = f"Write a production of {quoted(module.name)}, of which there are: {ways}.{fits}"
     if not ways:
         mend = f"Take the line away, or name the instance that was meant: the module {quoted(module.name)} is atomic, and is not expanded."
     if number >= len(grammar.productions):
@@ -164,12 +178,13 @@ def new_names(run, report, names):
     for k, name in enumerate(names):
         if not is_name(name):
             what = f"{quoted(name)} is no name of an instance."
-            raise Fault("NameBad", what, f"A name has 1 to 64 letters of ASCII, digits, `_` and `-`, as `{mended(name)}`.", node(k))
+            mend = f"A name has 1 to 64 letters of ASCII, digits, `_` and `-`, as `{mended(name)}`. Write it so here, in the report that expands it"
+            raise Fault("NameBad", what, f"{mend}, and in the questions.", node(k))
     known = set()
     for k, name in enumerate(names):
         if name in known or name in run.instances:
             where = "it stands twice in this report" if name in known else f"line {run.instances[name].line} made an instance of this name"
-            mend = "Each instance of a run has a name of its own, whatever its module."
+            mend = "Each instance of a run has a name of its own, whatever its module. Give this one another, and if a report expands it, there too."
             raise Fault("NameTwice", f"the name {quoted(name)} is taken: {where}.", mend, node(k))
         known.add(name)
     if len(run.instances) + len(names) > MOST_INSTANCES:
@@ -200,6 +215,28 @@ def orphan(run, report):
     return Fault("Orphan", what, "Look for the report whose `names` have this name: it is missing, or spells it otherwise.", subject)
 
 
+def line_fault(fault, text):
+    """Returns the fault of a line, or the same one in other words where a report is torn, stands in a list, or has a long member."""
+    line = text.text
+    again = BEGUN.search(line, 1)
+    if fault.kind == "LineTooLong" and line.startswith("{"):
+        mend = "A report has only `expand`, `production` and `names`, or `start`; take other members away, as texts that a tool wrote."
+        return Fault(fault.kind, fault.what, f"{mend} A newline may also be missing between two reports.").stands_in("", text)
+    listed_line = line.lstrip().startswith("[")
+    if fault.kind == "NotJson" and again and line[: again.start()].strip("\ufeff \t") and not listed_line:
+        what = f"another report begins in this line, at column {again.start() + 1}, so a newline is missing before it, or this report was torn."
+        mend = "Let each report begin a line of its own. Of the torn one look for the rest, or write it again; or take its part away, and run on."
+        return Fault(fault.kind, what, mend, Span(again.start(), again.end()))
+    if fault.kind in ("NotJson", "WrongShape") and listed_line:
+        what = "the line begins a list, and each line of events is a report by itself, with no list around it."
+        mend = "Take the brackets around the reports away, and the commas between them, so that each line is one object."
+        return Fault(fault.kind, what, mend, Span(line.index("["), line.index("[") + 1))
+    if fault.kind == "NotJson" and REPORT.fullmatch(line):
+        what = "a comma stands behind the report, and nothing belongs there: each line is a report by itself."
+        return Fault(fault.kind, what, "Take the comma away, and so at the end of each line.", Span(line.rindex(","), line.rindex(",") + 1))
+    return fault
+
+
 def read_run(path, file, grammar):
     """Returns the run of a file of reports."""
     run = Run(grammar)
@@ -210,7 +247,8 @@ def read_run(path, file, grammar):
     except Fault as fault:
         if not fault.where:
             text = fault.text or Text(path, line, number)
+            fault = line_fault(fault, text)
             fault.stands_in(f"events line {text.first_line}", text)
-        raise
+        raise fault from None
     run.finish()
     return run

@@ -22,16 +22,22 @@ class View:
 
 
 def modules_are_known(grammar, parts):
-    names = list(grammar.modules)
     for number, node in enumerate(parts.expand or []):
         if node.value not in grammar.modules:
-            raise unknown(node, f"expand {number}", f"`expand` names {quoted(node.value)}", names)
+            raise unknown(node, f"expand {number}", f"`expand` names {quoted(node.value)}", grammar)
     for number, part in enumerate(parts.deps):
         if part.module.value not in grammar.modules:
-            raise unknown(part.module, f"deps {number}", f"part {number} of `deps` gives pairs to {quoted(part.module.value)}", names)
+            raise unknown(part.module, f"deps {number}", f"part {number} of `deps` gives pairs to {quoted(part.module.value)}", grammar)
 
 
-def unknown(node, place, what, names):
+def unknown(node, place, what, grammar):
+    """Returns the fault of a name that is that of no module. It may be that of a position, whose module is meant then."""
+    names = list(grammar.modules)
+    held = {body.body[node.value]: body.number for body in reversed(grammar.productions) if node.value in body.body}
+    if held:
+        told = " and of ".join(f"{quoted(module)} in production {number}" for module, number in reversed(held.items()))
+        what = f"{what}, and the specification has no module of this name. It is a position, of {told}."
+        return Fault(f"UnknownModule {place}", what, f"Name the module in place of the position: {listed(list(reversed(held)))}.", node)
     mend = f"Name a module of the specification: {listed(names)}. A view names modules, and not positions or instances."
     return Fault(f"UnknownModule {place}", f"{what}, and the specification has no module of this name.{near(node.value, names)}", mend, node)
 
