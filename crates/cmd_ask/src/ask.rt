@@ -43,8 +43,7 @@ fn answer_queries<H: Shelf, O: Sink>(
         shelf.old shelf.new out.old out.new (end_after result) }
     ensures untouched { end_after result ≡ NoMemory → (O.put_bytes out.new ≡ O.put_bytes out.old) × (O.faults out.new ≡ O.faults out.old) }
 {
-    let Ok(label) = ViewLabel::build(alloc, v.grammar(), v.spec().cycles(), v.view(), v.full())
-    else {
+    let Ok(label) = ViewLabel::build(alloc, v.linear(), v.view(), v.full()) else {
         return Err(Stop::NoMemory);
     };
     let Ok(mut scratch) = Scratch::for_view(alloc, &label) else {

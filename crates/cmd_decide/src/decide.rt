@@ -56,7 +56,7 @@ fn label_of<'a>(v: &Viewed, place: Place, bytes: &'a [u8]) -> Result<LabelRef<'a
     ensures malformed { IfErr result (λ e. (IsLabelBytes v.now.spec.grammar.core bytes.now → ⊥) ×
         (end_of e ≡ Refused place.word.now None (codes "Malformed"))) }
 {
-    match LabelRef::check(v.grammar(), v.spec().cycles(), bytes) {
+    match LabelRef::check(v.linear(), bytes) {
         Ok(label) => Ok(label),
         Err(_) => Err(refused_whole(place, named(b"Malformed"))),
     }

@@ -54,8 +54,7 @@ pub fn verdict_of(
         first.entry ≡ label_bits x → second.entry ≡ label_bits y → IsVerdict v.now.spec.grammar.core v.now.view.core x y r) }
     ensures memory { IfErr result (λ e. end_of e ≡ NoMemory) }
 {
-    let Ok(label) = ViewLabel::build(alloc, v.grammar(), v.spec().cycles(), v.view(), v.full())
-    else {
+    let Ok(label) = ViewLabel::build(alloc, v.linear(), v.view(), v.full()) else {
         return Err(Stop::NoMemory);
     };
     let Ok(mut scratch) = Scratch::for_view(alloc, &label) else {

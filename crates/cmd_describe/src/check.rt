@@ -6,13 +6,14 @@ ghost use Rattle.cmd_describe.specs.Does.{IsChecked, Checks};
 
 use crate::check_text::check_text;
 use std::alloc::Global;
-use wf_inputs::{Spec, spec_stage};
+use wf_accept::Accepted;
+use wf_inputs::spec_stage;
 use wf_io::{Shelf, Sink};
 use wf_message::Stop;
 use wf_stage::put_text;
 
 /// Puts the text of a grammar. It is made whole before it is put, so that want of memory leaves `out` as it was.
-fn put_grammar<O: Sink>(alloc: Global, spec: &Spec, out: &mut O) -> Result<(), Stop>
+fn put_grammar<O: Sink>(alloc: Global, spec: &Accepted, out: &mut O) -> Result<(), Stop>
     ensures writes { Writes O.put_bytes O.faults O.at_last [] (IsChecked spec.now.grammar.core) out.old out.new (end_after result) }
 {
     // A strictly linear grammar has one text.

@@ -7,7 +7,7 @@ ghost use Rattle.cmd_describe.specs.CheckText.{composite_modules, cycle_text, ch
 
 use itoa::Buffer;
 use std::alloc::{AllocError, Global};
-use wf_inputs::Spec;
+use wf_accept::Accepted;
 use wf_json::canonical;
 use wf_message::{module_name, position_name};
 use wf_recur::{Cycles, OnCycle};
@@ -54,7 +54,7 @@ fn add_cycle(out: &mut Vec<u8>, g: &Grammar, c: &Cycles, m: ModNo) -> Result<(),
 }
 
 /// Appends the line of a composite module.
-fn add_line(out: &mut Vec<u8>, spec: &Spec, m: ModNo) -> Result<(), AllocError>
+fn add_line(out: &mut Vec<u8>, spec: &Accepted, m: ModNo) -> Result<(), AllocError>
     requires in_range { m.0 < length spec.now.grammar.core.modules }
     ensures { OnOk result (out.new.items ≡ out.old.items ++ check_line spec.now.grammar.core spec.now.ranking spec.now.cycles m.0) }
 {
@@ -69,7 +69,7 @@ fn add_line(out: &mut Vec<u8>, spec: &Spec, m: ModNo) -> Result<(), AllocError>
 }
 
 /// Appends the line of a module, if it is composite.
-fn add_module(out: &mut Vec<u8>, spec: &Spec, m: ModNo) -> Result<(), AllocError>
+fn add_module(out: &mut Vec<u8>, spec: &Accepted, m: ModNo) -> Result<(), AllocError>
     requires in_range { m.0 < length spec.now.grammar.core.modules }
     ensures { OnOk result (out.new.items ≡ out.old.items ++
         cond (is_composite spec.now.grammar.core m.0) (check_line spec.now.grammar.core spec.now.ranking spec.now.cycles m.0) []) }
@@ -81,7 +81,7 @@ fn add_module(out: &mut Vec<u8>, spec: &Spec, m: ModNo) -> Result<(), AllocError
 }
 
 /// Appends the lines of the composite modules, in order.
-fn add_lines(out: &mut Vec<u8>, spec: &Spec) -> Result<(), AllocError>
+fn add_lines(out: &mut Vec<u8>, spec: &Accepted) -> Result<(), AllocError>
     ensures { OnOk result (out.new.items ≡ out.old.items ++
         flat_map (check_line spec.now.grammar.core spec.now.ranking spec.now.cycles) (composite_modules spec.now.grammar.core)) }
 {
@@ -96,7 +96,7 @@ fn add_lines(out: &mut Vec<u8>, spec: &Spec) -> Result<(), AllocError>
 /// The canonical text of a grammar, a newline, and for each composite module, in order, the line `NAME rank R production P cycle -`, or `NAME rank R production P cycle C place K next Q I` where the module stands on a cycle: the module's rank, the production that attains it, the number of the cycle, the module's place there, and the production and the position of its continuing step.
 ///
 /// Cost: linear in the text. Fails only for want of memory.
-pub fn check_text(alloc: Global, spec: &Spec) -> Result<Vec<u8>, AllocError>
+pub fn check_text(alloc: Global, spec: &Accepted) -> Result<Vec<u8>, AllocError>
     ensures { IfOk result (λ v. v.items ≡ check_text_of spec.now.grammar.core spec.now.ranking spec.now.cycles) }
 {
     let mut out = canonical(alloc, spec.grammar())?;

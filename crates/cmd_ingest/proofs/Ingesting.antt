@@ -2,6 +2,7 @@
 use Rattle.std.proofs.Common.{◌≡◌, ℕ, List, [], ◌++◌, Option, Some, refl, ap, ◌∙◌, subst, inl, inr, append-nil}
 use Rattle.std.specs.Prelude.{codes}
 use Rattle.wf_model.specs.Grammar.{Grammar}
+use Rattle.wf_laws.proofs.Accepted.{none_taken}
 use Rattle.wf_io.specs.Lines.{FileLines}
 use Rattle.wf_lines.specs.LineStages.{AllTaken, OfLines, ClosesOrGoesOn}
 use Rattle.wf_lines.specs.Taking.{AreTaken, AreStopped}
@@ -11,7 +12,7 @@ use Rattle.wf_stage.specs.LineEnds.{line_ends}
 use Rattle.wf_stage.proofs.LineOutcomes.{stopped_ends, taken_ends}
 use Rattle.wf_inputs.specs.Inputs.{instance_most}
 use Rattle.wf_inputs.specs.RunTold.{EventsStage}
-use Rattle.wf_inputs.specs.RunTaking.{TakenSoFar, none_taken_of, TakesReport, StopsReport, HoldsNone, StopsHolding, IsAnyTaken}
+use Rattle.wf_inputs.specs.RunTaking.{TakenSoFar, none_taken_of, TakesReport, StopsReport, HoldsNone, StopsHolding, IsAcceptedSoFar}
 use Rattle.wf_inputs.proofs.EventStages.{events_forth, events_back, events_one_way, events_closed_one_way, GoesOn}
 use Rattle.cmd_ingest.specs.Ingested.{file_of, file_head, WritesFile}
 use Rattle.cmd_ingest.proofs.HeadFirst.{file_of_none, file_more, file_first}
@@ -45,7 +46,7 @@ module _ (g : Grammar) (file : FileLines) where
   pub labelled_ends : {IsAt : TakenSoFar → Type 0} (old new : Option (List ℕ)) → AreLabelled IsAt old new → EndsBehind (file_head g) Made Done old new
   labelled_ends old new taken =
       taken_ends (line_ends (codes "events")) (TakesReport file_of) (StopsReport file_of) HoldsNone StopsHolding Closes (file_head g) Made (none_taken_of g) file forth back goes
-      IsAnyTaken (events_one_way file_of) events_closed_one_way tt Done (λ q last none. inr (none.0, (refl, ap (λ x. file_of g q.state.run ++ x) none.1 ∙ append-nil (file_of g q.state.run)))) old new taken
+      IsAcceptedSoFar (events_one_way file_of) events_closed_one_way (none_taken g instance_most) Done (λ q last none. inr (none.0, (refl, ap (λ x. file_of g q.state.run ++ x) none.1 ∙ append-nil (file_of g q.state.run)))) old new taken
 
   -- they were stopped
   abbrev pub AreLabelledTo : Option End → Option (List ℕ) → Option (List ℕ) → Type 0

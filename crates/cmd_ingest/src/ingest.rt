@@ -9,14 +9,15 @@ ghost use Rattle.cmd_ingest.specs.Does.{Ingests};
 use crate::label_lines::label_events;
 use label_file::append_head;
 use std::alloc::Global;
-use wf_inputs::{Spec, spec_stage};
+use wf_accept::Accepted;
+use wf_inputs::spec_stage;
 use wf_io::{Shelf, Sink};
 use wf_json::digest;
 use wf_message::Stop;
 use wf_stage::put_text;
 
 /// Puts the head of the label file of a specification.
-fn put_head<O: Sink>(alloc: Global, spec: &Spec, out: &mut O) -> Result<(), Stop>
+fn put_head<O: Sink>(alloc: Global, spec: &Accepted, out: &mut O) -> Result<(), Stop>
     ensures writes { Writes O.put_bytes O.faults O.at_last [] (IsWritten (file_head spec.now.grammar.core)) out.old out.new (end_after result) }
 {
     let Ok(digest) = digest(alloc, spec.grammar()) else {
@@ -29,7 +30,7 @@ fn put_head<O: Sink>(alloc: Global, spec: &Spec, out: &mut O) -> Result<(), Stop
     put_text(out, &head)
 }
 
-/// Writes the label file of the run of EVENTS: the head once SPEC is accepted, and the entries of each line before the next line is taken.
+/// Writes the label file of the run of EVENTS: the head once SPEC is accepted, and the entries that a piece of EVENTS makes before more of it is read.
 pub fn ingest<H: Shelf, O: Sink>(
     alloc: Global,
     spec_name: &str,

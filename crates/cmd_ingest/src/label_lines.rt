@@ -14,7 +14,8 @@ ghost use Rattle.cmd_ingest.specs.Ingested.{file_head, file_of, WritesFile};
 
 use bumpalo::Bump;
 use std::alloc::Global;
-use wf_inputs::{INSTANCES, Reporting, Spec, events_stop};
+use wf_accept::Accepted;
+use wf_inputs::{INSTANCES, Reporting, events_stop};
 use wf_intake::Grows;
 use wf_io::{Lines, Shelf, Sink};
 use wf_labeller::Labeller;
@@ -23,7 +24,7 @@ use wf_message::Stop;
 use wf_run::{Children, NodeNo, Run};
 use wf_spec::{Event, Name, RunFault};
 
-/// A run whose items are labelled, and the entries of the items that the events of the last line made, as they stand in a label file.
+/// A run whose items are labelled, and the entries of the items that the last event made, as they stand in a label file.
 #[derive(Drop)]
 struct Labelling<'r> {
     labeller: Labeller<'r>,
@@ -136,12 +137,12 @@ impl Grows for Labelling<'_> {
     }
 }
 
-/// Labels the items that the events of the lines of EVENTS make, and puts their entries behind the head. Lines are taken as reports, in any order; of each line are put the entries of all events that come to be applied when it is taken. The first line that is refused ends it, with its number and the fault, behind the entries of the events that were applied before.
+/// Labels the items that the events of the lines of EVENTS make, and puts their entries behind the head. Lines are taken as reports, in any order; the entries of each event are due as soon as it is applied, also where one line sets many free, and what is due is put in pieces. The first line that is refused ends it, with its number and the fault, behind the entries of the events that were applied before. So does want of memory.
 ///
-/// Cost: linear in the bytes of the lines and of the entries. Takes memory for the run, for the reports, for one line, and for the entries of the events that one line applies.
+/// Cost: linear in the bytes of the lines and of the entries. Takes memory for the run, for the reports, for one line, for the entries of one event, and for one piece.
 pub fn label_events<H: Shelf, O: Sink>(
     alloc: Global,
-    spec: &Spec,
+    spec: &Accepted,
     name: &str,
     shelf: &mut H,
     out: &mut O,
@@ -158,7 +159,7 @@ pub fn label_events<H: Shelf, O: Sink>(
     };
     let key = shelf.hash_key();
     let arena = Bump::new(alloc);
-    let run = Run::with_key(alloc, key, &arena, spec.grammar(), spec.cycles(), INSTANCES);
+    let run = Run::with_key(alloc, key, &arena, spec.linear(), INSTANCES);
     let labelling = Labelling {
         labeller: Labeller::new(alloc, run),
         text: Vec::new(alloc),

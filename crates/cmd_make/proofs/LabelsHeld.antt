@@ -1,18 +1,21 @@
 -- Labels that are held as the bytes that their bits fill.
-use Rattle.std.proofs.Common.{◌≡◌, ℕ, zero, suc, ◌+◌, ◌/◌, ◌<◌, ◌≤◌, Bool, List, [], ◌∷◌, length, take, get_or, refl, sym, ap, ◌∙◌, subst, arith, append-nil, add-one}
+use Rattle.std.proofs.Common.{◌≡◌, ℕ, ◌+◌, ◌<◌, ◌≤◌, Bool, List, [], ◌∷◌, ◌++◌, map, length, take, get_or, refl, sym, ap, ◌∙◌, subst, inl, inr, append-nil}
 use Rattle.std.specs.Prelude.{max}
-use Rattle.std.proofs.lemmas.List.{length-map, get_or-map}
+use Rattle.std.proofs.lemmas.List.{length-map, get_or-map, map-append, take_more}
 use Rattle.wf_model.specs.Grammar.{Grammar}
-use Rattle.wf_model.proofs.Lists.{is_at, at_in}
+use Rattle.wf_model.specs.Lists.{IsIn}
+use Rattle.wf_model.proofs.Lists.{in_map, is_at, at_in}
 use Rattle.bit_pack.specs.Bits.{Holds, packed}
 use Rattle.bit_pack.proofs.Packing.{packed_law}
-use Rattle.bit_pack.proofs.Filling.{packed_filled}
 use Rattle.label_model.specs.Labels.{Label, Input, IsLabel, label_bits}
 use Rattle.label_model.specs.Reading.{IsLabelBytes}
 use Rattle.label_model.proofs.LabelBits.{whole_law}
 use Rattle.wf_label.specs.Values.{AreLabelBits}
+use Rattle.wf_labeller.specs.Groups.{longest_of}
 use Rattle.cmd_make.specs.DrillText.{label_no, longest}
-use Rattle.cmd_make.specs.HeldLabels.{AreHeldLabels}
+use Rattle.cmd_make.specs.HeldLabels.{AreHeldLabels, AreHeldPairs, AreWithin, no_pair, pair_of, firsts_of, seconds_of}
+use Rattle.cmd_make.specs.declared.pairs.Pair.{Pair as PairHeld}
+use Rattle.cmd_make.specs.declared.held.PairLabels.{PairLabels as PairLabelsHeld}
 
 module _ (g : Grammar) (ls : List Label) (held : List (List ℕ)) (h : AreHeldLabels g ls held) where
   pub count_held : length held ≡ length ls
@@ -43,28 +46,69 @@ module _ (g : Grammar) (ls : List Label) (held : List (List ℕ)) (h : AreHeldLa
         let l = label_no ls k in
         read.0.2 ∙ ap label_bits (whole_law g read.0.0 l bytes [] read.0.1 label_there (subst (Holds bytes) read.0.2 read.1) (subst (λ b. Holds b (label_bits l)) (sym (append-nil bytes)) (holds_there bytes is))).1
 
-    -- a label has no more bits than its bytes have room for
-    pub no_longer : (bytes : List ℕ) (most : ℕ) → bytes ≡ get_or held k [] → length bytes ≤ most / 8 → most ≡ max (length (label_bits (label_no ls k))) most
-    no_longer bytes most is few =
-        let bits = label_bits (label_no ls k) in
-        let size : length bytes ≡ length (packed bits) = ap (λ (b : List ℕ). length b) (is ∙ bytes_there) in
-        let room = (packed_filled bits).free.inside in
-        omega (arith, few, size, room)
+-- the labels of the items of pairs
+module _ (g : Grammar) (ls : List Label) (ps : List (ℕ × ℕ)) (held : PairLabelsHeld) (h : AreHeldPairs g ls ps held) where
+  pub count_pairs : length held.firsts ≡ length ps
+  count_pairs = count_held g (map (λ (p : ℕ × ℕ). label_no ls p.0) ps) held.firsts h.firsts ∙ length-map ps (λ (p : ℕ × ℕ). label_no ls p.0)
 
-swapped : (a b c : ℕ) → max a (max b c) ≡ max b (max a c)
-swapped a b c = omega arith
+  -- of the pair of a number
+  module _ (k : ℕ) (below : k < length held.firsts) where
+    inside : k < length ps
+    inside = subst (λ n. k < n) count_pairs below
 
--- the longest of one label more
-longest_suc : (ls : List Label) (k : ℕ) → k < length ls → longest (take (suc k) ls) ≡ max (length (label_bits (label_no ls k))) (longest (take k ls))
-longest_suc [] k h = absurd (omega (arith, h))
-longest_suc (l ∷ ls) zero h = refl
-longest_suc (l ∷ ls) (suc k) h =
-    let n = length (label_bits (label_no ls k)) in
-    ap (max (length (label_bits l))) (longest_suc ls k (omega (arith, h))) ∙ swapped (length (label_bits l)) n (longest (take k ls))
+    pub second_below : k < length held.seconds
+    second_below = subst (λ n. k < n) (sym (count_held g (map (λ (p : ℕ × ℕ). label_no ls p.1) ps) held.seconds h.seconds ∙ length-map ps (λ (p : ℕ × ℕ). label_no ls p.1))) inside
 
-pub longest_more : (ls : List Label) (k : ℕ) → k < length ls → longest (take (k + 1) ls) ≡ max (length (label_bits (label_no ls k))) (longest (take k ls))
-longest_more ls k h = ap (λ n. longest (take n ls)) (add-one k) ∙ longest_suc ls k h
+    first_is : label_no (map (λ (p : ℕ × ℕ). label_no ls p.0) ps) k ≡ label_no ls (get_or ps k no_pair).0
+    first_is = get_or-map (λ (p : ℕ × ℕ). label_no ls p.0) ps k no_pair (Input 0) inside
 
-pub longest_next : (g : Grammar) (ls : List Label) (held : List (List ℕ)) → AreHeldLabels g ls held → (k most new : ℕ) → k < length held → most ≡ longest (take k ls) → new ≡ max (length (label_bits (label_no ls k))) most → new ≡ longest (take (k + 1) ls)
-longest_next g ls held h k most new below so_far is =
-    is ∙ (ap (max (length (label_bits (label_no ls k)))) so_far ∙ sym (longest_more ls k (subst (λ n. k < n) (count_held g ls held h) below)))
+    second_is : label_no (map (λ (p : ℕ × ℕ). label_no ls p.1) ps) k ≡ label_no ls (get_or ps k no_pair).1
+    second_is = get_or-map (λ (p : ℕ × ℕ). label_no ls p.1) ps k no_pair (Input 0) inside
+
+    pub first_there : IsLabel g (label_no ls (get_or ps k no_pair).0)
+    first_there = subst (IsLabel g) first_is (label_there g (map (λ (p : ℕ × ℕ). label_no ls p.0) ps) held.firsts h.firsts k below)
+
+    pub second_there : IsLabel g (label_no ls (get_or ps k no_pair).1)
+    second_there = subst (IsLabel g) second_is (label_there g (map (λ (p : ℕ × ℕ). label_no ls p.1) ps) held.seconds h.seconds k second_below)
+
+    pub first_bits : (bits : List Bool) → bits ≡ label_bits (label_no (map (λ (p : ℕ × ℕ). label_no ls p.0) ps) k) → bits ≡ label_bits (label_no ls (get_or ps k no_pair).0)
+    first_bits bits e = e ∙ ap label_bits first_is
+
+    pub second_bits : (bits : List Bool) → bits ≡ label_bits (label_no (map (λ (p : ℕ × ℕ). label_no ls p.1) ps) k) → bits ≡ label_bits (label_no ls (get_or ps k no_pair).1)
+    second_bits bits e = e ∙ ap label_bits second_is
+
+-- of labels that are told by their bits, those of the items of pairs are held as bytes
+module _ (ls : List Label) where
+  pub firsts_held : (ps : List (ℕ × ℕ)) → AreWithin (length ls) ps → firsts_of (map label_bits ls) ps ≡ map (λ l. packed (label_bits l)) (map (λ (p : ℕ × ℕ). label_no ls p.0) ps)
+  firsts_held [] h = refl
+  firsts_held (p ∷ ps) h =
+      ap (λ b. packed b ∷ firsts_of (map label_bits ls) ps) (get_or-map label_bits ls p.0 (Input 0) [] (h p (inl refl)).0) ∙
+      ap (λ l. packed (label_bits (label_no ls p.0)) ∷ l) (firsts_held ps (λ q i. h q (inr i)))
+
+  pub seconds_held : (ps : List (ℕ × ℕ)) → AreWithin (length ls) ps → seconds_of (map label_bits ls) ps ≡ map (λ l. packed (label_bits l)) (map (λ (p : ℕ × ℕ). label_no ls p.1) ps)
+  seconds_held [] h = refl
+  seconds_held (p ∷ ps) h =
+      ap (λ b. packed b ∷ seconds_of (map label_bits ls) ps) (get_or-map label_bits ls p.1 (Input 0) [] (h p (inl refl)).1) ∙
+      ap (λ l. packed (label_bits (label_no ls p.1)) ∷ l) (seconds_held ps (λ q i. h q (inr i)))
+
+-- the longest of labels, told by their bits
+pub longest_is : (ls : List Label) → longest_of (map label_bits ls) ≡ longest ls
+longest_is [] = refl
+longest_is (l ∷ ls) = ap (max (length (label_bits l))) (longest_is ls)
+
+-- the next pair
+module _ (pairs : List PairHeld) (k : ℕ) (d : PairHeld) (below : k < length pairs) where
+  pub next_within : (count : ℕ) → AreWithin count (map pair_of pairs) → ((get_or pairs k d).first < count) × ((get_or pairs k d).second < count)
+  next_within count within = let p = get_or pairs k d in within (pair_of p) (in_map pair_of p pairs (at_in p k pairs (is_at k pairs d below)))
+
+  pub next_first : (labels : List (List Bool)) (now new : List (List ℕ)) (label : List ℕ) → now ≡ firsts_of labels (map pair_of (take k pairs)) → new ≡ now ++ label ∷ [] → label ≡ packed (get_or labels (get_or pairs k d).first []) → new ≡ firsts_of labels (map pair_of (take (k + 1) pairs))
+  next_first labels now new label so_far push is =
+      push ∙ (ap (λ l. l ++ label ∷ []) so_far ∙ (ap (λ b. firsts_of labels (map pair_of (take k pairs)) ++ b ∷ []) is ∙
+      sym (ap (λ l. firsts_of labels (map pair_of l)) (take_more pairs k d below) ∙
+      (ap (firsts_of labels) (map-append pair_of (take k pairs) (get_or pairs k d ∷ [])) ∙ map-append (λ (p : ℕ × ℕ). packed (get_or labels p.0 [])) (map pair_of (take k pairs)) (pair_of (get_or pairs k d) ∷ [])))))
+
+  pub next_second : (labels : List (List Bool)) (now new : List (List ℕ)) (label : List ℕ) → now ≡ seconds_of labels (map pair_of (take k pairs)) → new ≡ now ++ label ∷ [] → label ≡ packed (get_or labels (get_or pairs k d).second []) → new ≡ seconds_of labels (map pair_of (take (k + 1) pairs))
+  next_second labels now new label so_far push is =
+      push ∙ (ap (λ l. l ++ label ∷ []) so_far ∙ (ap (λ b. seconds_of labels (map pair_of (take k pairs)) ++ b ∷ []) is ∙
+      sym (ap (λ l. seconds_of labels (map pair_of l)) (take_more pairs k d below) ∙
+      (ap (seconds_of labels) (map-append pair_of (take k pairs) (get_or pairs k d ∷ [])) ∙ map-append (λ (p : ℕ × ℕ). packed (get_or labels p.1 [])) (map pair_of (take k pairs)) (pair_of (get_or pairs k d) ∷ [])))))

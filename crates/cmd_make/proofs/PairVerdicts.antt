@@ -1,13 +1,12 @@
 -- The verdicts on pairs of labels.
 use Rattle.std.proofs.Common.{◌≡◌, ℕ, zero, suc, ◌+◌, ◌<◌, ◌≤◌, List, [], ◌∷◌, ◌++◌, length, map, take, get_or, refl, sym, ap, ◌∙◌, subst, arith, inl, inr}
 use Rattle.std.specs.Prelude.{cond, count_by}
-use Rattle.std.proofs.lemmas.List.{length-map, get_or-map, take_more, take_all}
+use Rattle.std.proofs.lemmas.List.{take_more, take_all}
 use Rattle.std.proofs.lemmas.List.Sums.{sum_by-cons}
 use Rattle.rand_pcg.specs.Lcg.{Lcg}
 use Rattle.wf_model.specs.Grammar.{Grammar}
 use Rattle.wf_model.specs.Lists.{IsIn}
 use Rattle.wf_model.specs.View.{View}
-use Rattle.wf_model.proofs.Lists.{in_map, is_at, at_in}
 use Rattle.label_model.specs.Labels.{Label}
 use Rattle.verdict_model.specs.declared.verdict.Verdict.{Verdict}
 use Rattle.verdict_model.specs.declared.verdict.Verdict.TheVariants.{Hidden1, Hidden2, Clash, Yes, No}
@@ -15,8 +14,7 @@ use Rattle.verdict_model.specs.Verdicts.{IsVerdict}
 use Rattle.verdict_model.proofs.OneVerdict.{one_verdict}
 use Rattle.wf_gen.specs.Draws.{drawn}
 use Rattle.cmd_make.specs.DrillText.{pair_count, pairs_drawn, label_no, AreVerdicts, is_yes, is_no, is_hidden}
-use Rattle.cmd_make.specs.declared.pairs.Pair.{Pair as PairHeld}
-use Rattle.cmd_make.specs.HeldLabels.{AreWithin, pair_of}
+use Rattle.cmd_make.specs.HeldLabels.{AreWithin, no_pair}
 
 module _ (g : Grammar) (u : View) (ls : List Label) where
   -- a verdict on one pair more
@@ -44,22 +42,16 @@ module _ (g : Grammar) (u : View) (ls : List Label) where
       let vs = some_list ps (λ q i. each q (inr i)) in
       (v.0 ∷ vs.0, (v.1, vs.1))
 
--- pairs that are held, with a verdict on the next one
-module _ (pairs : List PairHeld) (k : ℕ) (d : PairHeld) (below : k < length pairs) where
-  pub next_within : (count : ℕ) → AreWithin count (map pair_of pairs) → ((get_or pairs k d).first < count) × ((get_or pairs k d).second < count)
-  next_within count within = let p = get_or pairs k d in within (pair_of p) (in_map pair_of p pairs (at_in p k pairs (is_at k pairs d below)))
-
-  pub next_verdict : (g : Grammar) (u : View) (ls : List Label) (vs new : List Verdict) (v : Verdict) → AreVerdicts g u ls (take k (map pair_of pairs)) vs → IsVerdict g u (label_no ls (get_or pairs k d).first) (label_no ls (get_or pairs k d).second) v → new ≡ vs ++ v ∷ [] →
-      AreVerdicts g u ls (take (k + 1) (map pair_of pairs)) new
-  next_verdict g u ls vs new v all is push =
-      let p = pair_of (get_or pairs k d) in
-      let more : take (k + 1) (map pair_of pairs) ≡ take k (map pair_of pairs) ++ p ∷ [] =
-      take_more (map pair_of pairs) k (pair_of d) (subst (λ n. k < n) (sym (length-map pairs pair_of)) below) ∙ ap (λ q. take k (map pair_of pairs) ++ q ∷ []) (get_or-map pair_of pairs k d (pair_of d) below) in
-      subst (λ l. AreVerdicts g u ls l new) (sym more) (subst (λ l. AreVerdicts g u ls (take k (map pair_of pairs) ++ p ∷ []) l) (sym push) (one_more g u ls (take k (map pair_of pairs)) vs p v all is))
+-- pairs, with a verdict on the next one
+pub next_verdict : (ps : List (ℕ × ℕ)) (k : ℕ) → k < length ps → (g : Grammar) (u : View) (ls : List Label) (vs new : List Verdict) (v : Verdict) → AreVerdicts g u ls (take k ps) vs → IsVerdict g u (label_no ls (get_or ps k no_pair).0) (label_no ls (get_or ps k no_pair).1) v → new ≡ vs ++ v ∷ [] →
+    AreVerdicts g u ls (take (k + 1) ps) new
+next_verdict ps k below g u ls vs new v all is push =
+    let p = get_or ps k no_pair in
+    subst (λ l. AreVerdicts g u ls l new) (sym (take_more ps k no_pair below)) (subst (λ l. AreVerdicts g u ls (take k ps ++ p ∷ []) l) (sym push) (one_more g u ls (take k ps) vs p v all is))
 
 -- the verdicts on all of them
-pub all_verdicts : (pairs : List PairHeld) (k : ℕ) → length pairs ≤ k → (g : Grammar) (u : View) (ls : List Label) (vs : List Verdict) → AreVerdicts g u ls (take k (map pair_of pairs)) vs → AreVerdicts g u ls (map pair_of pairs) vs
-all_verdicts pairs k end g u ls vs all = subst (λ l. AreVerdicts g u ls l vs) (take_all k (map pair_of pairs) (omega (arith, end, length-map pairs pair_of))) all
+pub all_verdicts : (ps : List (ℕ × ℕ)) (k : ℕ) → length ps ≤ k → (g : Grammar) (u : View) (ls : List Label) (vs : List Verdict) → AreVerdicts g u ls (take k ps) vs → AreVerdicts g u ls ps vs
+all_verdicts ps k end g u ls vs all = subst (λ l. AreVerdicts g u ls l vs) (take_all k ps end) all
 
 -- drawn pairs are of the items that there are
 pub drawn_within : (n items : ℕ) (r : Lcg) → (0 < n → 0 < items) → AreWithin items (pairs_drawn n items r)

@@ -1,7 +1,5 @@
 -- The labels of a generated run.
 use Rattle.std.proofs.Common.{ℕ, ◌<◌, List, length, sym, subst, arith}
-use Rattle.std.proofs.lemmas.Simd.{map-map}
-use Rattle.bit_pack.specs.Bits.{packed}
 use Rattle.wf_model.specs.declared.event.Event.{Event}
 use Rattle.wf_model.specs.Grammar.{Grammar}
 use Rattle.wf_model.specs.Items.{Item}
@@ -9,15 +7,13 @@ use Rattle.wf_model.specs.Lists.{IsIn}
 use Rattle.wf_model.specs.Run.{IsAccepted}
 use Rattle.wf_model.specs.WellFormed.{IsWellFormed}
 use Rattle.wf_model.proofs.Lists.{in_map_from, is_at, at_in}
-use Rattle.label_model.specs.Labels.{Label, Input, label_bits}
+use Rattle.label_model.specs.Labels.{Label, Input}
 use Rattle.label_model.specs.RunLabels.{labelled, HasLabel}
 use Rattle.label_model.proofs.AcceptedLabels.{label_law}
 use Rattle.wf_gen.specs.Turns.{generated}
 use Rattle.wf_gen.proofs.GeneratedRuns.{generated_run_law}
-use Rattle.wf_labeller.specs.Entries.{labels_in_bytes}
 use Rattle.wf_inputs.specs.Inputs.{instance_most}
 use Rattle.cmd_make.specs.DrillText.{labels_of_run, label_no}
-use Rattle.cmd_make.specs.HeldLabels.{AreHeldLabels}
 
 -- a generated run is accepted
 pub generated_accepted : (g : Grammar) → IsWellFormed g → (n seed : ℕ) → IsAccepted g instance_most (generated g n seed instance_most).events
@@ -29,12 +25,6 @@ module _ (g : Grammar) (formed : IsWellFormed g) (events : List Event) (accepted
   item_of l i =
       let m = in_map_from (λ (t : Item × Label). t.1) l (labelled g events) i in
       (m.0.0, subst (HasLabel g events m.0.0) (sym m.2) (m.1, (label_law g formed events accepted).labels m.0.0 m.0.1 m.1))
-
-  pub held_labels : AreHeldLabels g (labels_of_run g events) (labels_in_bytes (labelled g events))
-  held_labels = record {
-    is = sym (map-map (λ (l : Label). packed (label_bits l)) (λ (t : Item × Label). t.1) (labelled g events));
-    of_it = λ l i. (item_of l i).1.1;
-  }
 
   -- of each number of an item
   pub item_no : (k : ℕ) → k < length (labels_of_run g events) → (t : Item) × HasLabel g events t (label_no (labels_of_run g events) k)

@@ -8,15 +8,12 @@ ghost use Rattle.cmd_make.specs.DrillText.{IsSummary, IsDrilled};
 ghost use Rattle.cmd_make.specs.Does.{Drills};
 
 use crate::labelling::label_run;
-use crate::lengths::longest;
-use crate::pairs::{draw_pairs, pair_count};
 use crate::summary::summary_text;
 use crate::verdicts::verdicts_of;
 use std::alloc::{AllocError, Global};
 use wf_gen::Gen;
 use wf_inputs::{INSTANCES, Viewed, spec_stage, view_stage};
 use wf_io::{Shelf, Sink};
-use wf_labeller::Labels;
 use wf_message::Stop;
 use wf_stage::put_text;
 
@@ -33,16 +30,17 @@ pub struct DrillWords<'w> {
 fn summary_of(alloc: Global, v: &Viewed, n: u32, seed: u64) -> Result<Vec<u8>, AllocError>
     ensures { IfOk result (λ text. IsSummary v.now.spec.grammar.core v.now.view.core (generated v.now.spec.grammar.core n seed instance_most) text.items) }
 {
-    let g = v.grammar();
-    let cycles = v.spec().cycles();
-    let mut generator = Gen::new(alloc, g, cycles, n, seed, INSTANCES);
-    let mut labels = Labels::new(alloc);
-    let instances = label_run(alloc, g, cycles, &mut generator, &mut labels)?;
-    let items = labels.count();
-    let pairs = draw_pairs(alloc, &mut generator, pair_count(items), items)?;
-    let verdicts = verdicts_of(alloc, v, &labels, &pairs)?;
-    let bits = longest(g, cycles, &labels);
-    summary_text(alloc, instances, items, bits, &verdicts)
+    let linear = v.linear();
+    let mut generator = Gen::new(alloc, linear, n, seed, INSTANCES);
+    let drawn = label_run(alloc, linear, &mut generator)?;
+    let verdicts = verdicts_of(alloc, v, &drawn.labels)?;
+    summary_text(
+        alloc,
+        drawn.instances,
+        drawn.items,
+        drawn.longest,
+        &verdicts,
+    )
 }
 
 /// Puts the summary of the run of at most `n` expansions that a seed gives, of which all items are labelled and drawn pairs are decided under a view: the numbers of its instances and items, the bits of its longest label, and how many verdicts of each kind there are.
@@ -59,7 +57,7 @@ fn put_drill<O: Sink>(alloc: Global, v: &Viewed, n: u32, seed: u64, out: &mut O)
 
 /// Writes how a generated run is labelled, and how drawn pairs of its items are answered under a safe view.
 ///
-/// Cost: linear in the run. Takes memory for the run and for its labels.
+/// Cost: linear in the run. Takes memory for the run, and for the labels of the items that are drawn.
 pub(crate) fn drill<H: Shelf, O: Sink>(
     alloc: Global,
     words: &DrillWords<'_>,

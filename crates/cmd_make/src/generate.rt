@@ -8,8 +8,9 @@ ghost use Rattle.cmd_make.specs.Putting.{MakesDue};
 ghost use Rattle.cmd_make.specs.Does.{generated_text, Generates};
 
 use std::alloc::Global;
+use wf_accept::Accepted;
 use wf_gen::Gen;
-use wf_inputs::{INSTANCES, Spec, spec_stage};
+use wf_inputs::{INSTANCES, spec_stage};
 use wf_io::{Shelf, Sink};
 use wf_message::Stop;
 use wf_stage::put_text;
@@ -66,14 +67,14 @@ fn put_events<O: Sink>(alloc: Global, events: &mut Gen<'_>, out: &mut O) -> Resu
 /// Puts the events of a generated run of a grammar, as lines.
 fn put_generated<O: Sink>(
     alloc: Global,
-    spec: &Spec,
+    spec: &Accepted,
     n: u32,
     seed: u64,
     out: &mut O,
 ) -> Result<(), Stop>
     ensures writes { Writes O.put_bytes O.faults O.at_last [] (IsWritten (generated_text spec.now.grammar.core n seed)) out.old out.new (end_after result) }
 {
-    let mut events = Gen::new(alloc, spec.grammar(), spec.cycles(), n, seed, INSTANCES);
+    let mut events = Gen::new(alloc, spec.linear(), n, seed, INSTANCES);
     put_events(alloc, &mut events, out)
 }
 

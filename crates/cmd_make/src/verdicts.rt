@@ -1,69 +1,64 @@
 // The verdicts on pairs of labels under a view.
-ghost use Rattle.std.specs.Prelude.{◌≡◌, ◌≤◌, ◌<◌, List, map, length, IfOk};
+ghost use Rattle.std.specs.Prelude.{◌≡◌, ◌≤◌, ◌<◌, ℕ, List, length, get_or, IfOk};
 ghost use Rattle.wf_model.specs.View.{View as ViewSeen};
 ghost use Rattle.label_model.specs.Labels.{Label};
 ghost use Rattle.verdict_model.specs.Verdicts.{IsVerdict};
 ghost use Rattle.wf_vlabel.specs.Seen.{IsLabelOfView};
 ghost use Rattle.wf_decode.specs.Reading.{most_legs};
 ghost use Rattle.cmd_make.specs.DrillText.{label_no, AreVerdicts};
-ghost use Rattle.cmd_make.specs.HeldLabels.{AreHeldLabels, pair_of, AreWithin};
+ghost use Rattle.cmd_make.specs.HeldLabels.{AreHeldPairs, no_pair};
 
-use crate::lengths::label_of;
-use crate::pairs::Pair;
+use crate::held::{PairLabels, label_of};
 use bool_mat::Steps;
 use std::alloc::{AllocError, Global};
 use std::marker::Brand;
 use std::sync::ledger::{Blank, Ledger};
 use wf_decode::{Scratch, Verdict, decide};
 use wf_inputs::Viewed;
-use wf_labeller::Labels;
 use wf_vlabel::ViewLabel;
 
-/// The verdict on the labels of the two items of a pair.
+/// The verdict on the labels of the pair of a number.
 fn verdict_on<L: Ledger>(
     vl: &ViewLabel<'_>,
     scratch: &mut Scratch,
     steps: &mut Steps<L>,
-    labels: &Labels,
-    pair: Pair,
+    labels: &PairLabels,
+    i: usize,
 ) -> Verdict
-    requires held { (ls : List Label) × AreHeldLabels vl.now.grammar ls labels.now }
-    requires first { pair.first < length labels.now }
-    requires second { pair.second < length labels.now }
+    requires held { (ls : List Label) × (ps : List (ℕ × ℕ)) × AreHeldPairs vl.now.grammar ls ps labels.now }
+    requires in_range { i < length labels.now.firsts }
     requires room { most_legs vl.now.grammar ≤ scratch.old }
-    ensures verdict { (u : ViewSeen) (ls : List Label) → IsLabelOfView vl.now u → AreHeldLabels vl.now.grammar ls labels.now
-        → IsVerdict vl.now.grammar u (label_no ls pair.first) (label_no ls pair.second) result }
+    ensures verdict { (u : ViewSeen) (ls : List Label) (ps : List (ℕ × ℕ)) → IsLabelOfView vl.now u → AreHeldPairs vl.now.grammar ls ps labels.now
+        → IsVerdict vl.now.grammar u (label_no ls (get_or ps i no_pair).0) (label_no ls (get_or ps i no_pair).1) result }
     ensures room { scratch.new ≡ scratch.old }
 {
-    let g = vl.grammar();
-    let cycles = vl.cycles();
-    let first = label_of(g, cycles, labels, pair.first);
-    let second = label_of(g, cycles, labels, pair.second);
+    let linear = vl.linear();
+    let first = label_of(linear, &labels.firsts, i);
+    let second = label_of(linear, &labels.seconds, i);
     decide(vl, scratch, first, second, steps)
 }
 
-/// The verdicts on pairs, one for each, with a counter of row products of their own. Fails only for want of memory.
+/// The verdicts on pairs of labels, one for each, with a counter of row products of their own. Fails only for want of memory.
 fn verdicts_on<L: Ledger>(
     blank: Blank,
     alloc: Global,
     vl: &ViewLabel<'_>,
     scratch: &mut Scratch,
-    labels: &Labels,
-    pairs: &[Pair],
+    labels: &PairLabels,
 ) -> Result<Vec<Verdict>, AllocError>
     requires name { blank.name ≡ L.name }
     requires parts { blank.parts ≡ L.parts }
     requires some { 0 < blank.parts }
-    requires held { (ls : List Label) × AreHeldLabels vl.now.grammar ls labels.now }
-    requires within { AreWithin (length labels.now) (map pair_of pairs.now) }
+    requires held { (ls : List Label) × (ps : List (ℕ × ℕ)) × AreHeldPairs vl.now.grammar ls ps labels.now }
     requires room { most_legs vl.now.grammar ≤ scratch.old }
-    ensures { IfOk result (λ vs. (u : ViewSeen) (ls : List Label) → IsLabelOfView vl.now u → AreHeldLabels vl.now.grammar ls labels.now
-        → AreVerdicts vl.now.grammar u ls (map pair_of pairs.now) vs.items) }
+    ensures { IfOk result (λ vs. (u : ViewSeen) (ls : List Label) (ps : List (ℕ × ℕ)) → IsLabelOfView vl.now u → AreHeldPairs vl.now.grammar ls ps labels.now
+        → AreVerdicts vl.now.grammar u ls ps vs.items) }
 {
     let mut steps = Steps::<L>::new(blank);
-    let mut verdicts = Vec::with_capacity(alloc, pairs.len())?;
-    for i in 0..pairs.len() {
-        let verdict = verdict_on(vl, scratch, &mut steps, labels, pairs[i]);
+    let count = labels.firsts.count();
+    let mut verdicts = Vec::with_capacity(alloc, count)?;
+    for i in 0..count {
+        let verdict = verdict_on(vl, scratch, &mut steps, labels, i);
         verdicts.push(verdict)?;
     }
     Ok(verdicts)
@@ -75,15 +70,13 @@ fn verdicts_on<L: Ledger>(
 pub(crate) fn verdicts_of(
     alloc: Global,
     v: &Viewed,
-    labels: &Labels,
-    pairs: &[Pair],
+    labels: &PairLabels,
 ) -> Result<Vec<Verdict>, AllocError>
-    requires held { (ls : List Label) × AreHeldLabels v.now.spec.grammar.core ls labels.now }
-    requires within { AreWithin (length labels.now) (map pair_of pairs.now) }
-    ensures { IfOk result (λ vs. (ls : List Label) → AreHeldLabels v.now.spec.grammar.core ls labels.now
-        → AreVerdicts v.now.spec.grammar.core v.now.view.core ls (map pair_of pairs.now) vs.items) }
+    requires held { (ls : List Label) × (ps : List (ℕ × ℕ)) × AreHeldPairs v.now.spec.grammar.core ls ps labels.now }
+    ensures { IfOk result (λ vs. (ls : List Label) (ps : List (ℕ × ℕ)) → AreHeldPairs v.now.spec.grammar.core ls ps labels.now
+        → AreVerdicts v.now.spec.grammar.core v.now.view.core ls ps vs.items) }
 {
-    let label = ViewLabel::build(alloc, v.grammar(), v.spec().cycles(), v.view(), v.full())?;
+    let label = ViewLabel::build(alloc, v.linear(), v.view(), v.full())?;
     let mut scratch = Scratch::for_view(alloc, &label)?;
-    verdicts_on::<Brand>(Blank::new(1), alloc, &label, &mut scratch, labels, pairs)
+    verdicts_on::<Brand>(Blank::new(1), alloc, &label, &mut scratch, labels)
 }

@@ -1,10 +1,10 @@
 // The cycles of grammars, and why a grammar is not strictly linear. The values are worked by hand.
-ghost use Rattle.wf_recur.specs.Cycles.{AreCyclesOf};
 
 use std::alloc::{AllocError, Global};
 use std::test::Fail;
+use wf_accept::Accepted;
 use wf_recur::{CycleNo, RecurFault, cycles};
-use wf_samples::{Accepted, LINE, LOOP, PAIR, grammar, sample};
+use wf_samples::{LINE, LOOP, PAIR, grammar, sample};
 use wf_spec::{ModNo, PosNo, ProdNo, Step};
 
 /// S, A, B, C and D have the numbers 0 to 4. An S is done by a D and a B, an A by a P and a D, a B by a P and a B, a C by a P and an A, and a D by a C and a P; an A and a B also by a P alone.
@@ -24,13 +24,11 @@ const PLACES: [(&str, &[(u16, u16, u16)]); 4] = [
 ];
 
 /// The places of all cycles of a grammar, by cycle and then by place.
-fn places_of(alloc: Global, s: &Accepted) -> Result<Vec<(u16, u16, u16)>, AllocError>
-    requires { AreCyclesOf s.now.grammar.core s.now.cycles }
-{
+fn places_of(alloc: Global, s: &Accepted) -> Result<Vec<(u16, u16, u16)>, AllocError> {
     let mut list = Vec::new(alloc);
-    for cycle in 0..s.cycles.count() {
-        for place in 0..s.cycles.length(CycleNo(cycle)) {
-            let module = s.cycles.at(CycleNo(cycle), place);
+    for cycle in 0..s.cycles().count() {
+        for place in 0..s.cycles().length(CycleNo(cycle)) {
+            let module = s.cycles().at(CycleNo(cycle), place);
             list.push((cycle, place, module.0))?;
         }
     }
@@ -67,13 +65,11 @@ const STANDS: [(&str, &str, Option<(u16, u16, u16, u8)>); 10] = [
 ];
 
 /// Where the module of a name stands, in the same numbers.
-fn stand_of(s: &Accepted, name: &str) -> Result<Option<(u16, u16, u16, u8)>, Fail>
-    requires { AreCyclesOf s.now.grammar.core s.now.cycles }
-{
-    let Some(m) = s.grammar.find(name.as_bytes()) else {
+fn stand_of(s: &Accepted, name: &str) -> Result<Option<(u16, u16, u16, u8)>, Fail> {
+    let Some(m) = s.grammar().find(name.as_bytes()) else {
         return Err(Fail::new("a module of the name"));
     };
-    let Some(on) = s.cycles.on(m) else {
+    let Some(on) = s.cycles().on(m) else {
         return Ok(None);
     };
     let Step {

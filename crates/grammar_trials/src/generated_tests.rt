@@ -82,7 +82,7 @@ fn told(alloc: Global, (text, n, seed, most): Asked) -> Result<Generated, Fail> 
         return Err(Fail::new("a limit from 1 on"));
     }
     let s = sample(alloc, text)?;
-    let mut run = Gen::new(alloc, &s.grammar, &s.cycles, n, seed, most);
+    let mut run = Gen::new(alloc, s.linear(), n, seed, most);
     let mut events = Vec::new(alloc);
     let mut lines = Vec::new(alloc);
     for _ in 0..16 {
@@ -107,7 +107,7 @@ fn numbered(alloc: Global, (text, n, seed, most): Asked) -> Result<(Vec<u8>, u32
         return Err(Fail::new("a limit from 1 on"));
     }
     let s = sample(alloc, text)?;
-    let mut run = Gen::new(alloc, &s.grammar, &s.cycles, n, seed, most);
+    let mut run = Gen::new(alloc, s.linear(), n, seed, most);
     let mut out = Vec::new(alloc);
     for _ in 0..16 {
         if !run.write_next(&mut out)? {

@@ -1,13 +1,13 @@
 // Earlier versions of grammars: which are accepted, which keep their cycles, and their digests, all worked by hand or by another program.
-ghost use Rattle.wf_model.specs.Linear.{IsLinear};
-ghost use Rattle.wf_recur.specs.Cycles.{AreCyclesOf};
 
 use crate::json_tests::has_digest;
 use std::alloc::{AllocError, Global};
 use std::test::Fail;
+use wf_accept::{AcceptFault, accept};
 use wf_form::{FormFault, build};
 use wf_json::{digests, read_spec};
-use wf_samples::{Accepted, CLOSED, GROWN, LINE, LOOP, PAIR, grammar, sample};
+use wf_recur::{Linear, cycles};
+use wf_samples::{CLOSED, GROWN, LINE, LOOP, PAIR, grammar};
 use wf_spec::{Version, is_version};
 use wf_version::{VersionFault, same_cycles};
 
@@ -117,15 +117,12 @@ const CYCLES: [(&str, &str, &[Option<u16>]); 6] = [
 ];
 
 /// The module that gets on a cycle after a version, if one does.
-fn changed(alloc: Global, s: &Accepted, version: Version) -> Result<Option<u16>, Fail>
-    requires linear { IsLinear s.now.grammar.core }
-    requires cycles { AreCyclesOf s.now.grammar.core s.now.cycles }
-{
+fn changed(alloc: Global, g: Linear<'_>, version: Version) -> Result<Option<u16>, Fail> {
     let (modules, productions) = (u64::from(version.modules), u64::from(version.productions));
-    if !is_version(&s.grammar, modules, productions) {
+    if !is_version(g.grammar, modules, productions) {
         return Err(Fail::new("a version of the grammar"));
     }
-    match same_cycles(alloc, &s.grammar, &s.cycles, version) {
+    match same_cycles(alloc, g, version) {
         Ok(()) => Ok(None),
         Err(VersionFault::CycleChanged { module }) => Ok(Some(module.0)),
         Err(VersionFault::NoMemory) => Err(Fail::new("memory")),
@@ -140,10 +137,17 @@ fn are_changed(
     wanted: &[Option<u16>],
 ) -> Result<bool, Fail> {
     let text = with_versions(alloc, spec, versions)?;
-    let s = sample(alloc, &text)?;
-    let named = s.grammar.versions();
+    let grammar = grammar(alloc, &text)?;
+    let Ok(cycles) = cycles(alloc, &grammar) else {
+        return Err(Fail::new("a strictly linear grammar"));
+    };
+    let g = Linear {
+        grammar: &grammar,
+        cycles: &cycles,
+    };
+    let named = grammar.versions();
     for (version, module) in named.iter().zip(wanted) {
-        if changed(alloc, &s, *version)? != *module {
+        if changed(alloc, g, *version)? != *module {
             return Ok(false);
         }
     }
@@ -155,6 +159,51 @@ fn cycles_are_kept_or_changed(rt: HostRuntime) -> Result<(), Fail> {
     for (spec, versions, wanted) in CYCLES {
         assert!(rt;
             are_changed(rt.alloc(), spec, versions, wanted)?,
+            "at {spec}"
+        );
+    }
+    Ok(())
+}
+
+/// The first of these modules that gets on a cycle, with the number of its version.
+fn first_of(wanted: &[Option<u16>]) -> Option<(u64, u16)> {
+    for version in 0..wanted.len() {
+        if let Some(module) = wanted[version] {
+            return Some((version as u64, module));
+        }
+    }
+    None
+}
+
+/// Whether a specification with versions is accepted, or refused for the first version that does not keep its cycles.
+fn is_accepted_so(
+    alloc: Global,
+    spec: &str,
+    versions: &str,
+    wanted: &[Option<u16>],
+) -> Result<bool, Fail> {
+    let text = with_versions(alloc, spec, versions)?;
+    let grammar = grammar(alloc, &text)?;
+    let told = match accept(alloc, Box::into_inner(grammar)) {
+        Ok(_) => None,
+        Err(unaccepted) => match unaccepted.fault {
+            AcceptFault::VersionChanged {
+                version,
+                fault: VersionFault::CycleChanged { module },
+            } => Some((version, module.0)),
+            _ => return Err(Fail::new("a strictly linear grammar")),
+        },
+    };
+    Ok(told == first_of(wanted))
+}
+
+#[test]
+fn no_grammar_is_accepted_of_which_a_version_changes_its_cycles(
+    rt: HostRuntime,
+) -> Result<(), Fail> {
+    for &(spec, versions, wanted) in &CYCLES {
+        assert!(rt;
+            is_accepted_so(rt.alloc(), spec, versions, wanted)?,
             "at {spec}"
         );
     }

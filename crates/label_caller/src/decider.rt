@@ -1,12 +1,10 @@
 // A label file that is opened once, and pairs of its items that are decided.
 ghost use Rattle.std.specs.Prelude.{◌≡◌, ◌^◌, ◌<◌, ◌≤◌, List, length, IfOk, IfErr};
 ghost use Rattle.wf_model.specs.Grammar.{Grammar as GrammarSeen};
-ghost use Rattle.wf_model.specs.Linear.{IsLinear};
 ghost use Rattle.wf_model.specs.Proper.{IsProper};
 ghost use Rattle.wf_model.specs.View.{View as ViewSeen};
 ghost use Rattle.label_model.specs.Files.{Entry};
 ghost use Rattle.wf_json.specs.Digests.{digests_of};
-ghost use Rattle.wf_recur.specs.Cycles.{AreCyclesOf};
 ghost use Rattle.wf_view.specs.Held.{IsHeldFor};
 ghost use Rattle.wf_safe.specs.Full.{AreFullRows};
 ghost use Rattle.wf_vlabel.specs.Seen.{IsLabelOfView};
@@ -21,12 +19,11 @@ use label_file::{Store, StoreFault};
 use std::alloc::Global;
 use std::marker::{Brand, Model};
 use std::sync::ledger::{Blank, Ledger};
+use wf_accept::Accepted;
 use wf_decode::Scratch;
 use wf_json::digests;
 use wf_query::{Answer, Query, answer};
-use wf_recur::Cycles;
 use wf_safe::FullDeps;
-use wf_spec::Grammar;
 use wf_view::View;
 use wf_vlabel::ViewLabel;
 
@@ -70,30 +67,29 @@ fn answer_counted<L: Ledger>(
 }
 
 impl<'a> Decider<'a> {
-    /// Opens a label file of a proper, strictly linear grammar, or of an earlier version of it that keeps its cycles, under a safe view of the grammar. `cycles` are the cycles of the grammar, and `full` has the pairs that each expansion of a seen module joins.
+    /// Opens a label file of an accepted grammar, or of an earlier version of it, under a safe view of the grammar. `full` has the pairs that each expansion of a seen module joins.
+    ///
+    /// A grammar is accepted only if its versions keep their cycles. Without that the label file of a version could be read under cycles that it was not written with, and questions would be answered wrongly.
     ///
     /// Refused with the first fault of the bytes, in the order of `StoreFault`. `NoMemory` may come at any time.
     ///
     /// Cost: those of `digests`, `Store::open` and `ViewLabel::build`.
     pub fn open(
         alloc: Global,
-        g: &'a Grammar,
-        cycles: &'a Cycles,
+        accepted: &'a Accepted,
         view: &View,
         full: &FullDeps,
         bytes: &'a [u8],
     ) -> Result<Decider<'a>, StoreFault>
-        requires proper { IsProper g.now.core }
-        requires linear { IsLinear g.now.core }
-        requires cycles { AreCyclesOf g.now.core cycles.now }
-        requires view { IsHeldFor g.now.core view.now }
-        requires full { AreFullRows g.now.core view.now.core full.now }
+        requires view { IsHeldFor accepted.now.grammar.core view.now }
+        requires full { AreFullRows accepted.now.grammar.core view.now.core full.now }
         requires few { length bytes.now ≤ 2 ^ 30 }
-        ensures opened { IfOk result (λ d. IsOpened g.now view.now.core bytes.now d) }
-        ensures refused { IfErr result (λ f. IsStoreFault g.now.core (digests_of g.now) bytes.now f) }
+        ensures opened { IfOk result (λ d. IsOpened accepted.now.grammar view.now.core bytes.now d) }
+        ensures refused { IfErr result (λ f. IsStoreFault accepted.now.grammar.core (digests_of accepted.now.grammar) bytes.now f) }
     {
-        let store = Store::open(alloc, g, cycles, &digests(alloc, g)?, bytes)?;
-        let label = ViewLabel::build(alloc, g, cycles, view, full)?;
+        let linear = accepted.linear();
+        let store = Store::open(alloc, linear, &digests(alloc, linear.grammar)?, bytes)?;
+        let label = ViewLabel::build(alloc, linear, view, full)?;
         let scratch = Scratch::for_view(alloc, &label)?;
         Ok(Decider {
             store,

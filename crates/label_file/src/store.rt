@@ -1,8 +1,6 @@
 // The entries of a label file, found by name.
 ghost use Rattle.std.specs.Prelude.{◌≡◌, ◌↔◌, ◌<◌, ◌≤◌, ◌+◌, ◌^◌, ◌∷◌, ◌++◌, [], true, false, length, get_or, IsTrue, OnOk, IfOk, IfErr, IfSome, IfNone};
 ghost use Rattle.wf_model.specs.Lists.{IsIn};
-ghost use Rattle.wf_model.specs.Linear.{IsLinear};
-ghost use Rattle.wf_recur.specs.Cycles.{AreCyclesOf};
 ghost use Rattle.label_file.specs.Stored.{IsStoreFault, IsStoreOf, names_held, no_entry};
 ghost use Rattle.label_file.specs.Layout.{IsCut};
 ghost use Rattle.label_file.specs.Keys.{held};
@@ -20,8 +18,7 @@ use std::alloc::{AllocError, Global};
 use std::marker::Model;
 use wf_label::LabelRef;
 use wf_names::KeyedHash;
-use wf_recur::Cycles;
-use wf_spec::Grammar;
+use wf_recur::Linear;
 
 /// How many entries are looked up at one time.
 const AHEAD: usize = 16;
@@ -97,18 +94,15 @@ impl<'a> Store<'a> {
     /// Reads the label file of a grammar with one of these digests, as `open_with_key` with the key 0.
     pub fn open(
         alloc: Global,
-        g: &Grammar,
-        cycles: &Cycles,
+        g: Linear<'_>,
         digests: &[[u8; 32]],
         bytes: &'a [u8],
     ) -> Result<Store<'a>, StoreFault>
-        requires linear { IsLinear g.now.core }
-        requires cycles { AreCyclesOf g.now.core cycles.now }
         requires few { length bytes.now ≤ 2 ^ 30 }
-        ensures store { IfOk result (λ s. IsStoreOf g.now.core digests.now bytes.now s) }
-        ensures fault { IfErr result (λ f. IsStoreFault g.now.core digests.now bytes.now f) }
+        ensures store { IfOk result (λ s. IsStoreOf g.entry.grammar.now.core digests.now bytes.now s) }
+        ensures fault { IfErr result (λ f. IsStoreFault g.entry.grammar.now.core digests.now bytes.now f) }
     {
-        Store::open_with_key(alloc, 0, g, cycles, digests, bytes)
+        Store::open_with_key(alloc, 0, g, digests, bytes)
     }
 
     /// Reads the label file of a grammar with one of these digests: its own, or that of a version of it that keeps its cycles.
@@ -119,16 +113,13 @@ impl<'a> Store<'a> {
     pub fn open_with_key(
         alloc: Global,
         key: u64,
-        g: &Grammar,
-        cycles: &Cycles,
+        g: Linear<'_>,
         digests: &[[u8; 32]],
         bytes: &'a [u8],
     ) -> Result<Store<'a>, StoreFault>
-        requires linear { IsLinear g.now.core }
-        requires cycles { AreCyclesOf g.now.core cycles.now }
         requires few { length bytes.now ≤ 2 ^ 30 }
-        ensures store { IfOk result (λ s. IsStoreOf g.now.core digests.now bytes.now s) }
-        ensures fault { IfErr result (λ f. IsStoreFault g.now.core digests.now bytes.now f) }
+        ensures store { IfOk result (λ s. IsStoreOf g.entry.grammar.now.core digests.now bytes.now s) }
+        ensures fault { IfErr result (λ f. IsStoreFault g.entry.grammar.now.core digests.now bytes.now f) }
     {
         let mut rest = behind_head(digests, bytes)?;
         let count = count_entries(rest);
@@ -146,7 +137,7 @@ impl<'a> Store<'a> {
                     offset: (bytes.len() - rest.len()) as u64,
                 });
             };
-            store.add(g, cycles, front, are_new)?;
+            store.add(g, front, are_new)?;
             rest = front.rest;
         }
         Ok(store)
@@ -175,17 +166,14 @@ impl<'a> Store<'a> {
     /// Where the name is likely new, it is looked up no sooner than it is put, or its label is found wrong.
     fn add(
         &mut self,
-        g: &Grammar,
-        cycles: &Cycles,
+        g: Linear<'_>,
         front: Front<'a>,
         is_likely_new: bool,
     ) -> Result<(), StoreFault>
-        requires linear { IsLinear g.now.core }
-        requires cycles { AreCyclesOf g.now.core cycles.now }
         requires cut { IsCut front }
         requires room { length self.old + 1 < 2 ^ 32 }
-        ensures added { OnOk result (IsAdded g.now.core self.old (record { name = front.entry.name.now; label = front.entry.label.now }) self.new) }
-        ensures refused { IfErr result (λ f. IsRefused g.now.core self.old (record { name = front.entry.name.now; label = front.entry.label.now }) f) }
+        ensures added { OnOk result (IsAdded g.entry.grammar.now.core self.old (record { name = front.entry.name.now; label = front.entry.label.now }) self.new) }
+        ensures refused { IfErr result (λ f. IsRefused g.entry.grammar.now.core self.old (record { name = front.entry.name.now; label = front.entry.label.now }) f) }
     {
         let entry = self.length();
         if split_item(front.name).is_none() {
@@ -195,7 +183,7 @@ impl<'a> Store<'a> {
         if !is_likely_new && holds(&self.keyed, &self.entries, name) {
             return Err(StoreFault::NameTwice { entry });
         }
-        let Ok(label) = LabelRef::check(g, cycles, front.label) else {
+        let Ok(label) = LabelRef::check(g, front.label) else {
             if holds(&self.keyed, &self.entries, name) {
                 return Err(StoreFault::NameTwice { entry });
             }

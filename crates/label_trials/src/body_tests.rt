@@ -89,13 +89,13 @@ fn are_rows(pool: &MatPool, wanted: &[&[u64]]) -> bool {
 /// Whether the matrices of the second production have these rows.
 fn are_pushed(alloc: Global, wanted: &[&[u64]]) -> Result<bool, Fail> {
     let s = sample(alloc, TWISTING)?;
-    let view = view(alloc, &s.grammar, "{}")?;
+    let view = view(alloc, s.grammar(), "{}")?;
     let full = full(alloc, &s, &view)?;
     let mut pool = MatPool::new(alloc);
-    let Some(deps) = pairs(&s.grammar, &view, &full) else {
+    let Some(deps) = pairs(s.grammar(), &view, &full) else {
         return Err(Fail::new("a second production of three positions"));
     };
-    push_all(alloc, &s.grammar, deps, &mut pool)?;
+    push_all(alloc, s.grammar(), deps, &mut pool)?;
     Ok(are_rows(&pool, wanted))
 }
 

@@ -82,9 +82,9 @@ fn answers(
         return Err(Fail::new("a short label file"));
     }
     let s = sample(alloc, spec)?;
-    let view = view(alloc, &s.grammar, text)?;
+    let view = view(alloc, s.grammar(), text)?;
     let full = full(alloc, &s, &view)?;
-    let mut decider = Decider::open(alloc, &s.grammar, &s.cycles, &view, &full, bytes)?;
+    let mut decider = Decider::open(alloc, &s, &view, &full, bytes)?;
     for (first, second, answer) in pairs {
         if decider.decide(first, second) != *answer {
             return Ok(false);
@@ -98,9 +98,9 @@ fn fault(alloc: Global, spec: &str, bytes: &[u8]) -> Result<Option<StoreFault>, 
     requires { length bytes.now ≤ 2 ^ 30 }
 {
     let s = sample(alloc, spec)?;
-    let view = view(alloc, &s.grammar, "{}")?;
+    let view = view(alloc, s.grammar(), "{}")?;
     let full = full(alloc, &s, &view)?;
-    match Decider::open(alloc, &s.grammar, &s.cycles, &view, &full, bytes) {
+    match Decider::open(alloc, &s, &view, &full, bytes) {
         Ok(_) => Ok(None),
         Err(fault) => Ok(Some(fault)),
     }

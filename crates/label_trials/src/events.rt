@@ -1,15 +1,13 @@
 // Events, and the runs that take them.
 ghost use Rattle.std.specs.Prelude.{◌^◌, ◌≤◌, IfOk};
-ghost use Rattle.wf_model.specs.Linear.{IsLinear};
 ghost use Rattle.wf_flat.specs.Table.{IsTableOf};
-ghost use Rattle.wf_recur.specs.Cycles.{AreCyclesOf};
 
 use bumpalo::Bump;
 use std::alloc::{AllocError, Global};
 use std::test::Fail;
+use wf_accept::Accepted;
 use wf_flat::PlainRun;
 use wf_run::Run;
-use wf_samples::Accepted;
 use wf_spec::{Event, Grammar, Name, RunFault, Seq};
 
 /// An event: the start by a root of this name, or the expansion of an instance by a production into instances of these names.
@@ -60,11 +58,8 @@ pub fn placed<'a>(
     s: &'a Accepted,
     most: u8,
     events: &[Given],
-) -> Result<Run<'a>, Fail>
-    requires linear { IsLinear s.now.grammar.core }
-    requires cycles { AreCyclesOf s.now.grammar.core s.now.cycles }
-{
-    let mut run = Run::new(alloc, arena, &s.grammar, &s.cycles, u32::from(most));
+) -> Result<Run<'a>, Fail> {
+    let mut run = Run::new(alloc, arena, s.linear(), u32::from(most));
     for given in events {
         take(&mut run, &event(alloc, *given)?)?;
     }

@@ -1,11 +1,10 @@
 // Bytes that are tried as labels of two grammars.
-ghost use Rattle.wf_model.specs.Linear.{IsLinear};
-ghost use Rattle.wf_recur.specs.Cycles.{AreCyclesOf};
 
 use std::alloc::Global;
 use std::test::Fail;
+use wf_accept::Accepted;
 use wf_label::{LabelRef, Mark};
-use wf_samples::{Accepted, LINE, TWISTING, sample};
+use wf_samples::{LINE, TWISTING, sample};
 use wf_spec::{EdgeNo, PortNo, PosNo, ProdNo, Step};
 
 /// Each line: a grammar, and bytes that are no label of it.
@@ -58,14 +57,11 @@ const TOLD: [(&str, &[u8], u32, [Option<Mark>; 4]); 4] = [
 ];
 
 /// The length of a label, and what a cursor tells at its first four calls; None where the bytes are no label.
-fn told_by(s: &Accepted, bytes: &[u8]) -> Option<(u32, [Option<Mark>; 4])>
-    requires linear { IsLinear s.now.grammar.core }
-    requires cycles { AreCyclesOf s.now.grammar.core s.now.cycles }
-{
-    let Ok(label) = LabelRef::check(&s.grammar, &s.cycles, bytes) else {
+fn told_by(s: &Accepted, bytes: &[u8]) -> Option<(u32, [Option<Mark>; 4])> {
+    let Ok(label) = LabelRef::check(s.linear(), bytes) else {
         return None;
     };
-    let mut cursor = label.cursor(&s.grammar, &s.cycles);
+    let mut cursor = label.cursor(s.linear());
     let marks = [cursor.next(), cursor.next(), cursor.next(), cursor.next()];
     Some((label.length(), marks))
 }

@@ -1,17 +1,16 @@
 // Runs as tables and runs in arenas: the events that they take and refuse, and the items and paths of a run of the line grammar.
-ghost use Rattle.wf_model.specs.Linear.{IsLinear};
 ghost use Rattle.wf_model.specs.Proper.{IsProper};
 ghost use Rattle.wf_check.specs.Proper.{IsRankingOf};
 ghost use Rattle.wf_flat.specs.Table.{IsTableOf};
-ghost use Rattle.wf_recur.specs.Cycles.{AreCyclesOf};
 
 use crate::events::Given::{Expand, Start};
 use crate::events::{Given, event, placed, table, take};
 use bumpalo::Bump;
 use std::alloc::{AllocError, Global};
 use std::test::Fail;
+use wf_accept::Accepted;
 use wf_flat::{Flat, Item, PlainRun, Port, find_item};
-use wf_samples::{Accepted, LINE, LOOP, full, sample, view};
+use wf_samples::{LINE, LOOP, full, sample, view};
 use wf_spec::RunFault::{
     AlreadyExpanded, NameBad, NameTwice, NotStarted, PositionsWrong, StartedTwice,
     TooManyInstances, UnknownInstance, UnknownProduction, WrongHead,
@@ -203,8 +202,8 @@ fn told_by_table(
     before: &[Given],
     event: &Event,
 ) -> Result<Outcome, Fail> {
-    let mut run = table(alloc, &s.grammar, most, before)?;
-    let fault = run.take(&s.grammar, event).err();
+    let mut run = table(alloc, s.grammar(), most, before)?;
+    let fault = run.take(s.grammar(), event).err();
     let all = run.instances();
     let expanded = all.iter().filter(|x| x.production.is_some()).count();
     Ok((fault, all.len(), expanded))
@@ -217,10 +216,7 @@ fn told_by_run(
     most: u8,
     before: &[Given],
     event: &Event,
-) -> Result<Outcome, Fail>
-    requires linear { IsLinear s.now.grammar.core }
-    requires cycles { AreCyclesOf s.now.grammar.core s.now.cycles }
-{
+) -> Result<Outcome, Fail> {
     let arena = Bump::new(alloc);
     let mut run = placed(alloc, &arena, s, most, before)?;
     let fault = take(&mut run, event).err();
@@ -257,8 +253,8 @@ fn both_kinds_of_run_take_and_refuse_events(rt: HostRuntime) -> Result<(), Fail>
 /// Whether this is the item of the whole run of the line grammar that has a name.
 fn is_item(alloc: Global, name: &str, wanted: Option<Item>) -> Result<bool, Fail> {
     let s = sample(alloc, LINE)?;
-    let run = table(alloc, &s.grammar, 3, WHOLE)?;
-    Ok(find_item(&s.grammar, &run, name.as_bytes()) == wanted)
+    let run = table(alloc, s.grammar(), 3, WHOLE)?;
+    Ok(find_item(s.grammar(), &run, name.as_bytes()) == wanted)
 }
 
 #[test]
@@ -286,13 +282,11 @@ fn told_by_view(
     run: &PlainRun,
     text: &str,
 ) -> Result<(bool, [bool; 5]), Fail>
-    requires proper { IsProper s.now.grammar.core }
-    requires ranking { IsRankingOf s.now.grammar.core s.now.ranking }
     requires run { IsTableOf s.now.grammar.core run.now }
 {
-    let view = view(alloc, &s.grammar, text)?;
+    let view = view(alloc, s.grammar(), text)?;
     let full = full(alloc, s, &view)?;
-    let mut flat = Flat::of(alloc, &s.grammar, run, view.marks(), full.deps())?;
+    let mut flat = Flat::of(alloc, s.grammar(), run, view.marks(), full.deps())?;
     let is_shown = flat.shows(&INNER);
     Ok((is_shown, joined(&mut flat)?))
 }
@@ -300,7 +294,7 @@ fn told_by_view(
 /// Whether a view of the whole run shows the item of the edge, or does not, and joins these ports.
 fn shows(alloc: Global, text: &str, is_shown: bool, joined: [bool; 5]) -> Result<bool, Fail> {
     let s = sample(alloc, LINE)?;
-    let run = table(alloc, &s.grammar, 3, WHOLE)?;
+    let run = table(alloc, s.grammar(), 3, WHOLE)?;
     Ok(told_by_view(alloc, &s, &run, text)? == (is_shown, joined))
 }
 

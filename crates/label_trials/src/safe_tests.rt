@@ -6,8 +6,9 @@ ghost use Rattle.wf_view.specs.Held.{IsHeldFor};
 
 use std::alloc::Global;
 use std::test::Fail;
+use wf_accept::Accepted;
 use wf_safe::{Choice, FullDeps, SafeFault, Witness, full_deps};
-use wf_samples::{Accepted, TWISTING, full, sample, view};
+use wf_samples::{TWISTING, full, sample, view};
 use wf_spec::{Grammar, ModNo};
 use wf_view::View;
 
@@ -91,10 +92,9 @@ fn has_rows(g: &Grammar, view: &View, full: &FullDeps, wanted: &[&[u64]]) -> boo
 
 /// The witness that a view is not safe.
 pub fn witness(alloc: Global, s: &Accepted, view: &View) -> Result<Witness, Fail>
-    requires ranking { IsRankingOf s.now.grammar.core s.now.ranking }
     requires view { IsHeldFor s.now.grammar.core view.now }
 {
-    match full_deps(alloc, &s.grammar, &s.ranking, view) {
+    match full_deps(alloc, s.grammar(), s.ranking(), view) {
         Err(SafeFault::Unsafe { witness }) => Ok(witness),
         _ => Err(Fail::new("a view that is not safe")),
     }
@@ -118,15 +118,15 @@ fn is_told(w: &Witness, (productions, pair, choice): Told) -> bool {
 /// Whether a view of the grammar of a text is safe, with these rows of its modules in order.
 fn is_safe_with(alloc: Global, text: &str, expanded: &str, rows: &[&[u64]]) -> Result<bool, Fail> {
     let s = sample(alloc, text)?;
-    let v = view(alloc, &s.grammar, expanded)?;
+    let v = view(alloc, s.grammar(), expanded)?;
     let full = full(alloc, &s, &v)?;
-    Ok(has_rows(&s.grammar, &v, &full, rows))
+    Ok(has_rows(s.grammar(), &v, &full, rows))
 }
 
 /// Whether a view of the grammar of a text is not safe, with this witness.
 fn is_refused_with(alloc: Global, text: &str, expanded: &str, told: Told) -> Result<bool, Fail> {
     let s = sample(alloc, text)?;
-    let v = view(alloc, &s.grammar, expanded)?;
+    let v = view(alloc, s.grammar(), expanded)?;
     let w = witness(alloc, &s, &v)?;
     Ok(is_told(&w, told))
 }

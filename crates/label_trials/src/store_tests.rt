@@ -78,7 +78,7 @@ fn opened(alloc: Global, bytes: &[u8]) -> Result<(u32, bool, Option<StoreFault>)
     requires { length bytes.now ≤ 2 ^ 30 }
 {
     let s = sample(alloc, LINE)?;
-    match Store::open(alloc, &s.grammar, &s.cycles, &DIGESTS, bytes) {
+    match Store::open(alloc, s.linear(), &DIGESTS, bytes) {
         Ok(store) => Ok((store.length(), are_entries(&store), None)),
         Err(fault) => Ok((0, false, Some(fault))),
     }

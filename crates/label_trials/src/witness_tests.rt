@@ -94,11 +94,11 @@ fn made_witnesses_are_checked(rt: HostRuntime) -> Result<(), Fail> {
 /// Whether a witness that is told is true, and whether it still is once it tells the other expansion.
 fn told_and_changed(alloc: Global) -> Result<(bool, bool), Fail> {
     let s = sample(alloc, SKEWED)?;
-    let v = view(alloc, &s.grammar, S_AND_L)?;
+    let v = view(alloc, s.grammar(), S_AND_L)?;
     let mut w = witness(alloc, &s, &v)?;
-    let told = check_witness(alloc, &s.grammar, &v, &w)?;
+    let told = check_witness(alloc, s.grammar(), &v, &w)?;
     w.joined_by_one = !w.joined_by_one;
-    let changed = check_witness(alloc, &s.grammar, &v, &w)?;
+    let changed = check_witness(alloc, s.grammar(), &v, &w)?;
     Ok((told, changed))
 }
 

@@ -6,6 +6,7 @@ use Rattle.sha2.specs.Sha256.{sha256}
 use Rattle.wf_model.specs.declared.event.Event.{Event}
 use Rattle.wf_model.specs.Grammar.{Grammar}
 use Rattle.wf_model.specs.Run.{IsAccepted}
+use Rattle.wf_laws.proofs.Accepted.{none_taken}
 use Rattle.wf_json.specs.Canonical.{canonical_of}
 use Rattle.label_model.proofs.FileGrowth.{file_step_law}
 use Rattle.report_model.specs.Intake.{nothing_taken}
@@ -19,7 +20,7 @@ use Rattle.wf_stage.proofs.TwoStages.{stage_goes_on}
 use Rattle.wf_inputs.specs.Inputs.{spec_kind, instance_most}
 use Rattle.wf_inputs.specs.Specification.{TellsGrammar, RefusesSpec}
 use Rattle.wf_inputs.specs.RunTold.{EventsStage}
-use Rattle.wf_inputs.specs.RunTaking.{TakenSoFar, TakesReport, StopsReport, IsAnyTaken}
+use Rattle.wf_inputs.specs.RunTaking.{TakenSoFar, TakesReport, StopsReport, IsAcceptedSoFar}
 use Rattle.wf_inputs.proofs.OneValue.{one_grammar}
 use Rattle.wf_inputs.proofs.OneFault.{no_refusal}
 use Rattle.wf_inputs.proofs.EventStages.{after, GoesOn, events_one_way, events_back}
@@ -51,7 +52,7 @@ lines_begin : (g : Grammar) (file later : FileLines) → GoOnFrom file.lines lat
 lines_begin g file later on d e t s p q =
     let a = events_back file_of g instance_most (file_grows g) (WritesFile g) (file_first g) file d t p in
     let b = events_back file_of g instance_most (file_grows g) (WritesFile g) (file_first g) later e s q in
-    let r = lines_grow (line_ends (codes "events")) (TakesReport file_of) (StopsReport file_of) IsAnyTaken (events_one_way file_of) (ClosesFile g) (ClosesFile g) later.tail (nothing_more g) file.tail file.lines later.lines (after g instance_most nothing_taken) d e a.0 b.0 tt on a.2 b.2 in
+    let r = lines_grow (line_ends (codes "events")) (TakesReport file_of) (StopsReport file_of) IsAcceptedSoFar (events_one_way file_of) (ClosesFile g) (ClosesFile g) later.tail (nothing_more g) file.tail file.lines later.lines (after g instance_most nothing_taken) d e a.0 b.0 (none_taken g instance_most) on a.2 b.2 in
     (r.0, b.1 ∙ (ap (λ x. file_of g [] ++ x) r.1 ∙ (sym (append_assoc (file_of g []) a.0 r.0) ∙ ap (λ x. x ++ r.0) (sym a.1))))
 
 module _ (spec events later : File) (more : List ℕ) (sealed : IsSealed events) (longer : later.bytes ≡ events.bytes ++ more) where

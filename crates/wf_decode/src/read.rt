@@ -138,9 +138,9 @@ pub(crate) fn read_label(vl: &ViewLabel<'_>, label: &LabelRef<'_>, legs: &mut [L
     ensures told { (u : View) (x : Label) → IsLabelOfView vl.now u → IsLabel vl.now.grammar x → label.now ≡ label_bits x → IsTold vl.now u x result legs.new }
     ensures room { length legs.new ≡ length legs.old }
 {
-    let g = vl.grammar();
-    let mut cursor = label.cursor(g, vl.cycles());
-    let mut at = g.start();
+    let g = vl.linear();
+    let mut cursor = label.cursor(g);
+    let mut at = g.grammar.start();
     let mut held = 0;
     while let Some(mark) = cursor.next() {
         match take_mark(vl, at, mark, held) {

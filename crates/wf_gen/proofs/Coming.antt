@@ -10,7 +10,6 @@ use Rattle.wf_model.specs.declared.event.Event.{Event}
 use Rattle.wf_model.specs.declared.event.Event.TheVariants.{Start}
 use Rattle.wf_model.proofs.Lists.{in_append_cases}
 use Rattle.wf_model.proofs.Composites.{composite_gives, composite_below}
-use Rattle.wf_recur.specs.Cycles.{CyclesSeen}
 use Rattle.wf_gen.specs.declared.pending.Pending.{Pending as PendingHeld}
 use Rattle.wf_gen.specs.Draws.{draw}
 use Rattle.wf_gen.specs.Turns.{Pending, State, Generated, numbered_name, no_pending, pending_from, place_picked, child_count, event_of, next_turn, draws_after, after_turn, after_draws, first_state, turns, started}
@@ -124,27 +123,23 @@ module _ (g : Grammar) (limit : ℕ) where
   turn_next zero left s new e some begun pending turn l = absurd (omega arith)
   turn_next (suc n) left s new e some begun pending turn l = turn_next_of n left s new e begun pending turn l
 
-module _ (g : Grammar) (c : CyclesSeen) (limit : ℕ) (formed : IsWellFormed g) where
+module _ (g : Grammar) (limit : ℕ) (formed : IsWellFormed g) where
   children_composite : (k : ℕ) (ms : List ℕ) → AreComposite g (pending_from g k ms)
   children_composite k ms p h =
       let r = child_from g k ms p h in
       let composite = composite_gives g p.module_no r.3 in
       (composite_below g formed p.module_no composite, composite)
 
-  pub start_kept : (s new : State) → IsKept g c limit s → new ≡ first_state g s.draws → IsKept g c limit new
-  start_kept s new k first = subst (IsKept g c limit) (sym first) (record {
-    linear = k.linear;
-    cycles = k.cycles;
+  pub start_kept : (s new : State) → IsKept g limit s → new ≡ first_state g s.draws → IsKept g limit new
+  start_kept s new k first = subst (IsKept g limit) (sym first) (record {
     room = k.room;
     within = (let r = k.room in omega arith);
     before_start = λ e. absurd (omega arith);
     composite = children_composite 0 (g.start ∷ []);
   })
 
-  pub turn_kept : (s new : State) (e : Option Event) → 0 < length s.pending → s.made == 0 ≡ false → IsKept g c limit s → IsTurn g limit s e new → IsKept g c limit new
-  turn_kept s new None some begun k turn = subst (IsKept g c limit) (sym turn.1) (record {
-    linear = k.linear;
-    cycles = k.cycles;
+  pub turn_kept : (s new : State) (e : Option Event) → 0 < length s.pending → s.made == 0 ≡ false → IsKept g limit s → IsTurn g limit s e new → IsKept g limit new
+  turn_kept s new None some begun k turn = subst (IsKept g limit) (sym turn.1) (record {
     room = k.room;
     within = k.within;
     before_start = k.before_start;
@@ -153,9 +148,7 @@ module _ (g : Grammar) (c : CyclesSeen) (limit : ℕ) (formed : IsWellFormed g) 
   turn_kept s new (Some e) some begun k turn =
       let t = next_turn g s in
       let place : place_picked s.pending (draw s.draws) < length s.pending = mod_below (draw s.draws) (length s.pending) some in
-      subst (IsKept g c limit) (sym turn.2) (record {
-        linear = k.linear;
-        cycles = k.cycles;
+      subst (IsKept g limit) (sym turn.2) (record {
         room = k.room;
         within = turn.0;
         before_start = λ z. absurd (true≢false (sym (eq-eqb (s.made + child_count g (next_turn g s)) 0 z) ∙ begun_later begun (child_count g (next_turn g s))));

@@ -5,7 +5,6 @@ use Rattle.wf_model.specs.WellFormed.{IsWellFormed}
 use Rattle.wf_model.specs.Faults.{is_nil}
 use Rattle.wf_model.specs.declared.event.Event.{Event}
 use Rattle.wf_model.specs.declared.event.Event.TheVariants.{Expand}
-use Rattle.wf_recur.specs.Cycles.{CyclesSeen}
 use Rattle.wf_gen.specs.declared.turn.Drawn.{Drawn as DrawnHeld}
 use Rattle.wf_gen.specs.Turns.{State, numbered_name, numbered_names, child_count, event_of, next_turn, draws_after, after_turn}
 use Rattle.wf_gen.specs.Coming.{IsFirst, coming}
@@ -46,6 +45,6 @@ module _ (g : Grammar) (limit n left : ℕ) (s mid : State) (given : Option Draw
         let left_is : left - 1 + 1 ≡ n = (let a = some_left in let b = was_drawn.3 in omega arith) in
         turn_next g limit n (left - 1) s new (Some e) was_drawn.1 begun was_drawn.2 (is_turn e same) left_is
 
-    pub taken_kept : (c : CyclesSeen) → IsWellFormed g → s.made == 0 ≡ false → IsKept g c limit s → IsKept g c limit new
-    taken_kept c formed begun kept =
-        turn_kept g c limit formed s new (Some (event_drawn mid.made d)) (some_pending s.pending was_drawn.2) begun kept (is_turn (event_drawn mid.made d) refl)
+    pub taken_kept : IsWellFormed g → s.made == 0 ≡ false → IsKept g limit s → IsKept g limit new
+    taken_kept formed begun kept =
+        turn_kept g limit formed s new (Some (event_drawn mid.made d)) (some_pending s.pending was_drawn.2) begun kept (is_turn (event_drawn mid.made d) refl)

@@ -3,10 +3,8 @@ use Rattle.std.specs.Prelude.{◌≡◌, ℕ, ◌+◌, ◌^◌, ◌<◌, ◌≤�
 use Rattle.wf_model.specs.Lists.{IsIn}
 use Rattle.wf_model.specs.Grammar.{Grammar, IsComposite}
 use Rattle.wf_model.specs.Faults.{is_nil}
-use Rattle.wf_model.specs.Linear.{IsLinear}
 use Rattle.wf_model.specs.declared.event.Event.{Event}
 use Rattle.wf_model.specs.declared.event.Event.TheVariants.{Expand}
-use Rattle.wf_recur.specs.Cycles.{CyclesSeen, AreCyclesOf}
 use Rattle.wf_gen.specs.declared.pending.Pending.{Pending as PendingHeld}
 use Rattle.wf_gen.specs.declared.choice.Turn.{Turn as TurnHeld}
 use Rattle.wf_gen.specs.declared.turn.State.{State as StateHeld}
@@ -75,9 +73,7 @@ abbrev pub AreLeft : ℕ → Option Event → ℕ → Type 0
 AreLeft old given new = MatchOption given (new ≡ 0) (λ e. new + 1 ≡ old)
 
 -- what the fields of a generator keep
-pub record IsKept (g : Grammar) (c : CyclesSeen) (limit : ℕ) (s : State) : Type 0 where
-  pub linear : IsLinear g
-  pub cycles : AreCyclesOf g c
+pub record IsKept (g : Grammar) (limit : ℕ) (s : State) : Type 0 where
   pub room : 0 < limit
   pub within : s.made ≤ limit
   pub before_start : s.made ≡ 0 → s.pending ≡ []

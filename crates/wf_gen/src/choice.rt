@@ -1,9 +1,7 @@
 // What the draws of a turn pick.
 ghost use Rattle.std.specs.Prelude.{◌≡◌, ◌<◌, ◌||◌, ◌==◌, ◌%◌, not, length, option_map};
 ghost use Rattle.wf_model.specs.Grammar.{IsComposite};
-ghost use Rattle.wf_model.specs.Linear.{IsLinear};
 ghost use Rattle.label_model.specs.Continuing.{continuing};
-ghost use Rattle.wf_recur.specs.Cycles.{AreCyclesOf};
 ghost use Rattle.wf_gen.specs.Draws.{draw, drawn};
 ghost use Rattle.wf_gen.specs.Turns.{alternative_picked, production_by, turn_picked};
 ghost use Rattle.wf_gen.specs.Held.{AreComposite, all_pending, turn_of};
@@ -11,7 +9,7 @@ ghost use Rattle.wf_gen.specs.Held.{AreComposite, all_pending, turn_of};
 use crate::pending::Pending;
 use rand_core::utils::NextWord;
 use rand_pcg::Pcg32;
-use wf_recur::Cycles;
+use wf_recur::Linear;
 use wf_spec::{Grammar, ModNo, ProdNo};
 
 /// The next draw.
@@ -42,32 +40,28 @@ fn alternative(g: &Grammar, m: ModNo, e: u32) -> ProdNo
 }
 
 /// The production of the continuing step of a module, and None where it stands on no cycle.
-fn continuing_production(g: &Grammar, cycles: &Cycles, m: ModNo) -> Option<ProdNo>
-    requires linear { IsLinear g.now.core }
-    requires cycles { AreCyclesOf g.now.core cycles.now }
-    requires in_range { m.0 < length g.now.core.modules }
-    ensures { option_map (λ p. p.0) result ≡ option_map (λ s. s.production) (continuing g.now.core m.0) }
+fn continuing_production(g: Linear<'_>, m: ModNo) -> Option<ProdNo>
+    requires in_range { m.0 < length g.grammar.now.core.modules }
+    ensures { option_map (λ p. p.0) result ≡ option_map (λ s. s.production) (continuing g.entry.grammar.now.core m.0) }
 {
     // A grammar is well-formed.
-    let _formed = g.start();
-    match cycles.on(m) {
+    let _formed = g.grammar.start();
+    match g.cycles.on(m) {
         Some(on) => Some(on.step.production),
         None => None,
     }
 }
 
 /// The production by which an instance of a composite module is expanded: that of its continuing step, where it has one and stays on its cycle, and elsewhere the one that the draw picks.
-fn production(g: &Grammar, cycles: &Cycles, m: ModNo, stays: bool, e: u32) -> ProdNo
-    requires linear { IsLinear g.now.core }
-    requires cycles { AreCyclesOf g.now.core cycles.now }
-    requires in_range { m.0 < length g.now.core.modules }
-    requires composite { IsComposite g.now.core m.0 }
-    ensures { result.0 ≡ production_by (continuing g.now.core m.0) stays (alternative_picked g.now.core m.0 e) }
+fn production(g: Linear<'_>, m: ModNo, stays: bool, e: u32) -> ProdNo
+    requires in_range { m.0 < length g.grammar.now.core.modules }
+    requires composite { IsComposite g.grammar.now.core m.0 }
+    ensures { result.0 ≡ production_by (continuing g.entry.grammar.now.core m.0) stays (alternative_picked g.entry.grammar.now.core m.0 e) }
 {
-    if stays && let Some(production) = continuing_production(g, cycles, m) {
+    if stays && let Some(production) = continuing_production(g, m) {
         return production;
     }
-    alternative(g, m, e)
+    alternative(g.grammar, m, e)
 }
 
 /// Whether a module stays on its cycle, by the number of pending instances and a draw.
@@ -78,19 +72,17 @@ fn stays_on_cycle(count: usize, e: u32) -> bool
 }
 
 /// The turn that two draws pick: `d` the place of an instance in the list, and `e` whether its module stays on its cycle, and which production it takes if not.
-pub(crate) fn pick(g: &Grammar, cycles: &Cycles, pending: &[Pending], d: u32, e: u32) -> Turn
-    requires linear { IsLinear g.now.core }
-    requires cycles { AreCyclesOf g.now.core cycles.now }
+pub(crate) fn pick(g: Linear<'_>, pending: &[Pending], d: u32, e: u32) -> Turn
     requires some { 0 < length pending.now }
-    requires composite { AreComposite g.now.core (all_pending pending.now) }
-    ensures turn { turn_of result ≡ turn_picked g.now.core (all_pending pending.now) d e }
+    requires composite { AreComposite g.grammar.now.core (all_pending pending.now) }
+    ensures turn { turn_of result ≡ turn_picked g.entry.grammar.now.core (all_pending pending.now) d e }
     ensures place { result.place < length pending.now }
-    ensures production { result.production.0 < length g.now.core.productions }
+    ensures production { result.production.0 < length g.entry.grammar.now.core.productions }
 {
     let place = d as usize % pending.len();
     let instance = pending[place];
     let stays = stays_on_cycle(pending.len(), e);
-    let production = production(g, cycles, instance.module, stays, e);
+    let production = production(g, instance.module, stays, e);
     Turn {
         place,
         instance,

@@ -1,7 +1,5 @@
 // The generator of the events of a run.
 ghost use Rattle.std.specs.Prelude.{◌≡◌, ◌<◌, [], true, IfOk, OnErr};
-ghost use Rattle.wf_model.specs.Linear.{IsLinear};
-ghost use Rattle.wf_recur.specs.Cycles.{AreCyclesOf};
 ghost use Rattle.wf_gen.specs.Draws.{draw, drawn};
 ghost use Rattle.wf_gen.specs.Turns.{generated};
 ghost use Rattle.wf_gen.specs.Coming.{IsNext, IsNextLine, all_of};
@@ -13,15 +11,14 @@ use rand_core::SeedableRng;
 use rand_pcg::Pcg32;
 use std::alloc::{AllocError, Global};
 use std::marker::Model;
-use wf_recur::Cycles;
-use wf_spec::{Event, Grammar};
+use wf_recur::Linear;
+use wf_spec::Event;
 
 /// A generator of a valid run: its events, one after the other, each of which extends the run of those before it. The grammar, the number of expansions, the seed and the limit determine them, the same on every machine.
 #[derive(Drop)]
 pub struct Gen<'a> {
     alloc: Global,
-    grammar: &'a Grammar,
-    cycles: &'a Cycles,
+    linear: Linear<'a>,
     most: u32,
     left: u32,
     state: State,
@@ -33,32 +30,22 @@ impl<'a> Model for Gen<'a> {
 
     ghost Value = { Coming };
 
-    ghost view = { λ g. coming g.grammar.now.core g.most g.left (state_of g.state) };
+    ghost view = { λ g. coming g.linear.grammar.now.core g.most g.left (state_of g.state) };
 
-    ghost invariant = { λ g. IsKept g.grammar.now.core g.cycles.now g.most (state_of g.state) };
+    ghost invariant = { λ g. IsKept g.linear.grammar.now.core g.most (state_of g.state) };
 }
 
 impl<'a> Gen<'a> {
     /// A generator of the run of at most `n` expansions that a seed gives, with at most `most` instances. Takes no memory.
     ///
     /// The root is named `n0`, and further instances `n1`, `n2` and so on as they are made. Each turn draws two 32-bit words, `d` and then `e`, of the PCG32 generator that the seed gives, and expands the pending instance at place `d` modulo their number. Where its module stands on a cycle, and it is the only one pending or `e` modulo 4 is not 0, the production is the one that stays on the cycle, and else the alternative `e` / 4 modulo their number. The last pending instance then takes the place of the one that was expanded, and the composite children follow.
-    pub fn new(
-        alloc: Global,
-        grammar: &'a Grammar,
-        cycles: &'a Cycles,
-        n: u32,
-        seed: u64,
-        most: u32,
-    ) -> Gen<'a>
-        requires linear { IsLinear grammar.now.core }
-        requires cycles { AreCyclesOf grammar.now.core cycles.now }
+    pub fn new(alloc: Global, linear: Linear<'a>, n: u32, seed: u64, most: u32) -> Gen<'a>
         requires room { 0 < most }
-        ensures { result ≡ all_of (generated grammar.now.core n seed most) }
+        ensures { result ≡ all_of (generated linear.entry.grammar.now.core n seed most) }
     {
         Gen {
             alloc,
-            grammar,
-            cycles,
+            linear,
             most,
             left: n,
             state: State {
@@ -80,8 +67,7 @@ impl<'a> Gen<'a> {
     {
         next_event(
             self.alloc,
-            self.grammar,
-            self.cycles,
+            self.linear,
             self.most,
             &mut self.left,
             &mut self.state,
@@ -98,14 +84,7 @@ impl<'a> Gen<'a> {
         ensures unchanged { OnErr result (self.new ≡ self.old) }
         ensures same_text { OnErr result (to.new.items ≡ to.old.items) }
     {
-        next_line(
-            self.grammar,
-            self.cycles,
-            self.most,
-            &mut self.left,
-            &mut self.state,
-            to,
-        )
+        next_line(self.linear, self.most, &mut self.left, &mut self.state, to)
     }
 
     /// The next draw after the last event, once `next` has answered None, or `write_next` false. Takes no memory.

@@ -10,33 +10,32 @@ use crate::names::{expand_event, start_event};
 use crate::text::{append_expand, append_start};
 use crate::turn::{Drawn, State, draw_turn, start, take_turn};
 use std::alloc::{AllocError, Global};
-use wf_recur::Cycles;
+use wf_recur::Linear;
 use wf_spec::{Event, Grammar};
 
 /// The turn that comes next in a run that has its start, of which so many turns are left. None where the run ends: then it is known that no turn comes. Elsewhere the run is as it was. The only error is that memory is refused, and then the run is as it was.
 fn coming_turn(
-    g: &Grammar,
-    cycles: &Cycles,
+    g: Linear<'_>,
     most: u32,
     left: &mut u32,
     state: &mut State,
 ) -> Result<Option<Drawn>, AllocError>
-    requires kept { IsKept g.now.core cycles.now most (state_of state.old) }
+    requires kept { IsKept g.grammar.now.core most (state_of state.old) }
     requires begun { 0 < state.old.made }
-    ensures turn { IfOk result (λ d. IsTurnOrEnd g.now.core most left.old (state_of state.old) d left.new (state_of state.new)) }
-    ensures kept { OnOk result (IsKept g.now.core cycles.now most (state_of state.new)) }
+    ensures turn { IfOk result (λ d. IsTurnOrEnd g.entry.grammar.now.core most left.old (state_of state.old) d left.new (state_of state.new)) }
+    ensures kept { OnOk result (IsKept g.entry.grammar.now.core most (state_of state.new)) }
     ensures same_left { OnErr result (left.new ≡ left.old) }
     ensures same_state { OnErr result (state_of state.new ≡ state_of state.old) }
 {
     // A grammar is well-formed.
-    let _formed = g.start();
+    let _formed = g.grammar.start();
     if *left == 0 {
         return Ok(None);
     }
     if state.pending.is_empty() {
         return Ok(None);
     }
-    match draw_turn(g, cycles, most, state)? {
+    match draw_turn(g, most, state)? {
         Some(drawn) => Ok(Some(drawn)),
         None => {
             *left = 0;
@@ -48,61 +47,59 @@ fn coming_turn(
 /// The next event of a run of which so many turns are left; None where it ends. The only error is that memory is refused, and then the run is as it was.
 pub(crate) fn next_event(
     alloc: Global,
-    g: &Grammar,
-    cycles: &Cycles,
+    g: Linear<'_>,
     most: u32,
     left: &mut u32,
     state: &mut State,
 ) -> Result<Option<Event>, AllocError>
-    requires { IsKept g.now.core cycles.now most (state_of state.old) }
-    ensures next { IfOk result (λ e. IsNext (coming g.now.core most left.old (state_of state.old)) e (coming g.now.core most left.new (state_of state.new))) }
-    ensures kept { OnOk result (IsKept g.now.core cycles.now most (state_of state.new)) }
+    requires { IsKept g.grammar.now.core most (state_of state.old) }
+    ensures next { IfOk result (λ e. IsNext (coming g.entry.grammar.now.core most left.old (state_of state.old)) e (coming g.entry.grammar.now.core most left.new (state_of state.new))) }
+    ensures kept { OnOk result (IsKept g.entry.grammar.now.core most (state_of state.new)) }
     ensures same_left { OnErr result (left.new ≡ left.old) }
     ensures same_state { OnErr result (state_of state.new ≡ state_of state.old) }
 {
     // A grammar is well-formed.
-    let _formed = g.start();
+    let _formed = g.grammar.start();
     if state.made == 0 {
         let event = start_event(alloc)?;
-        start(g, state)?;
+        start(g.grammar, state)?;
         return Ok(Some(event));
     }
-    let Some(drawn) = coming_turn(g, cycles, most, left, state)? else {
+    let Some(drawn) = coming_turn(g, most, left, state)? else {
         return Ok(None);
     };
     let event = expand_event(alloc, drawn.turn, state.made, drawn.count)?;
-    take_turn(g, state, drawn)?;
+    take_turn(g.grammar, state, drawn)?;
     *left -= 1;
     Ok(Some(event))
 }
 
 /// Appends the line of the next event of a run of which so many turns are left, and gives whether there is one. The only error is that memory is refused, and then the run and the text are as they were.
 pub(crate) fn next_line(
-    g: &Grammar,
-    cycles: &Cycles,
+    g: Linear<'_>,
     most: u32,
     left: &mut u32,
     state: &mut State,
     to: &mut Vec<u8>,
 ) -> Result<bool, AllocError>
-    requires { IsKept g.now.core cycles.now most (state_of state.old) }
-    ensures next { IfOk result (λ given. IsNextLine (coming g.now.core most left.old (state_of state.old)) given
-        (coming g.now.core most left.new (state_of state.new)) to.old.items to.new.items) }
-    ensures kept { OnOk result (IsKept g.now.core cycles.now most (state_of state.new)) }
+    requires { IsKept g.grammar.now.core most (state_of state.old) }
+    ensures next { IfOk result (λ given. IsNextLine (coming g.entry.grammar.now.core most left.old (state_of state.old)) given
+        (coming g.entry.grammar.now.core most left.new (state_of state.new)) to.old.items to.new.items) }
+    ensures kept { OnOk result (IsKept g.entry.grammar.now.core most (state_of state.new)) }
     ensures same_left { OnErr result (left.new ≡ left.old) }
     ensures same_state { OnErr result (state_of state.new ≡ state_of state.old) }
     ensures same_text { OnErr result (to.new.items ≡ to.old.items) }
 {
     // A grammar is well-formed.
-    let _formed = g.start();
+    let _formed = g.grammar.start();
     if state.made == 0 {
-        start_line(g, state, to)?;
+        start_line(g.grammar, state, to)?;
         return Ok(true);
     }
-    let Some(drawn) = coming_turn(g, cycles, most, left, state)? else {
+    let Some(drawn) = coming_turn(g, most, left, state)? else {
         return Ok(false);
     };
-    turn_line(g, state, drawn, to)?;
+    turn_line(g.grammar, state, drawn, to)?;
     *left -= 1;
     Ok(true)
 }

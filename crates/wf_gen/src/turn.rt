@@ -1,7 +1,5 @@
 // The turns of a generated run.
 ghost use Rattle.std.specs.Prelude.{◌≡◌, ◌<◌, [], length, IfOk, OnOk, OnErr};
-ghost use Rattle.wf_model.specs.Linear.{IsLinear};
-ghost use Rattle.wf_recur.specs.Cycles.{AreCyclesOf};
 ghost use Rattle.wf_gen.specs.Turns.{after_turn, first_state};
 ghost use Rattle.wf_gen.specs.Held.{AreComposite, CanTake, IsDrawn, state_of, turn_of};
 
@@ -9,7 +7,7 @@ use crate::choice::{Turn, draw, pick};
 use crate::pending::{Pending, put_composite, replace};
 use rand_pcg::Pcg32;
 use std::alloc::AllocError;
-use wf_recur::Cycles;
+use wf_recur::Linear;
 use wf_spec::Grammar;
 
 /// A run between two turns: how many instances were made, those that are pending, and the generator of the draws that follow.
@@ -42,23 +40,20 @@ pub(crate) fn start(g: &Grammar, state: &mut State) -> Result<(), AllocError>
 
 /// Draws twice, for the next turn. Gives None where its event would pass the limit of instances: then the two draws are spent. Elsewhere the run is as it was. The only error is that memory is refused, and then the run is as it was.
 pub(crate) fn draw_turn(
-    g: &Grammar,
-    cycles: &Cycles,
+    g: Linear<'_>,
     most: u32,
     state: &mut State,
 ) -> Result<Option<Drawn>, AllocError>
-    requires linear { IsLinear g.now.core }
-    requires cycles { AreCyclesOf g.now.core cycles.now }
     requires some { 0 < length state.old.pending.items }
-    requires composite { AreComposite g.now.core (state_of state.old).pending }
-    ensures drawn { IfOk result (λ d. IsDrawn g.now.core most (state_of state.old) d (state_of state.new)) }
+    requires composite { AreComposite g.grammar.now.core (state_of state.old).pending }
+    ensures drawn { IfOk result (λ d. IsDrawn g.entry.grammar.now.core most (state_of state.old) d (state_of state.new)) }
     ensures unchanged { OnErr result (state_of state.new ≡ state_of state.old) }
 {
     let mut draws = state.draws.clone()?;
     let d = draw(&mut draws);
     let e = draw(&mut draws);
-    let turn = pick(g, cycles, &state.pending, d, e);
-    let count = g.production(turn.production).positions().len();
+    let turn = pick(g, &state.pending, d, e);
+    let count = g.grammar.production(turn.production).positions().len();
     if (most as usize) < count.saturating_add(state.made as usize) {
         state.draws = draws;
         return Ok(None);

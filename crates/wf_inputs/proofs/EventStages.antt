@@ -11,16 +11,19 @@ use Rattle.wf_model.specs.Faults.{fault_of}
 use Rattle.wf_model.proofs.Taking.{taking_law}
 use Rattle.wf_laws.proofs.Accepted.{none_taken}
 use Rattle.report_model.specs.Reports.{Report, same_event, about}
-use Rattle.report_model.specs.Intake.{Intake, nothing_taken, ReportFault, Conflict, Orphan, Taking, GoesOn as GoesOnFrom, Stops, state_after, and_then, ready_in, hold_beside, hold, apply_unless, without_ready, apply_one, apply_ready, take_report, take_reports, end_with, intake}
+use Rattle.report_model.specs.Intake.{Intake, nothing_taken, ReportFault, Conflict, Orphan, Taking, GoesOn as GoesOnFrom, Stops, state_after, and_then, ready_in, hold_beside, hold, apply_unless, without_ready, apply_one, apply_ready, apply_all, take_report, take_reports, end_with, intake}
 use Rattle.report_model.proofs.Growing.{in_parts}
+use Rattle.report_model.proofs.Rounds.{taken_by}
 use Rattle.report_model.proofs.TakenReports.{ends_on}
 use Rattle.wf_io.specs.Lines.{Line, FileLines, Tail, AtEnd, Broken, LongFile}
 use Rattle.wf_lines.specs.LineStages.{StopsLine, AllTaken, OfLines, IsOneWay, IsClosedOneWay}
+use Rattle.wf_lines.specs.BegunLines.{BegunLine, BeginsEach}
 use Rattle.wf_lines.proofs.LineStages.{lines_on}
+use Rattle.wf_intake.proofs.OnTheWay.{held_run, way_same}
 use Rattle.wf_message.specs.Endings.{End, Refused}
 use Rattle.wf_stage.specs.LineEnds.{line_ends}
 use Rattle.wf_inputs.specs.RunTold.{IsEventLine, report_on, AreReports, AreTakenTo, RefusesLine, report_end, refused, stopped, held, long_file, broken, EventsStage, stops, goes_on}
-use Rattle.wf_inputs.specs.RunTaking.{TakenSoFar, with_state, IsWrittenBehind, TakesReport, StopsReport, HoldsNone, StopsHolding, IsAnyTaken}
+use Rattle.wf_inputs.specs.RunTaking.{TakenSoFar, with_state, IsWrittenBehind, TakesReport, StopsReport, AppliesSoFar, MakesSoFar, nothing_written, HoldsNone, StopsHolding, IsAcceptedSoFar}
 use Rattle.wf_inputs.proofs.OneValue.{one_event}
 use Rattle.wf_inputs.proofs.OneForm.{no_event, one_form_fault}
 
@@ -59,15 +62,6 @@ module _ (written : Grammar → List Event → List ℕ) where
         let one = one_stop _ h.state k.state h.fault k.fault h.refused (same ∙ k.refused) in
         (h.ending_is ∙ (ap report_end one.1 ∙ sym k.ending_is), one_text s h.state k.state t u one.0 h.made_is k.made_is)
 
-  -- a line of events is taken or refused in one way
-  pub events_one_way : IsOneWay IsAnyTaken (TakesReport written) (StopsReport written)
-  events_one_way = record {
-    sound = λ s n x q p ok h. tt;
-    taken = λ s n x q r p t ok h k. one_taken s n x q r p t h k;
-    apart = λ s n x q p e t ok h k. taken_apart s n x q p e t h k;
-    stopped = λ s n x d e t u ok h k. one_stopped s n x d e t u h k;
-  }
-
 -- some reports have one first
 one_first : (hs : List Report) (r k : Report) (rs ks : List Report) → hs ≡ r ∷ rs → hs ≡ k ∷ ks → r ≡ k
 one_first hs r k rs ks p q = let e = sym p ∙ q in (cc)
@@ -76,7 +70,7 @@ none_first : (hs : List Report) (r : Report) (rs : List Report) → hs ≡ [] �
 none_first hs r rs p q = let e = sym p ∙ q in absurd (cc)
 
 -- the end of the file is passed or refused in one way, and nothing is made of it
-pub events_closed_one_way : IsClosedOneWay IsAnyTaken HoldsNone StopsHolding
+pub events_closed_one_way : IsClosedOneWay IsAcceptedSoFar HoldsNone StopsHolding
 events_closed_one_way = record {
   finished = λ s p t ok h k. h.1 ∙ sym k.1;
   apart = λ s p e t ok h k. none_first s.state.held k.0 k.1 h.0 k.2;
@@ -284,3 +278,75 @@ module _ (written : Grammar → List Event → List ℕ) where
             let after_all : Next told.state.run d t = subst (λ z. Next z d t) (sym told.run) next in
             let b = begins told.state.run d t after_all in
             behind_all file AtEnd told.state d t b.0 told.whole (record { reports = told.reports; read = told.read; taken = w.0 }) b.1 (inr (w.1, subst (Next told.state.run d) b.1 after_all))
+
+-- reports are taken from an accepted run into one
+accepted_on : (g : Grammar) (limit : ℕ) (s : Intake) (r : Report) → IsAccepted g limit s.run → IsAccepted g limit (state_after (take_report g limit s r)).run
+accepted_on g limit s r acc = (report_adds nothing_written g limit (λ before e more. ([], refl)) s r acc).0
+
+module _ (written : Grammar → List Event → List ℕ) where
+  sound_on : (s : TakenSoFar) (n : ℕ) (x : List ℕ) (q : TakenSoFar) (p : List ℕ) → IsAcceptedSoFar s → TakesReport written s n x q p → IsAcceptedSoFar q
+  sound_on s n x q p acc h = subst IsAcceptedSoFar (sym h.leaves) (subst (λ u. IsAccepted s.grammar s.limit (state_after u).run) h.taken (accepted_on s.grammar s.limit s.state (report_on n h.event) acc))
+
+  -- a line of events is taken or refused in one way
+  pub events_one_way : IsOneWay IsAcceptedSoFar (TakesReport written) (StopsReport written)
+  events_one_way = record {
+    sound = sound_on;
+    taken = λ s n x q r p t ok h k. one_taken written s n x q r p t h k;
+    apart = λ s n x q p e t ok h k. taken_apart written s n x q p e t h k;
+    stopped = λ s n x d e t u ok h k. one_stopped written s n x d e t u h k;
+  }
+
+  module _ (grows : (g : Grammar) (limit : ℕ) (before : List Event) (e : Event) → IsAccepted g limit (before ++ e ∷ []) → (piece : List ℕ) × (written g (before ++ e ∷ []) ≡ written g before ++ piece)) where
+    module _ (p : BegunLine TakenSoFar) (ok : IsAcceptedSoFar p.state) (h : AppliesSoFar written p) where
+      abbrev g : Grammar
+      g = p.state.grammar
+
+      abbrev limit : ℕ
+      limit = p.state.limit
+
+      -- what taking the report comes to
+      abbrev all : Taking
+      all = take_report g limit p.state.state (report_on p.number h.event)
+
+      same_run : h.first.run ≡ p.state.state.run
+      same_run = sym (ap (λ u. (state_after u).run) h.held) ∙ held_run p.state.state (report_on p.number h.event)
+
+      accepted_there : IsAccepted g limit h.reached.run
+      accepted_there =
+          subst (λ u. IsAccepted g limit (state_after u).run) h.on_the_way.go_on
+          (apply_adds written g limit (grows g limit) h.on_the_way.rounds h.first (subst (IsAccepted g limit) (sym same_run) ok)).0
+
+      from_there : apply_all g limit h.reached ≡ all
+      from_there = sym (taken_by g limit p.state.state (report_on p.number h.event) (GoesOnFrom h.first) h.held ∙ way_same g limit h.first h.reached h.on_the_way)
+
+      -- it is written behind what is made so far
+      goes_behind : (more : List ℕ) × IsWrittenBehind (written g) p.state.state.run (state_after all).run (p.made ++ more)
+      goes_behind =
+          let a = subst (Adds written g limit (grows g limit) h.reached.run) from_there (apply_adds written g limit (grows g limit) (length h.reached.held) h.reached accepted_there) in (
+            a.1,
+            a.2 ∙ (ap (λ x. x ++ a.1) (h.made_is ∙ ap (λ es. written g es ++ p.made) same_run) ∙ append_assoc (written g p.state.state.run) p.made a.1),
+          )
+
+      -- so what is made so far begins what is made
+      begins_made : (u : Taking) (t : List ℕ) → all ≡ u → IsWrittenBehind (written g) p.state.state.run (state_after u).run t → (more : List ℕ) × (t ≡ p.made ++ more)
+      begins_made u t is made =
+          (goes_behind.0, append_cancel_left (written g p.state.state.run) t (p.made ++ goes_behind.0) (sym made ∙ (ap (λ z. written g (state_after z).run) (sym is) ∙ goes_behind.1)))
+
+      begins_taken : (q : TakenSoFar) (t : List ℕ) → TakesReport written p.state p.number p.text q t → (more : List ℕ) × (t ≡ p.made ++ more)
+      begins_taken q t k = begins_made (GoesOnFrom k.state) t (ap (λ e. take_report g limit p.state.state (report_on p.number e)) (one_event p.text h.event k.event h.told k.told) ∙ k.taken) k.made_is
+
+      begins_stopped : (e : End) (t : List ℕ) → StopsReport written p.state p.number p.text e t → (more : List ℕ) × (t ≡ p.made ++ more)
+      begins_stopped e t (inl k) = absurd (no_event p.text k.0 h.event k.1 h.told)
+      begins_stopped e t (inr k) = begins_made (Stops k.state k.fault) t (ap (λ z. take_report g limit p.state.state (report_on p.number z)) (one_event p.text h.event k.event h.told k.told) ∙ k.refused) k.made_is
+
+    taken_so_far : (p : BegunLine TakenSoFar) (q : TakenSoFar) (t : List ℕ) → IsAcceptedSoFar p.state → MakesSoFar written p → TakesReport written p.state p.number p.text q t → (more : List ℕ) × (t ≡ p.made ++ more)
+    taken_so_far p q t ok (inl none) k = (t, sym (ap (λ x. x ++ t) none))
+    taken_so_far p q t ok (inr h) k = begins_taken p ok h q t k
+
+    stopped_so_far : (p : BegunLine TakenSoFar) (e : End) (t : List ℕ) → IsAcceptedSoFar p.state → MakesSoFar written p → StopsReport written p.state p.number p.text e t → (more : List ℕ) × (t ≡ p.made ++ more)
+    stopped_so_far p e t ok (inl none) k = (t, sym (ap (λ x. x ++ t) none))
+    stopped_so_far p e t ok (inr h) k = begins_stopped p ok h e t k
+
+    -- what a line makes so far begins what it makes
+    pub events_begin : BeginsEach IsAcceptedSoFar (TakesReport written) (StopsReport written) (MakesSoFar written)
+    events_begin = record { taken = taken_so_far; stopped = stopped_so_far }

@@ -11,7 +11,6 @@ pub mod OneRun
 pub mod OneRunFault
 pub mod OneValue
 pub mod OneViewFault
-pub mod ChangedVersions
 pub mod SpecSteps
 pub mod Taking
 pub mod ToldGrammars

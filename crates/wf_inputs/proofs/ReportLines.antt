@@ -1,13 +1,18 @@
 -- Lines of events taken as reports: what a line leaves of the intake, and why it, or the end of the file, ends the program.
-use Rattle.std.proofs.Common.{◌≡◌, ℕ, zero, suc, ◌<◌, Bool, true, false, cond, List, [], ◌∷◌, ◌++◌, map, filter, length, Some, None, refl, sym, ap, ◌∙◌, subst, inr, arith}
+use Rattle.std.proofs.Common.{◌≡◌, ℕ, zero, suc, ◌<◌, Bool, true, false, cond, List, [], ◌∷◌, ◌++◌, map, filter, length, Some, None, refl, sym, ap, ◌∙◌, subst, inl, inr, arith}
 use Rattle.wf_model.specs.declared.event.Event.{Event}
 use Rattle.wf_model.specs.Grammar.{Grammar}
-use Rattle.report_model.specs.Intake.{Intake, ReportFault, Conflict, Refused as RefusedByRun, Orphan, GoesOn, Stops, take_report}
+use Rattle.report_model.specs.Reports.{Report}
+use Rattle.report_model.specs.Intake.{Intake, ReportFault, Conflict, Refused as RefusedByRun, Orphan, GoesOn, Stops, state_after, take_report, apply_all}
 use Rattle.report_model.specs.Kept.{Kept, report_of, is_held, kept_at, NoneHeldBefore}
-use Rattle.wf_inbox.specs.Inboxes.{IsOrphan, NoneHeld}
+use Rattle.report_model.proofs.Rounds.{taken_by}
+use Rattle.wf_inbox.specs.Inboxes.{IsOrphan, NoneHeld, NoneReady}
 use Rattle.wf_intake.specs.Reported.{ReportedSeen, none_reported}
-use Rattle.wf_intake.specs.Intakes.{IsIntakeOf, IsWrittenOn, fault_told}
-use Rattle.wf_intake.specs.Rounds.{GoesOnTo, StopsWith}
+use Rattle.wf_intake.specs.Intakes.{IsKeptAs, IsIntakeOf, IsWrittenOn, fault_told}
+use Rattle.wf_intake.specs.Rounds.{IsOnTheWay, IsReportBegun, ComesTo, StopsWith, HaltsAt, HaltsAtReport, Round}
+use Rattle.wf_intake.proofs.OnTheWay.{held_run}
+use Rattle.wf_intake.proofs.Stepping.{all_done_there, stops_on, halts_on, comes_on}
+use Rattle.wf_lines.specs.BegunLines.{BegunLine, begun_line, further}
 use Rattle.wf_intake.proofs.Beginning.{intake_begins}
 use Rattle.wf_intake.specs.declared.fault.IntakeFault.{IntakeFault}
 use Rattle.wf_intake.specs.declared.fault.IntakeFault.TheVariants.{Conflict as HasConflict, Refused as HasRefused, Orphan as HasOrphan, NoMemory as WantsMemory}
@@ -16,11 +21,12 @@ use Rattle.wf_flat.proofs.Steps.{run_none}
 use Rattle.wf_message.specs.Endings.{End}
 use Rattle.wf_stage.specs.Stages.{IsRefusedOrWanting}
 use Rattle.wf_stage.specs.LineEnds.{told_end}
-use Rattle.wf_inputs.specs.declared.event_stop.EventStop.TheVariants.{Report}
+use Rattle.wf_stage.proofs.LineEnds.{told_is}
+use Rattle.wf_inputs.specs.declared.event_stop.EventStop.TheVariants.{Report as StopsAtReport}
 use Rattle.wf_inputs.specs.EventsEnd.{event_end}
 use Rattle.wf_inputs.specs.RunTold.{IsEventText, report_on, report_end}
-use Rattle.wf_inputs.specs.RunTaking.{TakenSoFar, with_state, none_taken_of, IsWrittenBehind, TakesReport, StopsReport, HoldsNone, StopsHolding}
-use Rattle.wf_inputs.specs.Reporting.{IsTakenAs, GrowingSeen, IsGrownBy}
+use Rattle.wf_inputs.specs.RunTaking.{TakenSoFar, with_state, none_taken_of, IsWrittenBehind, TakesReport, StopsReport, MakesSoFar, HoldsNone, StopsHolding}
+use Rattle.wf_inputs.specs.Reporting.{IsTakenAs, IsTakenWithin, GrowingSeen, IsGrownBy}
 use Rattle.wf_inputs.specs.Inputs.{instance_most}
 
 -- where the run is that of the same events, reports are taken as far
@@ -38,26 +44,43 @@ still_taken g h m n kept seen IsRun IsLater grammar limit later s at = record {
 behind : (w : List Event → List ℕ) (before after : List Event) (old new : List ℕ) → old ≡ [] → IsWrittenOn w before after old new → IsWrittenBehind w before after new
 behind w before after old new none h = h.2 ∙ ap (λ p. w before ++ p) (sym (h.1 ∙ ap (λ l. l ++ h.0) none))
 
-module _ (written : Grammar → List Event → List ℕ) (g : Grammar) (m : ℕ) (old : List Kept) (was : ReportedSeen) (IsRun : List Event → Type 0) (number : ℕ) (text : List ℕ) (event : Event) (told : IsEventText text event) (before made : List ℕ) (none : before ≡ []) where
-  -- the report of a line is taken, so the line is
-  pub report_taken : (h : Grammar) (n : ℕ) (new : List Kept) (seen : ReportedSeen) (IsLater : List Event → Type 0) → h ≡ g → n ≡ m →
-      ((s : Intake) → IsIntakeOf g old was IsRun s → GoesOnTo h (written g) new seen IsLater before made s (take_report g m s (report_on number event))) →
-      (s : TakenSoFar) → IsTakenAs g m old was IsRun s → (q : TakenSoFar) × TakesReport written s number text q made × IsTakenAs h n new seen IsLater q
-  report_taken h n new seen IsLater grammar limit takes s at =
-      let t = takes s.state at.intake in (
-        with_state s t.later,
-        record {
-          event = event;
-          state = t.later;
-          told = told;
-          taken = subst (λ x. take_report x s.limit s.state (report_on number event) ≡ GoesOn t.later) (sym at.grammar) (subst (λ k. take_report g k s.state (report_on number event) ≡ GoesOn t.later) (sym at.limit) t.goes_on);
-          leaves = refl;
-          made_is = subst (λ x. IsWrittenBehind (written x) s.state.run t.later.run made) (sym at.grammar) (behind (written g) s.state.run t.later.run before made none t.text);
-        },
-        record { grammar = at.grammar ∙ sym grammar; limit = at.limit ∙ sym limit; intake = t.here },
-      )
+-- a report is begun behind no text
+from_nothing : (g : Grammar) (most : ℕ) (written : List Event → List ℕ) (kept : List Kept) (seen : ReportedSeen) (IsRun : List Event → Type 0) (old new : List ℕ) (s : Intake) (r : Report) → old ≡ [] → IsReportBegun g most written kept seen IsRun old new s r → IsReportBegun g most written kept seen IsRun [] new s r
+from_nothing g most written kept seen IsRun old new s r none = subst (λ z. IsReportBegun g most written kept seen IsRun z new s r) none
 
-  -- the report of a line is refused, or another is when it is taken: so the line ends the program
+module _ (written : Grammar → List Event → List ℕ) (g : Grammar) (m : ℕ) (old : List Kept) (was : ReportedSeen) (IsRun : List Event → Type 0) (number : ℕ) (text : List ℕ) (event : Event) (told : IsEventText text event) (before made : List ℕ) (none : before ≡ []) where
+  abbrev at_line : TakenSoFar → BegunLine TakenSoFar
+  at_line s = begun_line s number text made
+
+  -- the report of a line is begun, so the line is
+  module _ (h : Grammar) (n : ℕ) (new : List Kept) (seen : ReportedSeen) (IsLater : List Event → Type 0) (grammar : h ≡ g) (limit : n ≡ m)
+      (begins : (s : Intake) → IsIntakeOf g old was IsRun s → IsReportBegun g m (written g) new seen IsLater before made s (report_on number event)) (s : TakenSoFar) (at : IsTakenAs g m old was IsRun s) where
+    abbrev begun : IsReportBegun g m (written g) new seen IsLater before made s.state (report_on number event)
+    begun = begins s.state at.intake
+
+    pub report_begun : IsTakenWithin h n written new seen IsLater (at_line s)
+    report_begun = record {
+      grammar = at.grammar ∙ sym grammar;
+      limit = at.limit ∙ sym limit;
+      event = event;
+      told = told;
+      begun = subst (λ k. IsReportBegun h k (written h) new seen IsLater [] made s.state (report_on number event)) (sym limit)
+          (subst (λ x. IsReportBegun x m (written x) new seen IsLater [] made s.state (report_on number event)) (sym grammar) (from_nothing g m (written g) new seen IsLater before made s.state (report_on number event) none begun));
+    }
+
+    -- and what it made is the text of an event at most
+    pub report_begins : MakesSoFar written (at_line s)
+    report_begins = inr (record {
+      event = event;
+      first = begun.first;
+      reached = begun.comes.later;
+      told = told;
+      held = begun.held;
+      on_the_way = subst (λ x. IsOnTheWay x s.limit begun.first begun.comes.later) (sym at.grammar) (subst (λ k. IsOnTheWay g k begun.first begun.comes.later) (sym at.limit) begun.comes.on_the_way);
+      made_is = subst (λ x. IsWrittenBehind (written x) begun.first.run begun.comes.later.run made) (sym at.grammar) (behind (written g) begun.first.run begun.comes.later.run before made none begun.comes.text);
+    })
+
+  -- the report of a line is refused: so the line ends the program
   pub report_refused : (IsLater : List Event → Type 0) (r : ReportFault) (e : End) → e ≡ report_end r →
       ((s : Intake) → IsIntakeOf g old was IsRun s → StopsWith (written g) IsLater before made s (take_report g m s (report_on number event)) r) →
       (s : TakenSoFar) → IsTakenAs g m old was IsRun s → StopsReport written s number text e made
@@ -73,28 +96,159 @@ module _ (written : Grammar → List Event → List ℕ) (g : Grammar) (m : ℕ)
         made_is = subst (λ x. IsWrittenBehind (written x) s.state.run t.left.run made) (sym at.grammar) (behind (written g) s.state.run t.left.run before made none t.text);
       })
 
+  -- memory is refused where it is begun: it made nothing, or the text of the events that were applied
+  pub report_wanting : (IsLater : List Event → Type 0) → ((s : Intake) → IsIntakeOf g old was IsRun s → HaltsAtReport g m (written g) IsLater before made s (report_on number event)) → (s : TakenSoFar) → IsTakenAs g m old was IsRun s → MakesSoFar written (at_line s)
+  report_wanting IsLater halts s at = go (halts s.state at.intake)
+    where
+      go : HaltsAtReport g m (written g) IsLater before made s.state (report_on number event) → MakesSoFar written (at_line s)
+      go (inl u) = inl (u.text ∙ none)
+      go (inr w) = inr (record {
+        event = event;
+        first = w.0;
+        reached = w.2.reached;
+        told = told;
+        held = w.1;
+        on_the_way = subst (λ x. IsOnTheWay x s.limit w.0 w.2.reached) (sym at.grammar) (subst (λ k. IsOnTheWay g k w.0 w.2.reached) (sym at.limit) w.2.on_the_way);
+        made_is = subst (λ x. IsWrittenBehind (written x) w.0.run w.2.reached.run made) (sym at.grammar) (behind (written g) w.0.run w.2.reached.run before made none w.2.text);
+      })
+
+-- a line is begun, and the text of its last piece is cleared
+module _ (written : Grammar → List Event → List ℕ) (g : Grammar) (m : ℕ) (old : List Kept) (was : ReportedSeen) (IsRun : List Event → Type 0) (before piece : List ℕ) (none : before ≡ []) (p : BegunLine TakenSoFar) (within : IsTakenWithin g m written old was IsRun p) where
+  abbrev comes : ComesTo g m (written g) old was IsRun [] p.made within.begun.first
+  comes = within.begun.comes
+
+  -- a round is done
+  module _ (h : Grammar) (n : ℕ) (new : List Kept) (seen : ReportedSeen) (IsLater : List Event → Type 0) (grammar : h ≡ g) (limit : n ≡ m) (round : Round g m written old was IsRun before new seen IsLater piece) where
+    abbrev on : ComesTo g m (written g) new seen IsLater [] (p.made ++ piece) within.begun.first
+    on = comes_on g m (written g) old was IsRun [] p.made within.begun.first comes before none new seen IsLater piece (round comes.later comes.here)
+
+    pub report_goes_on : IsTakenWithin h n written new seen IsLater (further p piece)
+    report_goes_on = record {
+      grammar = within.grammar ∙ sym grammar;
+      limit = within.limit ∙ sym limit;
+      event = within.event;
+      told = within.told;
+      begun = subst (λ k. IsReportBegun h k (written h) new seen IsLater [] (p.made ++ piece) p.state.state (report_on p.number within.event)) (sym limit)
+          (subst (λ x. IsReportBegun x m (written x) new seen IsLater [] (p.made ++ piece) p.state.state (report_on p.number within.event)) (sym grammar) (record { first = within.begun.first; held = within.begun.held; comes = on }));
+    }
+
+    pub report_makes : MakesSoFar written (further p piece)
+    report_makes = inr (record {
+      event = within.event;
+      first = within.begun.first;
+      reached = on.later;
+      told = within.told;
+      held = within.begun.held;
+      on_the_way = subst (λ x. IsOnTheWay x p.state.limit within.begun.first on.later) (sym within.grammar) (subst (λ k. IsOnTheWay g k within.begun.first on.later) (sym within.limit) on.on_the_way);
+      made_is = subst (λ x. IsWrittenBehind (written x) within.begun.first.run on.later.run (p.made ++ piece)) (sym within.grammar) (behind (written g) within.begun.first.run on.later.run [] (p.made ++ piece) refl on.text);
+    })
+
+    -- where none is ready any more, the line is taken
+    taken_all : NoneReady new → take_report g m p.state.state (report_on p.number within.event) ≡ GoesOn on.later
+    taken_all ready =
+        taken_by g m p.state.state (report_on p.number within.event) (GoesOn within.begun.first) within.begun.held ∙
+        (on.same ∙ all_done_there g m new seen IsLater ready on.later on.here)
+
+    same_run : within.begun.first.run ≡ p.state.state.run
+    same_run = sym (ap (λ u. (state_after u).run) within.begun.held) ∙ held_run p.state.state (report_on p.number within.event)
+
+    pub report_taken : NoneReady new → (q : TakenSoFar) × TakesReport written p.state p.number p.text q (p.made ++ piece) × IsTakenAs h n new seen IsLater q
+    report_taken ready = (
+      with_state p.state on.later,
+      record {
+        event = within.event;
+        state = on.later;
+        told = within.told;
+        taken = subst (λ x. take_report x p.state.limit p.state.state (report_on p.number within.event) ≡ GoesOn on.later) (sym within.grammar) (subst (λ k. take_report g k p.state.state (report_on p.number within.event) ≡ GoesOn on.later) (sym within.limit) (taken_all ready));
+        leaves = refl;
+        made_is = subst (λ x. IsWrittenBehind (written x) p.state.state.run on.later.run (p.made ++ piece)) (sym within.grammar)
+            (subst (λ es. IsWrittenBehind (written g) es on.later.run (p.made ++ piece)) same_run (behind (written g) within.begun.first.run on.later.run [] (p.made ++ piece) refl on.text));
+      },
+      record {
+        grammar = within.grammar ∙ sym grammar;
+        limit = within.limit ∙ sym limit;
+        intake = subst (λ x. IsIntakeOf x new seen IsLater on.later) (sym grammar) (record { parts = on.here; none_ready = ready });
+      },
+    )
+
+  -- the next report that is ready is refused: so the line ends the program
+  pub next_refused : (IsLater : List Event → Type 0) (r : ReportFault) (e : End) → e ≡ report_end r → ((s : Intake) → IsKeptAs g old was IsRun s → StopsWith (written g) IsLater before piece s (apply_all g m s) r) → StopsReport written p.state p.number p.text e (p.made ++ piece)
+  next_refused IsLater r e is stops =
+      let t = stops_on g m (written g) old was IsRun [] p.made within.begun.first comes before none IsLater piece r (stops comes.later comes.here) in
+      let start : within.begun.first.run ≡ p.state.state.run = sym (ap (λ u. (state_after u).run) within.begun.held) ∙ held_run p.state.state (report_on p.number within.event) in
+      let all : take_report g m p.state.state (report_on p.number within.event) ≡ Stops t.left r = taken_by g m p.state.state (report_on p.number within.event) (GoesOn within.begun.first) within.begun.held ∙ t.stops in
+      inr (record {
+        event = within.event;
+        state = t.left;
+        fault = r;
+        told = within.told;
+        refused = subst (λ x. take_report x p.state.limit p.state.state (report_on p.number within.event) ≡ Stops t.left r) (sym within.grammar) (subst (λ k. take_report g k p.state.state (report_on p.number within.event) ≡ Stops t.left r) (sym within.limit) all);
+        ending_is = is;
+        made_is = subst (λ x. IsWrittenBehind (written x) p.state.state.run t.left.run (p.made ++ piece)) (sym within.grammar)
+            (subst (λ es. IsWrittenBehind (written g) es t.left.run (p.made ++ piece)) start (behind (written g) within.begun.first.run t.left.run [] (p.made ++ piece) refl t.text));
+      })
+
+  -- memory is refused there
+  pub next_wanting : (IsLater : List Event → Type 0) → ((s : Intake) → IsKeptAs g old was IsRun s → HaltsAt g m (written g) IsLater before piece s) → MakesSoFar written (further p piece)
+  next_wanting IsLater halts =
+      let t = halts_on g m (written g) old was IsRun [] p.made within.begun.first comes before none IsLater piece (halts comes.later comes.here) in
+      inr (record {
+        event = within.event;
+        first = within.begun.first;
+        reached = t.reached;
+        told = within.told;
+        held = within.begun.held;
+        on_the_way = subst (λ x. IsOnTheWay x p.state.limit within.begun.first t.reached) (sym within.grammar) (subst (λ k. IsOnTheWay g k within.begun.first t.reached) (sym within.limit) t.on_the_way);
+        made_is = subst (λ x. IsWrittenBehind (written x) within.begun.first.run t.reached.run (p.made ++ piece)) (sym within.grammar) (behind (written g) within.begun.first.run t.reached.run [] (p.made ++ piece) refl t.text);
+      })
+
+-- where the run is that of the same events, a line is begun as far
+pub still_within : (written : Grammar → List Event → List ℕ) (g h : Grammar) (m n : ℕ) (kept : List Kept) (seen : ReportedSeen) (IsRun IsLater : List Event → Type 0) → h ≡ g → n ≡ m → ((es : List Event) → IsRun es → IsLater es) → (p : BegunLine TakenSoFar) → IsTakenWithin g m written kept seen IsRun p → IsTakenWithin h n written kept seen IsLater p
+still_within written g h m n kept seen IsRun IsLater grammar limit later p at =
+    let r = report_on p.number at.event in
+    let c = at.begun.comes in
+    let k = c.here in
+    record {
+      grammar = at.grammar ∙ sym grammar;
+      limit = at.limit ∙ sym limit;
+      event = at.event;
+      told = at.told;
+      begun = subst (λ x. IsReportBegun h x (written h) kept seen IsLater [] p.made p.state.state r) (sym limit)
+          (subst (λ x. IsReportBegun x m (written x) kept seen IsLater [] p.made p.state.state r) (sym grammar) (record {
+            first = at.begun.first;
+            held = at.begun.held;
+            comes = record {
+              later = c.later;
+              same = c.same;
+              on_the_way = c.on_the_way;
+              here = record { run = later c.later.run k.run; held = k.held; known = k.known; marks = k.marks; subjects = k.subjects; expansions = k.expansions; applied = k.applied; fits = k.fits };
+              text = c.text;
+            };
+          }));
+    }
+
 -- the end at which a report is refused says something of files
 told_at : (r : ReportFault) → told_end (report_end r) ≡ None → ⊥
 told_at (Conflict line earlier) p = absurd (cc)
 told_at (RefusedByRun line fault) p = absurd (cc)
 told_at (Orphan line) p = absurd (cc)
 
--- a fault other than want of memory is a refusal
-refusal_of : (f : IntakeFault) → (f ≡ WantsMemory → ⊥) → (r : ReportFault) × (fault_told f ≡ Some r)
-refusal_of (HasConflict line earlier) h = (Conflict line earlier, refl)
-refusal_of (HasRefused line fault) h = (RefusedByRun line fault, refl)
-refusal_of (HasOrphan line) h = (Orphan line, refl)
-refusal_of WantsMemory h = absurd (h refl)
+-- where the end is told, a report is refused
+pub refused_at : (f : IntakeFault) (e : End) → told_end (event_end (StopsAtReport f)) ≡ Some e → (r : ReportFault) × (fault_told f ≡ Some r) × (e ≡ report_end r)
+refused_at (HasConflict line earlier) e told = (Conflict line earlier, refl, told_is (report_end (Conflict line earlier)) e told)
+refused_at (HasRefused line fault) e told = (RefusedByRun line fault, refl, told_is (report_end (RefusedByRun line fault)) e told)
+refused_at (HasOrphan line) e told = (Orphan line, refl, told_is (report_end (Orphan line)) e told)
+refused_at WantsMemory e told = absurd (cc)
 
--- the end of the stop at such a fault is that of a refusal
-pub stop_at_report : (f : IntakeFault) (d : End) → (f ≡ WantsMemory → ⊥) → ((r : ReportFault) → fault_told f ≡ Some r → d ≡ report_end r) → (r : ReportFault) × (fault_told f ≡ Some r) × (d ≡ report_end r) × (told_end d ≡ None → ⊥)
-stop_at_report f d not ends =
-    let r = refusal_of f not in
-    let is = ends r.0 r.1 in
-    (r.0, r.1, is, λ p. told_at r.0 (sym (ap told_end is) ∙ p))
+-- and otherwise memory is
+pub wanting_at : (f : IntakeFault) → told_end (event_end (StopsAtReport f)) ≡ None → f ≡ WantsMemory
+wanting_at (HasConflict line earlier) none = absurd (told_at (Conflict line earlier) none)
+wanting_at (HasRefused line fault) none = absurd (told_at (RefusedByRun line fault) none)
+wanting_at (HasOrphan line) none = absurd (told_at (Orphan line) none)
+wanting_at WantsMemory none = refl
 
 -- a report that is not taken is refused, or memory is
-pub refused_or_wanting : (f : IntakeFault) → IsRefusedOrWanting (event_end (Report f))
+pub refused_or_wanting : (f : IntakeFault) → IsRefusedOrWanting (event_end (StopsAtReport f))
 refused_or_wanting (HasConflict line earlier) = tt
 refused_or_wanting (HasRefused line fault) = tt
 refused_or_wanting (HasOrphan line) = tt

@@ -47,7 +47,7 @@ use Rattle.wf_inputs.specs.LabelsTold.{OpensFor, TellsEntries, RefusesLabels}
 use Rattle.wf_inputs.proofs.SpecSteps.{refuses_by_parts, told_grammar}
 use Rattle.wf_inputs.proofs.ViewSteps.{refuses_by_parts as view_refuses_by_parts, told_view}
 use Rattle.wf_inputs.proofs.ToldGrammars.{told_formed, told_proper, versions_said}
-use Rattle.wf_inputs.proofs.ChangedVersions.{all_or_first}
+use Rattle.wf_accept.proofs.ChangedVersions.{all_or_first}
 use Rattle.wf_inputs.proofs.ViewComposites.{viewed_composites}
 
 -- all of so many versions keep their cycles, or one of them is the first that does not

@@ -9,15 +9,30 @@ use Rattle.wf_form.specs.declared.fault.FormFault.{FormFault}
 use Rattle.wf_form.specs.declared.fault.FormFault.TheVariants.{NoMemory as NoMemoryOfForm}
 use Rattle.wf_form.specs.Forming.{held_of, IsFormed, HaveVersions}
 use Rattle.wf_form.specs.Rules.{IsFaultOf}
+use Rattle.wf_accept.specs.declared.fault.AcceptFault.{AcceptFault}
+use Rattle.wf_accept.specs.declared.fault.AcceptFault.TheVariants.{NotProper, NotLinear, VersionChanged, NoMemory as NoMemoryOfGrammar}
+use Rattle.wf_accept.specs.Faults.{IsFaultOf as IsUnaccepted}
 use Rattle.wf_message.specs.Endings.{End, Refused, NoMemory}
 use Rattle.wf_inputs.specs.Faults.{form_text}
-use Rattle.wf_inputs.specs.Specification.{IsSpecText, AllKeepCycles, TellsGrammar, RefusesGrammar, RefusesParts, RefusesSpec}
+use Rattle.wf_inputs.specs.Specification.{accept_text, IsSpecText, AllKeepCycles, TellsGrammar, RefusesGrammar, RefusesParts, RefusesSpec}
 use Rattle.wf_stage.specs.Stages.{OfWhole, Declines}
 use Rattle.wf_stage.proofs.Stages.{fault_declines}
 
 -- a fault of parts, or want of memory
 pub parts_decline : (parts : Parts) (f : FormFault) (e : End) → (f ≡ NoMemoryOfForm) ⊎ IsFaultOf parts f → (f ≡ NoMemoryOfForm → e ≡ NoMemory) → (f ≡ NoMemoryOfForm) ⊎ (e ≡ Refused (codes "spec") None (form_text f)) → Declines (codes "spec") (OfWhole RefusesParts parts) e
 parts_decline parts f e fault = fault_declines (codes "spec") (OfWhole RefusesParts parts) NoMemoryOfForm f None (form_text f) e (⊎_elim (λ m. inl m) (λ h. inr (refl, inl (f, h, refl))) fault)
+
+-- the first fault of a grammar is a reason to refuse it
+refuses_by : (h : HeldGrammar) (f : AcceptFault) → IsUnaccepted h f → RefusesGrammar h (accept_text h.core f)
+refuses_by h (NotProper f) x = inl (f, x, refl)
+refuses_by h (NotLinear f) x = inr (x.0, inl (f, x.1, refl))
+refuses_by h (VersionChanged n f) x = inr (x.0, inr (x.1, (n, f, x.2, refl)))
+refuses_by h NoMemoryOfGrammar x = absurd x
+
+-- a fault of a grammar, or want of memory
+pub grammar_declines : (h : HeldGrammar) (f : AcceptFault) (e : End) → (f ≡ NoMemoryOfGrammar) ⊎ IsUnaccepted h f → (f ≡ NoMemoryOfGrammar → e ≡ NoMemory) →
+    (f ≡ NoMemoryOfGrammar) ⊎ (e ≡ Refused (codes "spec") None (accept_text h.core f)) → Declines (codes "spec") (OfWhole RefusesGrammar h) e
+grammar_declines h f e fault = fault_declines (codes "spec") (OfWhole RefusesGrammar h) NoMemoryOfGrammar f None (accept_text h.core f) e (⊎_elim (λ m. inl m) (λ x. inr (refl, refuses_by h f x)) fault)
 
 module _ (bytes : List ℕ) (parts : Parts) (read : IsSpecText bytes parts) where
   -- the refusal of parts is one of the bytes that say them

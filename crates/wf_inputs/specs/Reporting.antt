@@ -1,5 +1,5 @@
 -- What takes the lines of a file of events as reports.
-use Rattle.std.specs.Prelude.{◌≡◌, ℕ, Bool, List, position, Option, Some, Result, bytes_eq}
+use Rattle.std.specs.Prelude.{◌≡◌, ℕ, Bool, List, [], position, Option, Some, Result, bytes_eq}
 use Rattle.std.specs.Cmp.Lexicographic.{pointwise}
 use Rattle.wf_model.specs.declared.event.Event.{Event}
 use Rattle.wf_model.specs.Grammar.{Grammar}
@@ -7,12 +7,14 @@ use Rattle.wf_model.specs.Run.{Expanded, expanded_by}
 use Rattle.report_model.specs.Kept.{Kept}
 use Rattle.wf_intake.specs.Reported.{ReportedSeen}
 use Rattle.wf_intake.specs.Intakes.{IsIntakeOf}
+use Rattle.wf_intake.specs.Rounds.{IsReportBegun}
+use Rattle.wf_lines.specs.BegunLines.{BegunLine}
 use Rattle.wf_flat.specs.Table.{Table, IsTableOf, events_of, names_in}
 use Rattle.wf_io.specs.Told.{File}
 use Rattle.wf_message.specs.declared.ending.Stop.{Stop}
 use Rattle.wf_stage.specs.Promises.{ReadsLines}
 use Rattle.wf_inputs.specs.Inputs.{instance_most}
-use Rattle.wf_inputs.specs.RunTold.{TellsEvents, StopsEvents}
+use Rattle.wf_inputs.specs.RunTold.{IsEventText, report_on, TellsEvents, StopsEvents}
 use Rattle.wf_inputs.specs.RunTaking.{TakenSoFar}
 
 -- reports are taken so far: these reports are kept, these lines reported the events that are applied, and the run has grown by these
@@ -20,6 +22,14 @@ pub record IsTakenAs (g : Grammar) (most : ℕ) (kept : List Kept) (seen : Repor
   pub grammar : s.grammar ≡ g
   pub limit : s.limit ≡ most
   pub intake : IsIntakeOf g kept seen IsRun s.state
+
+-- the report of a line is begun so far: these reports are kept, these lines reported the events that are applied, and the run has grown by these; what the line made so far is written of those that it applied
+pub record IsTakenWithin (g : Grammar) (most : ℕ) (written : Grammar → List Event → List ℕ) (kept : List Kept) (seen : ReportedSeen) (IsRun : List Event → Type 0) (p : BegunLine TakenSoFar) : Type 0 where
+  pub grammar : p.state.grammar ≡ g
+  pub limit : p.state.limit ≡ most
+  pub event : Event
+  pub told : IsEventText p.text event
+  pub begun : IsReportBegun g most (written g) kept seen IsRun [] p.made p.state.state (report_on p.number event)
 
 -- what contracts see of a run of a grammar that grows
 pub record GrowingSeen : Type 0 where

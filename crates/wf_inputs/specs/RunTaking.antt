@@ -2,8 +2,11 @@
 use Rattle.std.specs.Prelude.{◌≡◌, ◌⊎◌, ℕ, List, [], ◌∷◌, ◌++◌, Some, codes}
 use Rattle.wf_model.specs.declared.event.Event.{Event}
 use Rattle.wf_model.specs.Grammar.{Grammar}
+use Rattle.wf_model.specs.Run.{IsAccepted}
 use Rattle.report_model.specs.Reports.{Report}
-use Rattle.report_model.specs.Intake.{Intake, nothing_taken, ReportFault, Orphan, GoesOn, Stops, take_report}
+use Rattle.report_model.specs.Intake.{Intake, nothing_taken, ReportFault, Orphan, GoesOn, Stops, hold, take_report}
+use Rattle.wf_lines.specs.BegunLines.{BegunLine}
+use Rattle.wf_intake.specs.Rounds.{IsOnTheWay}
 use Rattle.wf_message.specs.Endings.{End, Refused}
 use Rattle.wf_inputs.specs.Inputs.{instance_most}
 use Rattle.wf_inputs.specs.RunTold.{IsEventText, RefusesForm, report_on, report_end}
@@ -54,6 +57,20 @@ module _ (written : Grammar → List Event → List ℕ) where
   abbrev pub StopsReport : TakenSoFar → ℕ → List ℕ → End → List ℕ → Type 0
   StopsReport s number text ending made = RefusesFormAt s number text ending made ⊎ RefusesReportAt s number text ending made
 
+  -- the line was begun, and of the events that its report sets free those up to a state of the intake are applied; what is made is written of these
+  pub record AppliesSoFar (p : BegunLine TakenSoFar) : Type 0 where
+    pub event : Event
+    pub first : Intake
+    pub reached : Intake
+    pub told : IsEventText p.text event
+    pub held : hold p.state.state (report_on p.number event) ≡ GoesOn first
+    pub on_the_way : IsOnTheWay p.state.grammar p.state.limit first reached
+    pub made_is : IsWrittenBehind (written p.state.grammar) first.run reached.run p.made
+
+  -- what a line makes so far: nothing, or the text of events that it applies
+  abbrev pub MakesSoFar : BegunLine TakenSoFar → Type 0
+  MakesSoFar p = (p.made ≡ []) ⊎ AppliesSoFar p
+
 -- nothing is written of the events of a run
 abbrev pub nothing_written : Grammar → List Event → List ℕ
 nothing_written g es = []
@@ -66,6 +83,6 @@ HoldsNone s made = (s.state.held ≡ []) × (made ≡ [])
 abbrev pub StopsHolding : TakenSoFar → End → List ℕ → Type 0
 StopsHolding s ending made = (r : Report) × (held : List Report) × (s.state.held ≡ r ∷ held) × (ending ≡ report_end (Orphan r.line)) × (made ≡ [])
 
--- each state is sound
-abbrev pub IsAnyTaken : TakenSoFar → Type 0
-IsAnyTaken s = Unit {0}
+-- the run so far is an accepted one
+abbrev pub IsAcceptedSoFar : TakenSoFar → Type 0
+IsAcceptedSoFar s = IsAccepted s.grammar s.limit s.state.run

@@ -1,13 +1,10 @@
 -- What the bytes of a specification tell: a grammar, or why they are refused.
-use Rattle.std.specs.Prelude.{◌≡◌, ◌⊎◌, ℕ, ◌<◌, List, Ok, Err, codes}
+use Rattle.std.specs.Prelude.{◌≡◌, ◌⊎◌, ℕ, List, Ok, Err, codes}
 use Rattle.serde_json.specs.Data.{Data}
 use Rattle.wf_model.specs.declared.parts.Parts.{Parts}
 use Rattle.wf_model.specs.Grammar.{Grammar}
 use Rattle.wf_model.specs.Proper.{IsProper}
 use Rattle.wf_model.specs.Linear.{IsLinear}
-use Rattle.wf_model.specs.Lists.{IsIn, IsAt}
-use Rattle.wf_model.specs.Versions.{KeepsCycles}
-use Rattle.wf_spec.specs.declared.version.Version.{Version}
 use Rattle.wf_spec.specs.Held.{HeldGrammar}
 use Rattle.wf_json.specs.declared.fault.Member.{Member}
 use Rattle.wf_json.specs.Reading.{IsReading, HasNoReading}
@@ -20,21 +17,23 @@ use Rattle.wf_check.specs.Improper.{IsFaultOf as IsFaultOfGrammar}
 use Rattle.wf_recur.specs.declared.fault.RecurFault.{RecurFault}
 use Rattle.wf_recur.specs.Loops.{IsFaultOf as HasTwoLoops}
 use Rattle.wf_version.specs.declared.fault.VersionFault.{VersionFault}
-use Rattle.wf_version.specs.Keeping.{IsFaultOf as ChangesCycle}
+use Rattle.wf_accept.specs.declared.fault.AcceptFault.{AcceptFault}
+use Rattle.wf_accept.specs.declared.fault.AcceptFault.TheVariants.{NotProper, NotLinear, VersionChanged, NoMemory}
+pub use Rattle.wf_accept.specs.Accepted.{KeepsItsCycles, AllKeepCycles}
+pub use Rattle.wf_accept.specs.Faults.{IsFirstChanged}
 use Rattle.wf_message.specs.Refusals.{check_text, recur_text, version_text}
 use Rattle.wf_inputs.specs.Faults.{shape_text, form_text}
+
+-- why a grammar is not accepted
+abbrev pub accept_text : Grammar → AcceptFault → List ℕ
+accept_text g (NotProper f) = check_text g f
+accept_text g (NotLinear f) = recur_text g f
+accept_text g (VersionChanged n f) = version_text g n f
+accept_text g NoMemory = codes "NoMemory"
 
 -- the bytes are a specification in JSON
 abbrev pub IsSpecText : List ℕ → Parts → Type 0
 IsSpecText bytes parts = (d : Data) × IsReading bytes d × (spec_of d ≡ Ok parts)
-
--- an earlier version keeps its cycles in the grammar
-abbrev pub KeepsItsCycles : Grammar → Version → Type 0
-KeepsItsCycles g v = KeepsCycles g v.modules v.productions
-
--- so do all versions of a grammar
-abbrev pub AllKeepCycles : HeldGrammar → Type 0
-AllKeepCycles h = (v : Version) → IsIn v h.versions → KeepsItsCycles h.core v
 
 -- the bytes are the specification of this grammar
 pub record TellsGrammar (bytes : List ℕ) (h : HeldGrammar) : Type 0 where
@@ -46,13 +45,6 @@ pub record TellsGrammar (bytes : List ℕ) (h : HeldGrammar) : Type 0 where
   pub linear : IsLinear (grammar_of parts)
   pub keeps : AllKeepCycles (held_of parts)
   pub is : h ≡ held_of parts
-
--- the first version that does not keep its cycles, by its number, and its fault
-pub record IsFirstChanged (h : HeldGrammar) (n : ℕ) (f : VersionFault) : Type 0 where
-  pub version : Version
-  pub is_at : IsAt version n h.versions
-  pub before : (k : ℕ) → k < n → (v : Version) → IsAt v k h.versions → KeepsItsCycles h.core v
-  pub changes : ChangesCycle h.core version f
 
 -- why a strictly linear grammar is refused: one of its versions does not keep its cycles
 abbrev pub RefusesVersions : HeldGrammar → List ℕ → Type 0

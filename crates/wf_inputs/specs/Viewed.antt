@@ -1,25 +1,16 @@
--- What contracts see of a grammar that commands take, and of one with a view; and what is so of each of them.
+-- What contracts see of an accepted grammar with a view that commands take, and what is so of it.
 use Rattle.std.specs.Prelude.{ℕ, List, Option}
 use Rattle.wf_model.specs.Grammar.{Grammar}
 use Rattle.wf_model.specs.WellFormed.{IsWellFormed}
 use Rattle.wf_model.specs.Proper.{IsProper}
-use Rattle.wf_model.specs.Linear.{IsLinear}
 use Rattle.wf_model.specs.Safe.{IsSafe}
-use Rattle.wf_spec.specs.Held.{HeldGrammar}
-use Rattle.wf_check.specs.Proper.{Ranking, IsRankingOf}
-use Rattle.wf_recur.specs.Cycles.{CyclesSeen, AreCyclesOf}
+use Rattle.wf_accept.specs.Accepted.{AcceptedValue, IsAccepted}
 use Rattle.wf_view.specs.Held.{HeldView, IsHeldFor}
 use Rattle.wf_safe.specs.Full.{AreFullRows}
 
--- a grammar, the ranks of its modules, and its cycles
-pub record SpecSeen : Type 0 where
-  pub grammar : HeldGrammar
-  pub ranking : Ranking
-  pub cycles : CyclesSeen
-
--- the same with a view, and the rows of pairs of its modules
+-- an accepted grammar with a view, and the rows of pairs of its modules
 pub record ViewedSeen : Type 0 where
-  pub spec : SpecSeen
+  pub spec : AcceptedValue
   pub view : HeldView
   pub full : List (Option (List ℕ))
 
@@ -31,14 +22,7 @@ pub record IsViewedBy (g : Grammar) (v : HeldView) (rows : List (Option (List �
   pub safe : IsSafe g v.core
   pub full : AreFullRows g v.core rows
 
--- a specification that commands take: its grammar is proper and strictly linear, and the ranks and cycles are those of the grammar
-pub record IsTaken (s : SpecSeen) : Type 0 where
-  pub proper : IsProper s.grammar.core
-  pub linear : IsLinear s.grammar.core
-  pub ranked : IsRankingOf s.grammar.core s.ranking
-  pub cycled : AreCyclesOf s.grammar.core s.cycles
-
--- a view of such a specification that commands take
+-- a view of an accepted grammar that commands take
 pub record IsViewTaken (v : ViewedSeen) : Type 0 where
-  pub spec : IsTaken v.spec
+  pub spec : IsAccepted v.spec
   pub viewed : IsViewedBy v.spec.grammar.core v.view v.full

@@ -9,9 +9,9 @@ ghost use Rattle.wf_inputs.specs.LabelsTold.{TellsEntries, RefusesLabels};
 
 use crate::faults::store_refusal;
 use crate::kinds::LABELS;
-use crate::spec::Spec;
 use label_file::{Store, StoreFault};
 use std::alloc::Global;
+use wf_accept::Accepted;
 use wf_json::digests;
 use wf_message::{Stop, refused_whole};
 
@@ -34,18 +34,18 @@ fn store_stop(fault: StoreFault) -> Stop
 pub fn store_of<'b>(
     alloc: Global,
     key: u64,
-    spec: &Spec,
+    spec: &Accepted,
     bytes: &'b [u8],
 ) -> Result<Store<'b>, Stop>
     requires few { length bytes.now ≤ 2 ^ 30 }
     ensures store { IfOk result (λ s. (entries : List Entry) × TellsEntries spec.now.grammar bytes.now entries × AreHeldOf spec.now.grammar.core entries s) }
     ensures declines { IfErr result (λ e. Declines (codes "labels") (OfWhole (RefusesLabels spec.now.grammar) bytes.now) (end_of e)) }
 {
-    let g = spec.grammar();
-    let Ok(digests) = digests(alloc, g) else {
+    let g = spec.linear();
+    let Ok(digests) = digests(alloc, g.grammar) else {
         return Err(Stop::NoMemory);
     };
-    match Store::open_with_key(alloc, key, g, spec.cycles(), &digests, bytes) {
+    match Store::open_with_key(alloc, key, g, &digests, bytes) {
         Ok(store) => Ok(store),
         Err(fault) => Err(store_stop(fault)),
     }

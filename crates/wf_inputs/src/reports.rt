@@ -1,20 +1,21 @@
 // Reports of events, line by line: each line is taken as the report of an event, and the events that come to be ready are applied to a run.
 ghost use Rattle.std.specs.Prelude.{◌≡◌, [], IfOk, IfErr, codes};
 ghost use Rattle.wf_intake.specs.Reported.{none_reported};
+ghost use Rattle.wf_intake.specs.Rounds.{held_count};
 ghost use Rattle.wf_message.specs.Endings.{End};
 ghost use Rattle.wf_stage.specs.LineEnds.{line_ends, told_end};
 ghost use Rattle.wf_stage.specs.Stages.{AtLine, Declines, IsRefusedOrWanting};
 ghost use Rattle.wf_inputs.specs.RunTold.{IsEventText, RefusesForm};
 ghost use Rattle.wf_inputs.specs.EventsEnd.{event_end};
-ghost use Rattle.wf_inputs.specs.RunTaking.{TakenSoFar, TakesReport, StopsReport, HoldsNone, StopsHolding, IsAnyTaken};
-ghost use Rattle.wf_inputs.specs.Reporting.{IsTakenAs};
+ghost use Rattle.wf_inputs.specs.RunTaking.{TakenSoFar, TakesReport, StopsReport, MakesSoFar, HoldsNone, StopsHolding, IsAcceptedSoFar};
+ghost use Rattle.wf_inputs.specs.Reporting.{IsTakenAs, IsTakenWithin};
 
 use crate::event_stop::EventStop;
 use bumpalo::Bump;
 use std::alloc::Global;
 use wf_events::{EventFault, read_event};
 use wf_inbox::Inbox;
-use wf_intake::{Grows, IntakeFault, Reported, none_held, take_report};
+use wf_intake::{Grows, IntakeFault, Reported, apply_next, begin_report, none_held};
 use wf_lines::Taker;
 use wf_spec::Event;
 
@@ -33,7 +34,7 @@ fn event_of_line(alloc: Global, number: u64, line: &[u8]) -> Result<Event, Event
     }
 }
 
-/// What takes the lines of EVENTS as reports: those that are kept, the lines that reported the events that were applied, and the run that grows by these, with the text that is made of them.
+/// What takes the lines of EVENTS as reports: those that are kept, the lines that reported the events that were applied, and the run that grows by these, with the text of the event that was applied last. Each event that a line sets free makes a piece of its own.
 #[derive(Drop)]
 pub struct Reporting<'a, R> {
     pub alloc: Global,
@@ -69,11 +70,17 @@ impl<R: Grows> Taker for Reporting<'_, R> {
 
     ghost is_at = { λ t. IsTakenAs (R.grammar t.run) (R.most t.run) t.inbox.kept t.reported (R.is_run t.run) };
 
-    ghost is_sound = { IsAnyTaken };
+    ghost is_sound = { IsAcceptedSoFar };
 
     ghost takes = { TakesReport R.written };
 
     ghost stops = { StopsReport R.written };
+
+    ghost begins = { MakesSoFar R.written };
+
+    ghost is_within = { λ t. IsTakenWithin (R.grammar t.run) (R.most t.run) R.written t.inbox.kept t.reported (R.is_run t.run) };
+
+    ghost left = { λ t. held_count t.inbox.kept };
 
     ghost finishes = { HoldsNone };
 
@@ -99,24 +106,24 @@ impl<R: Grows> Taker for Reporting<'_, R> {
             Ok(event) => event,
             Err(stop) => return Err(stop),
         };
-        let taken = take_report(
+        let begun = begin_report(
             &mut self.inbox,
             &mut self.reported,
             &mut self.run,
             number,
-            event,
+            &event,
         );
-        match taken {
+        match begun {
             Ok(()) => Ok(()),
-            Err(fault) => match fault {
-                IntakeFault::NoMemory => {
-                    self.run.clear();
-                    Err(EventStop::Report {
-                        fault: IntakeFault::NoMemory,
-                    })
-                }
-                _ => Err(EventStop::Report { fault }),
-            },
+            Err(refused) => Err(EventStop::Report { fault: refused }),
+        }
+    }
+
+    fn more(&mut self) -> Result<bool, EventStop> {
+        self.run.clear();
+        match apply_next(&mut self.inbox, &mut self.reported, &mut self.run) {
+            Ok(more) => Ok(more),
+            Err(stopped) => Err(EventStop::Report { fault: stopped }),
         }
     }
 

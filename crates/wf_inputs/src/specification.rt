@@ -1,30 +1,25 @@
 // SPEC: from bytes to a grammar, with the ranks of its modules and its cycles.
-ghost use Rattle.std.specs.Prelude.{◌≡◌, ◌⊎◌, None, IfOk, IfErr, IfSome, IfNone, codes};
-ghost use Rattle.wf_model.specs.Proper.{IsProper};
+ghost use Rattle.std.specs.Prelude.{◌≡◌, ◌⊎◌, None, IfOk, IfErr, codes};
 ghost use Rattle.wf_form.specs.Forming.{held_of, HaveVersions, IsFormed};
-ghost use Rattle.wf_check.specs.Proper.{IsRankingOf};
 ghost use Rattle.wf_message.specs.Endings.{end_of, Refused, NoMemory};
 ghost use Rattle.wf_message.specs.Refusals.{refusal_text};
 ghost use Rattle.wf_stage.specs.Stages.{Declines, OfWhole};
 ghost use Rattle.wf_stage.specs.Promises.{Reads};
+ghost use Rattle.wf_accept.specs.Accepted.{IsAccepted};
 ghost use Rattle.wf_inputs.specs.Faults.{form_text};
 ghost use Rattle.wf_inputs.specs.Inputs.{spec_kind};
-ghost use Rattle.wf_inputs.specs.Viewed.{IsTaken};
-ghost use Rattle.wf_inputs.specs.Specification.{AllKeepCycles, IsFirstChanged, IsSpecText, TellsGrammar, RefusesSpec, RefusesParts, RefusesGrammar, RefusesLoops, RefusesVersions};
+ghost use Rattle.wf_inputs.specs.Specification.{accept_text, IsSpecText, TellsGrammar, RefusesSpec, RefusesParts, RefusesGrammar};
 
 use crate::faults::{form_refusal, named, shape_refusal};
 use crate::kinds::SPEC;
-use crate::spec::Spec;
 use std::alloc::Global;
-use wf_check::{CheckFault, Proper, proper};
+use wf_accept::{AcceptFault, Accepted, Unaccepted, accept};
 use wf_form::{FormFault, build_with_key};
 use wf_io::Shelf;
 use wf_json::{JsonFault, read_spec};
 use wf_message::{Refusal, Stop, refused_whole};
-use wf_recur::{RecurFault, cycles};
 use wf_spec::{Grammar, Parts};
 use wf_stage::read_file;
-use wf_version::{VersionFault, same_cycles};
 
 fn refused(refusal: Refusal) -> Stop
     ensures { end_of result ≡ Refused (codes "spec") None (refusal_text refusal) }
@@ -67,65 +62,36 @@ fn grammar_of_parts(alloc: Global, key: u64, parts: Parts) -> Result<Grammar, St
     }
 }
 
-/// The first version that does not keep its cycles, by its number, and its fault; none where all do.
-fn first_changed(alloc: Global, spec: &Spec) -> Option<(u64, VersionFault)>
-    ensures kept { IfNone result (AllKeepCycles spec.now.grammar) }
-    ensures changed { IfSome result (λ p. (p.1 ≡ VersionFault.NoMemory) ⊎ IsFirstChanged spec.now.grammar p.0 p.1) }
+/// The stop at a fault of a grammar.
+fn accept_stop(unaccepted: Unaccepted) -> Stop
+    ensures memory { unaccepted.fault ≡ AcceptFault.NoMemory → end_of result ≡ NoMemory }
+    ensures refused { (unaccepted.fault ≡ AcceptFault.NoMemory) ⊎ (end_of result ≡ Refused (codes "spec") None (accept_text unaccepted.grammar.core unaccepted.fault)) }
 {
-    let g = spec.grammar();
-    let versions = g.versions();
-    for n in 0..versions.len() {
-        if let Err(fault) = same_cycles(alloc, g, spec.cycles(), versions[n]) {
-            return Some((n as u64, fault));
-        }
-    }
-    None
-}
-
-/// A strictly linear grammar whose versions keep their cycles.
-fn with_versions(alloc: Global, spec: Spec) -> Result<Spec, Stop>
-    ensures same { IfOk result (λ s. s ≡ spec) }
-    ensures kept { IfOk result (λ s. AllKeepCycles s.grammar) }
-    ensures declines { IfErr result (λ e. Declines (codes "spec") (OfWhole RefusesVersions spec.grammar) (end_of e)) }
-{
-    match first_changed(alloc, &spec) {
-        None => Ok(spec),
-        Some((_, VersionFault::NoMemory)) => Err(Stop::NoMemory),
-        Some((version, fault)) => Err(refused(Refusal::Version {
-            grammar: spec.into_grammar(),
+    let Unaccepted { grammar, fault } = unaccepted;
+    match fault {
+        AcceptFault::NotProper(fault) => refused(Refusal::Check { grammar, fault }),
+        AcceptFault::NotLinear(fault) => refused(Refusal::Recur { grammar, fault }),
+        AcceptFault::VersionChanged { version, fault } => refused(Refusal::Version {
+            grammar,
             version,
             fault,
-        })),
-    }
-}
-
-/// A proper grammar that is strictly linear, and whose versions keep their cycles.
-fn with_cycles(alloc: Global, g: Grammar, ranking: Proper) -> Result<Spec, Stop>
-    requires proper { IsProper g.core }
-    requires ranking { IsRankingOf g.core ranking }
-    ensures grammar { IfOk result (λ s. s.grammar ≡ g) }
-    ensures taken { IfOk result (λ s. IsTaken s) }
-    ensures kept { IfOk result (λ s. AllKeepCycles s.grammar) }
-    ensures declines { IfErr result (λ e. Declines (codes "spec") (OfWhole RefusesLoops g) (end_of e)) }
-{
-    match cycles(alloc, &g) {
-        Ok(cycles) => with_versions(alloc, Spec::of_parts(g, ranking, cycles)),
-        Err(RecurFault::NoMemory) => Err(Stop::NoMemory),
-        Err(fault) => Err(refused(Refusal::Recur { grammar: g, fault })),
+        }),
+        AcceptFault::NoMemory => Stop::NoMemory,
     }
 }
 
 /// A grammar that is proper and strictly linear, and whose versions keep their cycles.
-fn taken(alloc: Global, g: Grammar) -> Result<Spec, Stop>
-    ensures grammar { IfOk result (λ s. s.grammar ≡ g) }
-    ensures taken { IfOk result (λ s. IsTaken s) }
-    ensures kept { IfOk result (λ s. AllKeepCycles s.grammar) }
+fn accepted(alloc: Global, g: Grammar) -> Result<Accepted, Stop>
+    ensures grammar { IfOk result (λ a. a.grammar ≡ g) }
+    ensures accepted { IfOk result (λ a. IsAccepted a) }
     ensures declines { IfErr result (λ e. Declines (codes "spec") (OfWhole RefusesGrammar g) (end_of e)) }
 {
-    match proper(alloc, &g) {
-        Ok(ranking) => with_cycles(alloc, g, ranking),
-        Err(CheckFault::NoMemory) => Err(Stop::NoMemory),
-        Err(fault) => Err(refused(Refusal::Check { grammar: g, fault })),
+    match accept(alloc, g) {
+        Ok(accepted) => {
+            let _facts = accepted.grammar();
+            Ok(accepted)
+        }
+        Err(unaccepted) => Err(accept_stop(unaccepted)),
     }
 }
 
@@ -133,18 +99,18 @@ fn taken(alloc: Global, g: Grammar) -> Result<Spec, Stop>
 ///
 /// Refused with the first that there is of: NotJson; WrongShape; the fault of the parts; the fault of the grammar where it is not proper; TwoLoops where it is not strictly linear; and CycleChanged with the first version that does not keep its cycles. `NoMemory` may come at any time.
 ///
-/// Cost: those of `read_spec`, `build_with_key`, `proper` and `cycles`, and for each version that of `same_cycles`.
-fn spec_of_bytes(alloc: Global, key: u64, bytes: &[u8]) -> Result<Spec, Stop>
+/// Cost: those of `read_spec`, `build_with_key` and `accept`.
+fn spec_of_bytes(alloc: Global, key: u64, bytes: &[u8]) -> Result<Accepted, Stop>
     ensures ok { IfOk result (λ s. TellsGrammar bytes.now s.grammar) }
     ensures declines { IfErr result (λ e. Declines (codes "spec") (OfWhole RefusesSpec bytes.now) (end_of e)) }
 {
     let parts = parts_of_bytes(alloc, bytes)?;
     let g = grammar_of_parts(alloc, key, parts)?;
-    taken(alloc, g)
+    accepted(alloc, g)
 }
 
 /// The grammar of SPEC.
-pub fn spec_stage<H: Shelf>(alloc: Global, shelf: &mut H, name: &str) -> Result<Spec, Stop>
+pub fn spec_stage<H: Shelf>(alloc: Global, shelf: &mut H, name: &str) -> Result<Accepted, Stop>
     ensures reads { Reads H.files H.faults H.at_last spec_kind name.now TellsGrammar (λ s. s.grammar) (OfWhole RefusesSpec) shelf.old shelf.new result }
 {
     let bytes = read_file(alloc, shelf, name, SPEC)?;

@@ -14,9 +14,9 @@ ghost use Rattle.wf_inputs.specs.ViewTold.{IsViewText, TellsView, RefusesView, R
 
 use crate::faults::{named, shape_refusal, view_refusal};
 use crate::kinds::VIEW;
-use crate::spec::Spec;
 use crate::viewed::Viewed;
 use std::alloc::Global;
+use wf_accept::Accepted;
 use wf_io::Shelf;
 use wf_json::{JsonFault, read_view};
 use wf_message::{Refusal, Stop, refused_whole};
@@ -68,7 +68,7 @@ fn view_of_parts(alloc: Global, g: &Grammar, parts: &ViewParts) -> Result<View, 
 }
 
 /// A view that is safe, with its full assignment.
-fn with_full(alloc: Global, spec: Spec, view: View) -> Result<Viewed, Stop>
+fn with_full(alloc: Global, spec: Accepted, view: View) -> Result<Viewed, Stop>
     requires held { IsHeldFor spec.grammar.core view }
     ensures ok { IfOk result (λ v. (v.spec.grammar ≡ spec.grammar) × (v.view ≡ view)) }
     ensures taken { IfOk result (λ v. IsViewTaken v) }
@@ -91,7 +91,7 @@ fn with_full(alloc: Global, spec: Spec, view: View) -> Result<Viewed, Stop>
 /// Refused with the first that there is of: NotJson; WrongShape; the fault of the parts; and Unsafe where the view is not safe. `NoMemory` may come at any time.
 ///
 /// Cost: those of `read_view`, `View::build` and `full_deps`.
-fn view_of_bytes(alloc: Global, spec: Spec, bytes: &[u8]) -> Result<Viewed, Stop>
+fn view_of_bytes(alloc: Global, spec: Accepted, bytes: &[u8]) -> Result<Viewed, Stop>
     ensures grammar { IfOk result (λ v. v.spec.grammar ≡ spec.grammar) }
     ensures ok { IfOk result (λ v. TellsView spec.grammar.core bytes.now v.view.core) }
     ensures declines { IfErr result (λ e. Declines (codes "view") (OfWhole (RefusesView spec.grammar.core) bytes.now) (end_of e)) }
@@ -107,7 +107,7 @@ pub fn view_stage<H: Shelf>(
     alloc: Global,
     shelf: &mut H,
     name: &str,
-    spec: Spec,
+    spec: Accepted,
 ) -> Result<Viewed, Stop>
     ensures grammar { IfOk result (λ v. v.spec.grammar ≡ spec.grammar) }
     ensures reads { Reads H.files H.faults H.at_last view_kind name.now (TellsView spec.grammar.core)

@@ -2,8 +2,9 @@
 ghost use Rattle.std.specs.Prelude.{◌≡◌};
 ghost use Rattle.wf_inputs.specs.Viewed.{IsViewTaken};
 
-use crate::spec::Spec;
 use std::marker::Model;
+use wf_accept::Accepted;
+use wf_recur::Linear;
 use wf_safe::FullDeps;
 use wf_spec::Grammar;
 use wf_view::View;
@@ -11,7 +12,7 @@ use wf_view::View;
 /// A grammar, a safe view of it, and the pairs that every expansion of a seen module joins.
 #[derive(Drop)]
 pub struct Viewed {
-    spec: Spec,
+    spec: Accepted,
     view: View,
     full: FullDeps,
 }
@@ -28,7 +29,7 @@ impl Model for Viewed {
 
 impl Viewed {
     /// A grammar with a view and its pairs.
-    pub(crate) fn of_parts(spec: Spec, view: View, full: FullDeps) -> Viewed
+    pub(crate) fn of_parts(spec: Accepted, view: View, full: FullDeps) -> Viewed
         requires { IsViewTaken (record { spec = spec; view = view; full = full }) }
         ensures spec { result.spec ≡ spec }
         ensures view { result.view ≡ view }
@@ -38,7 +39,7 @@ impl Viewed {
     }
 
     /// The grammar, with its ranks and its cycles.
-    pub fn spec(&self) -> &Spec
+    pub fn spec(&self) -> &Accepted
         ensures spec { result.now ≡ self.now.spec }
         ensures taken { IsViewTaken self.now }
     {
@@ -51,6 +52,15 @@ impl Viewed {
         ensures taken { IsViewTaken self.now }
     {
         self.spec.grammar()
+    }
+
+    /// The grammar with its cycles.
+    pub fn linear(&self) -> Linear<'_>
+        ensures grammar { result.grammar.now ≡ self.now.spec.grammar }
+        ensures cycles { result.cycles.now ≡ self.now.spec.cycles }
+        ensures taken { IsViewTaken self.now }
+    {
+        self.spec.linear()
     }
 
     /// The view.

@@ -5,6 +5,10 @@ pub ok_then : {T E P Q : Type 0} (r : Result T E) → OnOk r P → (P → Q) →
 ok_then (Ok v) p h = h p
 ok_then (Err f) p h = p
 
+pub ok_each : {T E P Q R S : Type 0} (r : Result T E) → OnOk r P → OnOk r Q → OnOk r R → (P → Q → R → S) → OnOk r S
+ok_each (Ok v) p q o h = h p q o
+ok_each (Err f) p q o h = p
+
 pub err_then : {T E : Type 0} {P Q : E → Type 0} (r : Result T E) → IfErr r P → ((f : E) → P f → Q f) → IfErr r Q
 err_then (Ok v) p h = p
 err_then (Err f) p h = h f p

@@ -5,8 +5,8 @@ use Rattle.wf_model.specs.Grammar.{Grammar}
 use Rattle.wf_model.specs.declared.event.RunFault.{RunFault}
 use Rattle.wf_model.specs.Faults.{fault_of}
 use Rattle.report_model.specs.Reports.{Report, same_event, about}
-use Rattle.report_model.specs.Intake.{Intake, Conflict, GoesOn, Stops, state_after, ready_in, hold_beside, hold, apply_unless, without_ready, apply_one, apply_ready}
-use Rattle.report_model.proofs.Rounds.{after_event}
+use Rattle.report_model.specs.Intake.{Intake, Conflict, GoesOn, Stops, state_after, ready_in, hold_beside, hold, apply_unless, without_ready, apply_one, apply_ready, apply_all}
+use Rattle.report_model.proofs.Rounds.{after_event, one_applied}
 use Rattle.wf_intake.specs.Rounds.{IsOnTheWay}
 
 module _ (g : Grammar) (most : ℕ) where
@@ -29,6 +29,22 @@ module _ (g : Grammar) (most : ℕ) where
 
   pub way_on : (s t u : Intake) → IsOnTheWay g most s t → IsOnTheWay g most t u → IsOnTheWay g most s u
   way_on s t u a b = rounds_on a.rounds b.rounds s t u a.go_on b.go_on
+
+  -- a state that is come to comes to the same
+  rounds_same : (n : ℕ) (s t : Intake) → apply_ready g most n s ≡ GoesOn t → apply_all g most s ≡ apply_all g most t
+  rounds_same zero s t e = let w : s ≡ t = cc in ap (apply_all g most) w
+  rounds_same (suc n) s t e = go (rounds_same n) (find (ready_in g s.run) s.held) refl e
+    where
+      go : ((s t : Intake) → apply_ready g most n s ≡ GoesOn t → apply_all g most s ≡ apply_all g most t) → (o : Option Report) → find (ready_in g s.run) s.held ≡ o → apply_one g most (apply_ready g most n) s o ≡ GoesOn t → apply_all g most s ≡ apply_all g most t
+      go ih None q h = let w : s ≡ t = cc in ap (apply_all g most) w
+      go ih (Some r) q h = by_fault (fault_of g most s.run r.event) refl h
+        where
+          by_fault : (o : Option RunFault) → fault_of g most s.run r.event ≡ o → apply_unless (apply_ready g most n) (without_ready g s) r o ≡ GoesOn t → apply_all g most s ≡ apply_all g most t
+          by_fault None k h = one_applied g most s r q k ∙ ih (after_event g s r.event) t h
+          by_fault (Some x) k h = absurd (cc)
+
+  pub way_same : (s t : Intake) → IsOnTheWay g most s t → apply_all g most s ≡ apply_all g most t
+  way_same s t a = rounds_same a.rounds s t a.go_on
 
   -- no rounds
   pub no_way : (s : Intake) → IsOnTheWay g most s s

@@ -12,7 +12,7 @@ use Rattle.wf_model.specs.declared.event.Event.{Event}
 use Rattle.wf_model.specs.declared.event.RunFault.{RunFault}
 use Rattle.wf_model.specs.Faults.{fault_of}
 use Rattle.report_model.specs.Reports.{Report, subject_of, same_subject, about}
-use Rattle.report_model.specs.Intake.{Intake, Refused, GoesOn, Stops, state_after, without_first, is_ready, ready_in, hold_beside, hold, without_ready, take_report, apply_all}
+use Rattle.report_model.specs.Intake.{Intake, Refused, GoesOn, Stops, without_first, is_ready, ready_in, hold_beside, hold, without_ready, take_report, apply_all}
 use Rattle.report_model.specs.Kept.{Kept, report_of, is_held, kept_at, let_go, IsFirstReady}
 use Rattle.report_model.proofs.Events.{subjects_same, same_subjects}
 use Rattle.report_model.proofs.Rounds.{taken_by, one_applied, one_refused}
@@ -79,7 +79,7 @@ module _ (g : Grammar) (most : ℕ) (kept : List Kept) (seen : ReportedSeen) (Is
   unknown : find (about e) s.known ≡ None
   unknown = here.parts.known e ∙ (ap (λ o. option_or o (known_on kept e)) stands.0 ∙ none_kept kept e apart)
 
-  goes_beside : hold s r ≡ GoesOn beside
+  pub goes_beside : hold s r ≡ GoesOn beside
   goes_beside = ap (hold_beside s r) unknown
 
   taken : take_report g most s r ≡ apply_all g most beside
@@ -90,10 +90,6 @@ module _ (g : Grammar) (most : ℕ) (kept : List Kept) (seen : ReportedSeen) (Is
 
   found : find (ready_in g s.run) beside.held ≡ Some r
   found = find-append (ready_in g s.run) s.held (r ∷ []) ∙ (ap (λ o. option_or o (cond (is_ready g s.run e) (Some r) None)) none_before ∙ ap (λ b. cond {A = Option Report} b (Some r) None) stands.1)
-
-  -- it is held at first
-  pub ready_held : state_after (hold s r) ≡ beside
-  ready_held = ap state_after goes_beside
 
   -- the run refuses its event
   pub ready_refused : (f : RunFault) → fault_of g most s.run e ≡ Some f → take_report g most s r ≡ Stops (without_ready g beside) (Refused line f)

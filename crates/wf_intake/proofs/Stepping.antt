@@ -1,11 +1,12 @@
 -- The rounds of the intake, and how they follow one another.
 use Rattle.std.proofs.Common.{◌≡◌, ℕ, List, [], ◌++◌, Option, Some, sym, ap, ◌∙◌, subst, arith, append_assoc, append-nil, inl, inr, refl}
-use Rattle.std.specs.Prelude.{◌<◌, MatchOption}
+use Rattle.std.specs.Prelude.{◌+◌, MatchOption}
+use Rattle.wf_model.specs.declared.event.RunFault.{RunFault}
 use Rattle.std.specs.List.{find, slice_set}
 use Rattle.wf_model.specs.Grammar.{Grammar}
 use Rattle.wf_model.specs.declared.event.Event.{Event}
 use Rattle.report_model.specs.Reports.{Report}
-use Rattle.report_model.specs.Intake.{Intake, ReportFault, GoesOn, Stops, ready_in, without_ready, apply_all}
+use Rattle.report_model.specs.Intake.{Intake, ReportFault, Refused, GoesOn, Stops, ready_in, without_ready, apply_all}
 use Rattle.report_model.specs.Kept.{Kept, kept_at, let_go, IsFirstReady}
 use Rattle.report_model.proofs.Rounds.{all_done}
 use Rattle.wf_inbox.specs.declared.inbox.Held.{Held}
@@ -14,8 +15,8 @@ use Rattle.wf_intake.specs.declared.fault.IntakeFault.{IntakeFault}
 use Rattle.wf_intake.specs.declared.fault.IntakeFault.TheVariants.{NoMemory}
 use Rattle.wf_intake.specs.Reported.{ReportedSeen, noted}
 use Rattle.wf_intake.specs.Applied.{number_of}
-use Rattle.wf_intake.specs.Intakes.{IsKeptAs, IsIntakeOf, IsWrittenOn, fault_told}
-use Rattle.wf_intake.specs.Rounds.{names_given, all_marked, held_count, IsApplied, IsUntouched, IsNotApplied, IsHalted, ComesTo, GoesOnTo, StopsWith, HaltsAt, Round, Stop, Halt}
+use Rattle.wf_intake.specs.Intakes.{IsKeptAs, IsWrittenOn, fault_told}
+use Rattle.wf_intake.specs.Rounds.{names_given, all_marked, held_count, IsApplied, IsUntouched, IsNotApplied, IsHalted, ComesTo, StopsWith, HaltsAt, IsLetGo, Round, Stop, Halt}
 use Rattle.wf_intake.proofs.Places.{one_less, count_marked}
 use Rattle.wf_intake.proofs.KnownOn.{none_found}
 use Rattle.wf_intake.proofs.OnTheWay.{way_on, no_way}
@@ -87,11 +88,15 @@ module _ (g : Grammar) (most : ℕ) (written : Grammar → List Event → List �
       subst (λ z. ComesTo g most (written g) kept z IsRun old new s) (sym notes) (subst (λ z. ComesTo g most (written g) z (noted told number line e) IsRun old new s) (sym (marks ∙ ap (all_marked (names_given e)) next.3)) named)
 
   -- and one less is held
-  pub round_fewer : (kept : List Kept) → kept ≡ all_marked (names_given e) left → held_count kept < held_count was
-  round_fewer kept marks =
+  pub round_one : (kept : List Kept) → kept ≡ all_marked (names_given e) left → held_count was ≡ held_count kept + 1
+  round_one kept marks =
       let a = one_less was next.0 next.1.held in
       let b : held_count kept ≡ held_count (slice_set was next.0 (let_go (kept_at was next.0))) = ap held_count marks ∙ (count_marked (names_given e) left ∙ ap held_count next.3) in
       omega (arith, a, b)
+
+  -- where it is refused it is let go
+  pub round_left : (kept : List Kept) (r : ReportFault) → kept ≡ left → (fault : RunFault) × (r ≡ Refused line fault) → IsLetGo was kept r
+  round_left kept r same is = (record { line = line; event = e }, is.0, is.1, subst (λ z. IsNext was z (record { line = line; event = e })) (sym same) next)
 
   module _ (IsRun : List Event → Type 0) (f : IntakeFault) where
     -- or it is refused
@@ -110,52 +115,29 @@ module _ (g : Grammar) (most : ℕ) (written : Grammar → List Event → List �
 pub all_done_there : (g : Grammar) (most : ℕ) (kept : List Kept) (seen : ReportedSeen) (IsRun : List Event → Type 0) → NoneReady kept → (s : Intake) → IsKeptAs g kept seen IsRun s → apply_all g most s ≡ GoesOn s
 all_done_there g most kept seen IsRun none s here = all_done g most s (ap (find (ready_in g s.run)) here.held ∙ none_found g s.run kept here.marks none)
 
--- the rounds are over
-pub rounds_over : (g h : Grammar) → h ≡ g → (most : ℕ) (written : Grammar → List Event → List ℕ) (was : List Kept) (told : ReportedSeen) (WasRun : List Event → Type 0) (x : List ℕ) (kept : List Kept) (seen : ReportedSeen) (IsRun : List Event → Type 0) (y : List ℕ) →
-    Round g most written was told WasRun x kept seen IsRun y → NoneReady kept → (s : Intake) → IsKeptAs g was told WasRun s → GoesOnTo h (written g) kept seen IsRun x y s (apply_all g most s)
-rounds_over g h e most written was told WasRun x kept seen IsRun y round none s here =
-    let a = round s here in record {
-      later = a.later;
-      goes_on = a.same ∙ all_done_there g most kept seen IsRun none a.later a.here;
-      here = subst (λ k. IsIntakeOf k kept seen IsRun a.later) (sym e) (record { parts = a.here; none_ready = none });
-      text = a.text;
-    }
+-- what is written behind no text is written behind each text
+pub written_behind : (written : List Event → List ℕ) (b c : List Event) (before y z : List ℕ) → before ≡ [] → IsWrittenOn written b c before z → IsWrittenOn written b c y (y ++ z)
+written_behind written b c before y z none h = (h.0, ap (λ l. y ++ l) (h.1 ∙ ap (λ l. l ++ h.0) none), h.2)
 
-module _ (g : Grammar) (most : ℕ) (written : List Event → List ℕ) (kept : List Kept) (seen : ReportedSeen) (IsRun : List Event → Type 0) (x y : List ℕ) (s : Intake) (a : ComesTo g most written kept seen IsRun x y s) where
-  stops_on : (LastRun : List Event → Type 0) (z : List ℕ) (r : ReportFault) → StopsWith written LastRun y z a.later (apply_all g most a.later) r → StopsWith written LastRun x z s (apply_all g most s) r
-  stops_on LastRun z r b = record { left = b.left; stops = a.same ∙ b.stops; run = b.run; text = written_on written s.run a.later.run b.left.run x y z a.text b.text }
+-- A state comes to a later one, and its text is cleared between; what comes of the later one comes of the first, with the text behind that which was cleared
+module _ (g : Grammar) (most : ℕ) (written : List Event → List ℕ) (kept : List Kept) (seen : ReportedSeen) (IsRun : List Event → Type 0) (x y : List ℕ) (s : Intake) (a : ComesTo g most written kept seen IsRun x y s) (before : List ℕ) (none : before ≡ []) where
+  then_written : (run : List Event) (z : List ℕ) → IsWrittenOn written a.later.run run before z → IsWrittenOn written s.run run x (y ++ z)
+  then_written run z w = written_on written s.run a.later.run run x y (y ++ z) a.text (written_behind written a.later.run run before y z none w)
 
-  halts_on : (LastRun : List Event → Type 0) (z : List ℕ) → HaltsAt g most written LastRun y z a.later → HaltsAt g most written LastRun x z s
-  halts_on LastRun z b = record { reached = b.reached; on_the_way = way_on g most s a.later b.reached a.on_the_way b.on_the_way; run = b.run; text = written_on written s.run a.later.run b.reached.run x y z a.text b.text }
+  -- a refusal
+  pub stops_on : (LastRun : List Event → Type 0) (z : List ℕ) (r : ReportFault) → StopsWith written LastRun before z a.later (apply_all g most a.later) r → StopsWith written LastRun x (y ++ z) s (apply_all g most s) r
+  stops_on LastRun z r b = record { left = b.left; stops = a.same ∙ b.stops; run = b.run; text = then_written b.left.run z b.text }
 
-  goes_on : (more : List Kept) (lines : ReportedSeen) (MoreRun : List Event → Type 0) (z : List ℕ) → ComesTo g most written more lines MoreRun y z a.later → ComesTo g most written more lines MoreRun x z s
-  goes_on more lines MoreRun z b = record {
+  -- want of memory
+  pub halts_on : (LastRun : List Event → Type 0) (z : List ℕ) → HaltsAt g most written LastRun before z a.later → HaltsAt g most written LastRun x (y ++ z) s
+  halts_on LastRun z b = record { reached = b.reached; on_the_way = way_on g most s a.later b.reached a.on_the_way b.on_the_way; run = b.run; text = then_written b.reached.run z b.text }
+
+  -- a state later than it
+  pub comes_on : (more : List Kept) (lines : ReportedSeen) (MoreRun : List Event → Type 0) (z : List ℕ) → ComesTo g most written more lines MoreRun before z a.later → ComesTo g most written more lines MoreRun x (y ++ z) s
+  comes_on more lines MoreRun z b = record {
     later = b.later;
     same = a.same ∙ b.same;
     on_the_way = way_on g most s a.later b.later a.on_the_way b.on_the_way;
     here = b.here;
-    text = written_on written s.run a.later.run b.later.run x y z a.text b.text;
+    text = then_written b.later.run z b.text;
   }
-
-module _ (g h : Grammar) (e : h ≡ g) (most most' : ℕ) (d : most' ≡ most) (written : Grammar → List Event → List ℕ) (was : List Kept) (told : ReportedSeen) (WasRun : List Event → Type 0) (x : List ℕ)
-    (kept : List Kept) (seen : ReportedSeen) (IsRun : List Event → Type 0) (y : List ℕ) (a : Round g most written was told WasRun x kept seen IsRun y) where
-  -- a refusal after others
-  pub stop_on : (LastRun : List Event → Type 0) (z : List ℕ) (f : IntakeFault) → Stop h most' written kept seen IsRun y LastRun z f → Stop g most written was told WasRun x LastRun z f
-  stop_on LastRun z f b r t s here =
-      let c : Stop g most written kept seen IsRun y LastRun z f = subst (λ m. Stop g m written kept seen IsRun y LastRun z f) d (subst (λ k. Stop k most' written kept seen IsRun y LastRun z f) e b) in
-      let k = a s here in
-      stops_on g most (written g) kept seen IsRun x y s k LastRun z r (c r t k.later k.here)
-
-  -- want of memory after others
-  pub halt_on : (LastRun : List Event → Type 0) (z : List ℕ) (f : IntakeFault) → Halt h most' written kept seen IsRun y LastRun z f → Halt g most written was told WasRun x LastRun z f
-  halt_on LastRun z f b t s here =
-      let c : Halt g most written kept seen IsRun y LastRun z f = subst (λ m. Halt g m written kept seen IsRun y LastRun z f) d (subst (λ k. Halt k most' written kept seen IsRun y LastRun z f) e b) in
-      let k = a s here in
-      halts_on g most (written g) kept seen IsRun x y s k LastRun z (c t k.later k.here)
-
-  -- a round after others
-  pub round_on : (more : List Kept) (lines : ReportedSeen) (MoreRun : List Event → Type 0) (z : List ℕ) → Round h most' written kept seen IsRun y more lines MoreRun z → Round g most written was told WasRun x more lines MoreRun z
-  round_on more lines MoreRun z b s here =
-      let c : Round g most written kept seen IsRun y more lines MoreRun z = subst (λ m. Round g m written kept seen IsRun y more lines MoreRun z) d (subst (λ k. Round k most' written kept seen IsRun y more lines MoreRun z) e b) in
-      let k = a s here in
-      goes_on g most (written g) kept seen IsRun x y s k more lines MoreRun z (c k.later k.here)

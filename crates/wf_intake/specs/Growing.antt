@@ -8,7 +8,7 @@ use Rattle.wf_model.specs.declared.event.RunFault.TheVariants.{NoMemory as Wants
 use Rattle.wf_model.specs.Grammar.{Grammar}
 use Rattle.wf_model.specs.Run.{Expanded, expanded_by}
 use Rattle.wf_model.specs.Faults.{fault_of}
-use Rattle.report_model.specs.Intake.{Intake, ReportFault, hold, state_after, take_report, apply_all}
+use Rattle.report_model.specs.Intake.{Intake, ReportFault, take_report}
 use Rattle.wf_inbox.specs.Inboxes.{InboxSeen}
 use Rattle.wf_intake.specs.declared.fault.IntakeFault.{IntakeFault}
 use Rattle.wf_intake.specs.declared.fault.IntakeFault.TheVariants.{NoMemory}
@@ -16,8 +16,8 @@ use Rattle.wf_intake.specs.declared.standing.Standing.{Standing}
 use Rattle.wf_intake.specs.declared.standing.Standing.TheVariants.{Same, Other, Ready, Early}
 use Rattle.wf_intake.specs.Reported.{ReportedSeen}
 use Rattle.wf_intake.specs.Applied.{number_in, number_of, FitsRun, IsStanding}
-use Rattle.wf_intake.specs.Intakes.{IsKeptAs, IsIntakeOf, IsWrittenOn, fault_told}
-use Rattle.wf_intake.specs.Rounds.{IsApplied, IsNotApplied, IsHalted, GoesOnTo, StopsWith, HaltsAt, Round, Stop, Halt}
+use Rattle.wf_intake.specs.Intakes.{IsIntakeOf, IsWrittenOn, fault_told}
+use Rattle.wf_intake.specs.Rounds.{IsApplied, IsNotApplied, IsHalted, IsReportBegun, StopsWith, HaltsAtReport, IsLetGo, Round, Stop, Halt}
 
 module _ {Run : Type 0} (is_run : Run → List Event → Type 0) where
   -- a run of some events becomes that of one event more
@@ -91,25 +91,29 @@ module _ {Run : Type 0} (grammar : Run → Grammar) (most : Run → ℕ) (is_run
   abbrev pub HaltsRounds : InboxSeen → ReportedSeen → Run → Run → IntakeFault → Type 0
   HaltsRounds was told old new = Halt (grammar old) (most old) written was.kept told (is_run old) (text old) (is_run new) (text new)
 
-  -- all rounds are done that can be
-  abbrev pub DoesAllRounds : InboxSeen → ReportedSeen → Run → InboxSeen → ReportedSeen → Run → Type 0
-  DoesAllRounds was told old inbox seen new =
-      (s : Intake) → IsKeptAs (grammar old) was.kept told (is_run old) s → GoesOnTo (grammar new) (written (grammar old)) inbox.kept seen (is_run new) (text old) (text new) s (apply_all (grammar old) (most old) s)
-
-  -- a report is taken
-  abbrev pub Takes : InboxSeen → ReportedSeen → Run → InboxSeen → ReportedSeen → Run → ℕ → Event → Type 0
-  Takes was told old inbox seen new line e =
+  -- a report is begun
+  abbrev pub BeginsReport : InboxSeen → ReportedSeen → Run → InboxSeen → ReportedSeen → Run → ℕ → Event → Type 0
+  BeginsReport was told old inbox seen new line e =
       (s : Intake) → IsIntakeOf (grammar old) was.kept told (is_run old) s →
-      GoesOnTo (grammar new) (written (grammar old)) inbox.kept seen (is_run new) (text old) (text new) s (take_report (grammar old) (most old) s (record { line = line; event = e }))
+      IsReportBegun (grammar old) (most old) (written (grammar old)) inbox.kept seen (is_run new) (text old) (text new) s (record { line = line; event = e })
 
-  -- this report is refused, or another when it is taken, if a fault is a refusal
+  -- this report is refused, if a fault is a refusal
   abbrev pub StopsAtOne : InboxSeen → ReportedSeen → Run → Run → ℕ → Event → IntakeFault → Type 0
   StopsAtOne was told old new line e f =
       (r : ReportFault) → fault_told f ≡ Some r → (s : Intake) → IsIntakeOf (grammar old) was.kept told (is_run old) s →
       StopsWith (written (grammar old)) (is_run new) (text old) (text new) s (take_report (grammar old) (most old) s (record { line = line; event = e })) r
 
-  -- Memory is refused when a report is taken, if a fault is want of memory. After the first part of taking it some of the reports that were ready may have been applied, and no other event was
+  -- or memory is refused where it is begun
   abbrev pub HaltsAtOne : InboxSeen → ReportedSeen → Run → Run → ℕ → Event → IntakeFault → Type 0
   HaltsAtOne was told old new line e f =
       f ≡ NoMemory → (s : Intake) → IsIntakeOf (grammar old) was.kept told (is_run old) s →
-      HaltsAt (grammar old) (most old) (written (grammar old)) (is_run new) (text old) (text new) (state_after (hold s (record { line = line; event = e })))
+      HaltsAtReport (grammar old) (most old) (written (grammar old)) (is_run new) (text old) (text new) s (record { line = line; event = e })
+
+module _ (was : InboxSeen) (told : ReportedSeen) (inbox : InboxSeen) (seen : ReportedSeen) where
+  -- where a fault is a refusal, the reports that are kept and the lines are as they were
+  abbrev pub LeavesReports : IntakeFault → Type 0
+  LeavesReports f = (r : ReportFault) → fault_told f ≡ Some r → (inbox.kept ≡ was.kept) × (seen ≡ told)
+
+  -- or the report that is refused is held no longer, and the lines are as they were
+  abbrev pub LeavesOthers : IntakeFault → Type 0
+  LeavesOthers f = (r : ReportFault) → fault_told f ≡ Some r → IsLetGo was.kept inbox.kept r × (seen ≡ told)

@@ -5,13 +5,14 @@ use Rattle.wf_model.specs.declared.event.Event.TheVariants.{Start, Expand}
 use Rattle.wf_model.specs.declared.event.RunFault.{RunFault}
 use Rattle.wf_model.specs.Grammar.{Grammar}
 use Rattle.wf_model.specs.Faults.{fault_of}
-use Rattle.report_model.specs.Intake.{Intake, ReportFault, Refused, Taking, GoesOn, Stops, apply_ready, apply_all}
+use Rattle.report_model.specs.Reports.{Report}
+use Rattle.report_model.specs.Intake.{Intake, ReportFault, Refused, Taking, GoesOn, Stops, hold, apply_ready, apply_all}
 use Rattle.report_model.specs.Kept.{Kept, is_held}
-use Rattle.wf_inbox.specs.Inboxes.{marked}
+use Rattle.wf_inbox.specs.Inboxes.{marked, IsNext}
 use Rattle.wf_intake.specs.declared.fault.IntakeFault.{IntakeFault}
 use Rattle.wf_intake.specs.declared.fault.IntakeFault.TheVariants.{NoMemory}
 use Rattle.wf_intake.specs.Reported.{ReportedSeen}
-use Rattle.wf_intake.specs.Intakes.{IsKeptAs, IsIntakeOf, IsWrittenOn, fault_told}
+use Rattle.wf_intake.specs.Intakes.{IsKeptAs, IsWrittenOn, fault_told}
 
 -- the names that an event gives to instances
 abbrev pub names_given : Event → List (List ℕ)
@@ -62,12 +63,11 @@ pub record ComesTo (g : Grammar) (most : ℕ) (written : List Event → List ℕ
   pub here : IsKeptAs g kept seen IsRun later
   pub text : IsWrittenOn written s.run later.run old new
 
--- the taking goes on from a state to a later one, which is that of the reports that are kept, the lines and the run, and in which none is ready; the text is that of the events between them
-pub record GoesOnTo (g : Grammar) (written : List Event → List ℕ) (kept : List Kept) (seen : ReportedSeen) (IsRun : List Event → Type 0) (old new : List ℕ) (s : Intake) (taking : Taking) : Type 0 where
-  pub later : Intake
-  pub goes_on : taking ≡ GoesOn later
-  pub here : IsIntakeOf g kept seen IsRun later
-  pub text : IsWrittenOn written s.run later.run old new
+-- A report is begun: it is held beside the others, or ignored, and what this leaves comes to a later state. There is one round at most between them, in which the event of the report itself is applied
+pub record IsReportBegun (g : Grammar) (most : ℕ) (written : List Event → List ℕ) (kept : List Kept) (seen : ReportedSeen) (IsRun : List Event → Type 0) (old new : List ℕ) (s : Intake) (r : Report) : Type 0 where
+  pub first : Intake
+  pub held : hold s r ≡ GoesOn first
+  pub comes : ComesTo g most written kept seen IsRun old new first
 
 -- the taking comes from a state to a refusal; the run is that of the state that is left then, and the text is that of the events up to it
 pub record StopsWith (written : List Event → List ℕ) (IsRun : List Event → Type 0) (old new : List ℕ) (s : Intake) (taking : Taking) (r : ReportFault) : Type 0 where
@@ -82,6 +82,14 @@ pub record HaltsAt (g : Grammar) (most : ℕ) (written : List Event → List ℕ
   pub on_the_way : IsOnTheWay g most first reached
   pub run : IsRun reached.run
   pub text : IsWrittenOn written first.run reached.run old new
+
+-- memory is refused where a report is begun: nothing is applied; or the report is held, and memory is refused on the way from there
+abbrev pub HaltsAtReport : (g : Grammar) (most : ℕ) (written : List Event → List ℕ) (IsRun : List Event → Type 0) (old new : List ℕ) → Intake → Report → Type 0
+HaltsAtReport g most written IsRun old new s r = IsUntouched s.run IsRun old new ⊎ ((first : Intake) × (hold s r ≡ GoesOn first) × HaltsAt g most written IsRun old new first)
+
+-- the report that is refused, by its line, was the first that was ready, and is held no longer
+abbrev pub IsLetGo : List Kept → List Kept → ReportFault → Type 0
+IsLetGo was left r = (next : Report) × (fault : RunFault) × (r ≡ Refused next.line fault) × IsNext was left next
 
 -- each state that the reports kept before, the lines and the run before are of comes to one that those of now are of
 abbrev pub Round : (g : Grammar) (most : ℕ) (written : Grammar → List Event → List ℕ) (was : List Kept) (told : ReportedSeen) (WasRun : List Event → Type 0) (before : List ℕ)

@@ -10,5 +10,6 @@ mod standing;
 
 pub use fault::IntakeFault;
 pub use grows::Grows;
-pub use intake::{none_held, take_report};
+pub use intake::{begin_report, none_held};
 pub use reported::{Reported, ReportedBy};
+pub use round::apply_next;

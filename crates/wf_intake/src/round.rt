@@ -1,6 +1,7 @@
 // One round of the intake: the first report that is ready is let go, and its event applied.
-ghost use Rattle.std.specs.Prelude.{◌≡◌, ◌≤◌, ◌<◌, List, length, true, false, Some, IfOk, IfErr, OnOk, OnErr};
+ghost use Rattle.std.specs.Prelude.{◌≡◌, ◌≤◌, ◌+◌, List, length, true, false, cond, Some, IfOk, IfErr, OnOk, OnErr};
 ghost use Rattle.wf_model.specs.declared.event.Event.{Event};
+ghost use Rattle.wf_model.specs.declared.event.RunFault.{RunFault};
 ghost use Rattle.wf_model.specs.declared.event.RunFault.TheVariants.{NoMemory};
 ghost use Rattle.report_model.specs.Intake.{ReportFault, Refused};
 ghost use Rattle.wf_inbox.specs.Inboxes.{NoneReady};
@@ -8,7 +9,7 @@ ghost use Rattle.wf_intake.specs.declared.fault.IntakeFault.TheVariants.{NoMemor
 ghost use Rattle.wf_intake.specs.Reported.{noted};
 ghost use Rattle.wf_intake.specs.Intakes.{fault_told};
 ghost use Rattle.wf_intake.specs.Rounds.{names_given, all_marked, held_count};
-ghost use Rattle.wf_intake.specs.Growing.{IsNumberFor, AppliesEvent, RefusesEvent, HaltsAtEvent, DoesRounds, StopsRounds, HaltsRounds};
+ghost use Rattle.wf_intake.specs.Growing.{IsNumberFor, AppliesEvent, RefusesEvent, HaltsAtEvent, DoesRounds, StopsRounds, HaltsRounds, LeavesOthers};
 
 use crate::fault::IntakeFault;
 use crate::grows::Grows;
@@ -81,6 +82,7 @@ fn mark_made(inbox: &mut Inbox<'_>, event: &Event)
 /// Why a report is refused where the run refuses its event.
 fn refusal(line: u64, fault: RunFault) -> IntakeFault
     ensures memory { fault ≡ NoMemory → result ≡ WantsMemory }
+    ensures of_memory { result ≡ WantsMemory → fault ≡ NoMemory }
     ensures told { (r : ReportFault) → fault_told result ≡ Some r → r ≡ Refused line fault }
 {
     match fault {
@@ -89,7 +91,7 @@ fn refusal(line: u64, fault: RunFault) -> IntakeFault
     }
 }
 
-/// Applies the event of a report, notes its line, and marks the reports that are ready by it. The number is that of the instance that it expands.
+/// Applies the event of a report, notes its line, and marks the reports that are ready by it. The number is that of the instance that it expands. After an error the reports are as they were, and so are the lines where the run refuses the event.
 pub(crate) fn apply_event<R: Grows>(
     inbox: &mut Inbox<'_>,
     reported: &mut Reported,
@@ -104,6 +106,9 @@ pub(crate) fn apply_event<R: Grows>(
     ensures marks { OnOk result (inbox.new.kept ≡ all_marked (names_given event.now) inbox.old.kept) }
     ensures refused { IfErr result (RefusesEvent R.grammar R.most R.is_run R.written R.text run.old run.new line event.now) }
     ensures halted { IfErr result (HaltsAtEvent R.grammar R.most R.is_run R.written R.text run.old run.new event.now) }
+    ensures told { IfErr result (λ f. (r : ReportFault) → fault_told f ≡ Some r → (fault : RunFault) × (r ≡ Refused line fault)) }
+    ensures same_inbox { OnErr result (inbox.new.kept ≡ inbox.old.kept) }
+    ensures same_lines { IfErr result (λ f. (r : ReportFault) → fault_told f ≡ Some r → reported.new ≡ reported.old) }
     ensures grammar { R.grammar run.new ≡ R.grammar run.old }
     ensures most { R.most run.new ≡ R.most run.old }
     ensures known { (k : R.Known) → R.is_known run.old k → R.is_known run.new k }
@@ -119,15 +124,20 @@ pub(crate) fn apply_event<R: Grows>(
     }
 }
 
-/// Lets the first report go that is held and ready, and applies its event. False where none is ready.
-pub(crate) fn apply_next<R: Grows>(
+/// Lets the first report go that is held and ready, and applies its event. False where none is ready. One event is applied at most, so a caller can hand its text on before the next.
+///
+/// Errors: `Refused` where the run refuses the event, with the line of its report, which is held no longer; `NoMemory`. At each of them the run is that of the events that were applied until then, each of them whole and with its text. After `NoMemory` the inbox and the lines may not fit the run any more.
+///
+/// Cost: that of making the event anew, of looking its instance up and of applying it; for each of its names one look-up.
+pub fn apply_next<R: Grows>(
     inbox: &mut Inbox<'_>,
     reported: &mut Reported,
     run: &mut R,
 ) -> Result<bool, IntakeFault>
     ensures round { OnOk result (DoesRounds R.grammar R.most R.is_run R.written R.text inbox.old reported.old run.old inbox.new reported.new run.new) }
     ensures last { IfOk result (λ more. more ≡ false → NoneReady inbox.new.kept) }
-    ensures fewer { IfOk result (λ more. more ≡ true → held_count inbox.new.kept < held_count inbox.old.kept) }
+    ensures one { IfOk result (λ more. held_count inbox.old.kept ≡ held_count inbox.new.kept + cond more 1 0) }
+    ensures others { IfErr result (LeavesOthers inbox.old reported.old inbox.new reported.new) }
     ensures stopped { IfErr result (StopsRounds R.grammar R.most R.is_run R.written R.text inbox.old reported.old run.old run.new) }
     ensures halted { IfErr result (HaltsRounds R.grammar R.most R.is_run R.written R.text inbox.old reported.old run.old run.new) }
     ensures grammar { R.grammar run.new ≡ R.grammar run.old }

@@ -2,12 +2,12 @@
 use Rattle.std.specs.Prelude.{◌≡◌, ◌≢◌, ℕ, ◌+◌, ◌^◌, ◌<◌, Bool, true, false, List, [], ◌∷◌, ◌++◌, length, get_or, flat_map, Option, Some, None, MatchOption}
 use Rattle.wf_model.specs.Grammar.{Grammar, production_at, inputs_of, outputs_of, head_of, alternative_of, IsProductionOf}
 use Rattle.wf_model.specs.Reach.{Step, target_of}
-use Rattle.wf_model.specs.Linear.{IsStepOf, IsLinear}
+use Rattle.wf_model.specs.Linear.{IsStepOf}
 use Rattle.bit_pack.specs.Gamma.{gamma}
 use Rattle.label_model.specs.Continuing.{continuing, after}
 use Rattle.label_model.specs.Labels.{PlaceStep, Label, Input, Output, OfEdge, label_bits, IsLabel}
 use Rattle.wf_spec.specs.Tables.{productions_of}
-use Rattle.wf_recur.specs.Cycles.{step_of, CyclesSeen, AreCyclesOf}
+use Rattle.wf_recur.specs.Cycles.{step_of}
 use Rattle.wf_label.specs.declared.cursor.Ahead.{Ahead}
 use Rattle.wf_label.specs.declared.cursor.Ahead.TheVariants.{Whole, Entered, Passed, Nothing}
 use Rattle.wf_label.specs.declared.cursor.Mark.{Mark as MarkHeld}
@@ -117,12 +117,6 @@ pub record CursorSeen : Type 0 where
 -- these marks are left
 abbrev pub AreLeft : CursorSeen → List Mark → Type 0
 AreLeft c marks = AreAhead c.grammar c.ahead c.left marks
-
--- a cursor reads a label of a strictly linear grammar
-pub record IsReading (g : Grammar) (cycles : CyclesSeen) (ahead : Ahead) (bits : List Bool) : Type 0 where
-  pub linear : IsLinear g
-  pub cycles_are : AreCyclesOf g cycles
-  pub marks : HasMarks g ahead bits
 
 -- a mark is read: of whatever marks were ahead it is the first, and the others are ahead then
 abbrev pub IsFirst : Grammar → Ahead → List Bool → MarkHeld → Ahead → List Bool → Type 0

@@ -1,8 +1,6 @@
 // What a label tells, part by part.
 ghost use Rattle.std.specs.Prelude.{◌≡◌, ◌<◌, length, IfSome, MatchOption};
-ghost use Rattle.wf_model.specs.Linear.{IsLinear};
 ghost use Rattle.label_model.specs.Labels.{Label, label_bits, IsLabel};
-ghost use Rattle.wf_recur.specs.Cycles.{AreCyclesOf};
 ghost use Rattle.wf_label.specs.Marks.{marks_of, mark_of, HasMarks, IsMarkOf, IsFirst, IsNext, AreLeft};
 ghost use Rattle.wf_label.specs.Values.{AreLabelBits};
 
@@ -11,7 +9,7 @@ use crate::passing::passed;
 use crate::reference::LabelRef;
 use bit_pack::BitReader;
 use std::marker::Model;
-use wf_recur::Cycles;
+use wf_recur::Linear;
 use wf_spec::{EdgeNo, Grammar, ModNo, PortNo, PosNo, ProdNo, Step};
 
 /// What a label tells next.
@@ -71,34 +69,30 @@ fn part_mark(g: &Grammar, bits: &mut BitReader<'_>, m: ModNo) -> (Mark, Ahead)
 }
 
 /// Reads the chain number of a module, or what comes next if the module is on no cycle.
-fn place_mark(g: &Grammar, cycles: &Cycles, bits: &mut BitReader<'_>, m: ModNo) -> (Mark, Ahead)
-    requires linear { IsLinear g.now.core }
-    requires cycles { AreCyclesOf g.now.core cycles.now }
-    requires marks { HasMarks g.now.core (Ahead.Entered m) bits.old.left }
-    ensures first { IsFirst g.now.core (Ahead.Entered m) bits.old.left result.0 result.1 bits.new.left }
+fn place_mark(g: Linear<'_>, bits: &mut BitReader<'_>, m: ModNo) -> (Mark, Ahead)
+    requires marks { HasMarks g.grammar.now.core (Ahead.Entered m) bits.old.left }
+    ensures first { IsFirst g.entry.grammar.now.core (Ahead.Entered m) bits.old.left result.0 result.1 bits.new.left }
     ensures fewer { length bits.new.left < length bits.old.left }
 {
     // A grammar is well-formed.
-    let _formed = g.start();
-    if continuing_step(g, cycles, m).is_none() {
-        return part_mark(g, bits, m);
+    let _formed = g.grammar.start();
+    if continuing_step(g, m).is_none() {
+        return part_mark(g.grammar, bits, m);
     }
     let c = read_number(bits, 1 << 24).unwrap() as u32;
-    (Mark::Chain(c), Ahead::Passed(passed(g, cycles, m, c)))
+    (Mark::Chain(c), Ahead::Passed(passed(g, m, c)))
 }
 
 /// Reads a port of the root, or the first mark of the place of an edge.
-fn label_mark(g: &Grammar, cycles: &Cycles, bits: &mut BitReader<'_>) -> (Mark, Ahead)
-    requires linear { IsLinear g.now.core }
-    requires cycles { AreCyclesOf g.now.core cycles.now }
-    requires marks { HasMarks g.now.core Ahead.Whole bits.old.left }
-    ensures first { IsFirst g.now.core Ahead.Whole bits.old.left result.0 result.1 bits.new.left }
+fn label_mark(g: Linear<'_>, bits: &mut BitReader<'_>) -> (Mark, Ahead)
+    requires marks { HasMarks g.grammar.now.core Ahead.Whole bits.old.left }
+    ensures first { IsFirst g.entry.grammar.now.core Ahead.Whole bits.old.left result.0 result.1 bits.new.left }
     ensures fewer { length bits.new.left < length bits.old.left }
 {
-    let start = g.start();
+    let start = g.grammar.start();
     let of_edge = bits.bit().unwrap();
     if of_edge {
-        return place_mark(g, cycles, bits, start);
+        return place_mark(g, bits, start);
     }
     let is_output = bits.bit().unwrap();
     let port = PortNo(read_number(bits, 64).unwrap() as u8);
@@ -109,22 +103,15 @@ fn label_mark(g: &Grammar, cycles: &Cycles, bits: &mut BitReader<'_>) -> (Mark, 
 }
 
 /// Reads the first mark of what is ahead, and tells what is ahead then.
-fn read_mark(
-    g: &Grammar,
-    cycles: &Cycles,
-    bits: &mut BitReader<'_>,
-    ahead: Ahead,
-) -> Option<(Mark, Ahead)>
-    requires linear { IsLinear g.now.core }
-    requires cycles { AreCyclesOf g.now.core cycles.now }
-    requires marks { HasMarks g.now.core ahead bits.old.left }
-    ensures first { MatchOption result ((ahead ≡ Ahead.Nothing) × (bits.new ≡ bits.old)) (λ r. IsFirst g.now.core ahead bits.old.left r.0 r.1 bits.new.left) }
+fn read_mark(g: Linear<'_>, bits: &mut BitReader<'_>, ahead: Ahead) -> Option<(Mark, Ahead)>
+    requires marks { HasMarks g.grammar.now.core ahead bits.old.left }
+    ensures first { MatchOption result ((ahead ≡ Ahead.Nothing) × (bits.new ≡ bits.old)) (λ r. IsFirst g.entry.grammar.now.core ahead bits.old.left r.0 r.1 bits.new.left) }
     ensures fewer { IfSome result (λ _. length bits.new.left < length bits.old.left) }
 {
     match ahead {
-        Ahead::Whole => Some(label_mark(g, cycles, bits)),
-        Ahead::Entered(m) => Some(place_mark(g, cycles, bits, m)),
-        Ahead::Passed(m) => Some(part_mark(g, bits, m)),
+        Ahead::Whole => Some(label_mark(g, bits)),
+        Ahead::Entered(m) => Some(place_mark(g, bits, m)),
+        Ahead::Passed(m) => Some(part_mark(g.grammar, bits, m)),
         Ahead::Nothing => None,
     }
 }
@@ -134,20 +121,19 @@ fn read_mark(
 /// It takes no memory. A chain number is told as one mark, however many steps it stands for, and is not walked step by step.
 #[derive(Drop)]
 pub struct Cursor<'a, 'g> {
-    g: &'g Grammar,
-    cycles: &'g Cycles,
+    g: Linear<'g>,
     bits: BitReader<'a>,
     ahead: Ahead,
 }
 
 impl<'a, 'g> Model for Cursor<'a, 'g> {
-    ghost use Rattle.wf_label.specs.Marks.{CursorSeen, IsReading};
+    ghost use Rattle.wf_label.specs.Marks.{CursorSeen, HasMarks};
 
     ghost Value = { CursorSeen };
 
-    ghost view = { λ c. record { grammar = c.g.now.core; ahead = c.ahead; left = c.bits.left } };
+    ghost view = { λ c. record { grammar = c.g.grammar.now.core; ahead = c.ahead; left = c.bits.left } };
 
-    ghost invariant = { λ c. IsReading c.g.now.core c.cycles.now c.ahead c.bits.left };
+    ghost invariant = { λ c. HasMarks c.g.grammar.now.core c.ahead c.bits.left };
 }
 
 impl<'a, 'g> Cursor<'a, 'g> {
@@ -160,7 +146,7 @@ impl<'a, 'g> Cursor<'a, 'g> {
         ensures fewer { IfSome result (λ _. length self.new.left < length self.old.left) }
         ensures same { self.new.grammar ≡ self.old.grammar }
     {
-        let (mark, ahead) = read_mark(self.g, self.cycles, &mut self.bits, self.ahead)?;
+        let (mark, ahead) = read_mark(self.g, &mut self.bits, self.ahead)?;
         self.ahead = ahead;
         Some(mark)
     }
@@ -168,16 +154,13 @@ impl<'a, 'g> Cursor<'a, 'g> {
 
 impl<'a> LabelRef<'a> {
     /// A reader of the marks of a label of the grammar, from its first on.
-    pub fn cursor<'g>(&self, g: &'g Grammar, cycles: &'g Cycles) -> Cursor<'a, 'g>
-        requires linear { IsLinear g.now.core }
-        requires cycles { AreCyclesOf g.now.core cycles.now }
-        requires label { AreLabelBits g.now.core self.now }
-        ensures marks { (l : Label) → IsLabel g.now.core l → self.now ≡ label_bits l → AreLeft result (marks_of g.now.core l) }
-        ensures grammar { result.grammar ≡ g.now.core }
+    pub fn cursor<'g>(&self, g: Linear<'g>) -> Cursor<'a, 'g>
+        requires label { AreLabelBits g.grammar.now.core self.now }
+        ensures marks { (l : Label) → IsLabel g.entry.grammar.now.core l → self.now ≡ label_bits l → AreLeft result (marks_of g.entry.grammar.now.core l) }
+        ensures grammar { result.grammar ≡ g.entry.grammar.now.core }
     {
         Cursor {
             g,
-            cycles,
             bits: BitReader::new(self.bytes()),
             ahead: Ahead::Whole,
         }

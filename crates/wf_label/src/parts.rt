@@ -1,41 +1,36 @@
 // The parts of a label, read from the front.
 ghost use Rattle.std.specs.Prelude.{◌≡◌, ◌^◌, ◌<◌, length, option_map, IfOk, IfSome, IsErr, OnOk};
 ghost use Rattle.wf_model.specs.Grammar.{IsProductionOf, alternative_of};
-ghost use Rattle.wf_model.specs.Linear.{IsLinear};
 ghost use Rattle.label_model.specs.Continuing.{continuing, continues};
 ghost use Rattle.label_model.specs.Reading.{IsPadding, IsLabelLeft, IsPlaceLeft, IsPartLeft, IsPortLeft};
-ghost use Rattle.wf_recur.specs.Cycles.{AreCyclesOf, step_of};
+ghost use Rattle.wf_recur.specs.Cycles.{step_of};
 ghost use Rattle.wf_label.specs.Parts.{IsPassed, IsNumberRead, HasNoNumber, HasNoAlternative, IsStepByLeft, IsEndingByLeft, IsNextLeft};
 
 use crate::check::Malformed;
 use crate::passing::passed;
 use bit_pack::BitReader;
-use wf_recur::Cycles;
+use wf_recur::Linear;
 use wf_spec::{Grammar, ModNo, PosNo, ProdNo, Step};
 
 /// The continuing step of a module, and `None` where it stands on no cycle.
-pub(crate) fn continuing_step(g: &Grammar, cycles: &Cycles, m: ModNo) -> Option<Step>
-    requires linear { IsLinear g.now.core }
-    requires cycles { AreCyclesOf g.now.core cycles.now }
-    requires in_range { m.0 < length g.now.core.modules }
-    ensures { option_map step_of result ≡ continuing g.now.core m.0 }
+pub(crate) fn continuing_step(g: Linear<'_>, m: ModNo) -> Option<Step>
+    requires in_range { m.0 < length g.grammar.now.core.modules }
+    ensures { option_map step_of result ≡ continuing g.entry.grammar.now.core m.0 }
 {
     // A grammar is well-formed.
-    let _formed = g.start();
-    match cycles.on(m) {
+    let _formed = g.grammar.start();
+    match g.cycles.on(m) {
         Some(on) => Some(on.step),
         None => None,
     }
 }
 
 /// Whether a step is the continuing one of the module.
-fn is_continuing(g: &Grammar, cycles: &Cycles, m: ModNo, step: Step) -> bool
-    requires linear { IsLinear g.now.core }
-    requires cycles { AreCyclesOf g.now.core cycles.now }
-    requires in_range { m.0 < length g.now.core.modules }
-    ensures { result ≡ continues g.now.core m.0 (step_of step) }
+fn is_continuing(g: Linear<'_>, m: ModNo, step: Step) -> bool
+    requires in_range { m.0 < length g.grammar.now.core.modules }
+    ensures { result ≡ continues g.entry.grammar.now.core m.0 (step_of step) }
 {
-    match continuing_step(g, cycles, m) {
+    match continuing_step(g, m) {
         Some(next) => {
             next.production.0 == step.production.0 && next.position.0 == step.position.0
         }
@@ -67,24 +62,17 @@ fn pass_port(reader: &mut BitReader<'_>, ports: usize) -> Result<(), Malformed>
 }
 
 /// Passes the chain number of a module, and gives the module to which it leads. The number is there exactly if the module stands on a cycle, and is below 2^24.
-fn pass_chain(
-    g: &Grammar,
-    cycles: &Cycles,
-    reader: &mut BitReader<'_>,
-    m: ModNo,
-) -> Result<ModNo, Malformed>
-    requires linear { IsLinear g.now.core }
-    requires cycles { AreCyclesOf g.now.core cycles.now }
-    requires in_range { m.0 < length g.now.core.modules }
-    ensures in_range { IfOk result (λ k. k.0 < length g.now.core.modules) }
-    ensures passed { IfOk result (λ k. IsPassed (IsPlaceLeft g.now.core m.0) (IsPartLeft g.now.core k.0) reader.old reader.new) }
-    ensures malformed { IsErr result → ¬ IsPlaceLeft g.now.core m.0 reader.old.left }
+fn pass_chain(g: Linear<'_>, reader: &mut BitReader<'_>, m: ModNo) -> Result<ModNo, Malformed>
+    requires in_range { m.0 < length g.grammar.now.core.modules }
+    ensures in_range { IfOk result (λ k. k.0 < length g.entry.grammar.now.core.modules) }
+    ensures passed { IfOk result (λ k. IsPassed (IsPlaceLeft g.entry.grammar.now.core m.0) (IsPartLeft g.entry.grammar.now.core k.0) reader.old reader.new) }
+    ensures malformed { IsErr result → ¬ IsPlaceLeft g.entry.grammar.now.core m.0 reader.old.left }
 {
-    if continuing_step(g, cycles, m).is_none() {
+    if continuing_step(g, m).is_none() {
         return Ok(m);
     }
     let c = read_number(reader, 1 << 24)?;
-    Ok(passed(g, cycles, m, c as u32))
+    Ok(passed(g, m, c as u32))
 }
 
 /// Reads an alternative number of a module, and gives the production.
@@ -104,27 +92,20 @@ pub(crate) fn read_alternative(
 }
 
 /// Passes the position of a step by a production, and gives the module to which the step leads.
-fn pass_position(
-    g: &Grammar,
-    cycles: &Cycles,
-    reader: &mut BitReader<'_>,
-    p: ProdNo,
-) -> Result<ModNo, Malformed>
-    requires linear { IsLinear g.now.core }
-    requires cycles { AreCyclesOf g.now.core cycles.now }
-    requires in_range { p.0 < length g.now.core.productions }
-    ensures in_range { IfOk result (λ m. m.0 < length g.now.core.modules) }
-    ensures passed { IfOk result (λ m. IsPassed (IsStepByLeft g.now.core p.0) (IsPlaceLeft g.now.core m.0) reader.old reader.new) }
-    ensures malformed { IsErr result → ¬ IsStepByLeft g.now.core p.0 reader.old.left }
+fn pass_position(g: Linear<'_>, reader: &mut BitReader<'_>, p: ProdNo) -> Result<ModNo, Malformed>
+    requires in_range { p.0 < length g.grammar.now.core.productions }
+    ensures in_range { IfOk result (λ m. m.0 < length g.entry.grammar.now.core.modules) }
+    ensures passed { IfOk result (λ m. IsPassed (IsStepByLeft g.entry.grammar.now.core p.0) (IsPlaceLeft g.entry.grammar.now.core m.0) reader.old reader.new) }
+    ensures malformed { IsErr result → ¬ IsStepByLeft g.entry.grammar.now.core p.0 reader.old.left }
 {
-    let rule = g.production(p);
+    let rule = g.grammar.production(p);
     let positions = rule.positions();
     let i = read_number(reader, positions.len())?;
     let step = Step {
         production: p,
         position: PosNo(i as u8),
     };
-    if is_continuing(g, cycles, rule.head(), step) {
+    if is_continuing(g, rule.head(), step) {
         return Err(Malformed);
     }
     Ok(positions[i].module)
@@ -142,85 +123,71 @@ fn pass_edge(g: &Grammar, reader: &mut BitReader<'_>, p: ProdNo) -> Result<(), M
 
 /// Passes a step or an ending of a module. Of a step it gives the module to which the step leads.
 fn pass_part(
-    g: &Grammar,
-    cycles: &Cycles,
+    g: Linear<'_>,
     reader: &mut BitReader<'_>,
     k: ModNo,
 ) -> Result<Option<ModNo>, Malformed>
-    requires linear { IsLinear g.now.core }
-    requires cycles { AreCyclesOf g.now.core cycles.now }
-    requires in_range { k.0 < length g.now.core.modules }
-    ensures in_range { IfOk result (λ o. IfSome o (λ m. m.0 < length g.now.core.modules)) }
-    ensures passed { IfOk result (λ o. IsPassed (IsPartLeft g.now.core k.0) (IsNextLeft g.now.core o) reader.old reader.new) }
+    requires in_range { k.0 < length g.grammar.now.core.modules }
+    ensures in_range { IfOk result (λ o. IfSome o (λ m. m.0 < length g.entry.grammar.now.core.modules)) }
+    ensures passed { IfOk result (λ o. IsPassed (IsPartLeft g.entry.grammar.now.core k.0) (IsNextLeft g.entry.grammar.now.core o) reader.old reader.new) }
     ensures fewer { OnOk result (length reader.new.left < length reader.old.left) }
-    ensures malformed { IsErr result → ¬ IsPartLeft g.now.core k.0 reader.old.left }
+    ensures malformed { IsErr result → ¬ IsPartLeft g.entry.grammar.now.core k.0 reader.old.left }
 {
     let Ok(is_step) = reader.bit() else {
         return Err(Malformed);
     };
-    let p = read_alternative(g, reader, k)?;
+    let p = read_alternative(g.grammar, reader, k)?;
     if is_step {
-        let m = pass_position(g, cycles, reader, p)?;
+        let m = pass_position(g, reader, p)?;
         return Ok(Some(m));
     }
-    pass_edge(g, reader, p)?;
+    pass_edge(g.grammar, reader, p)?;
     Ok(None)
 }
 
 /// Passes the first part of a place at a module: a chain number, and a step or an ending. Of a step it gives the module to which the step leads.
 fn pass_first(
-    g: &Grammar,
-    cycles: &Cycles,
+    g: Linear<'_>,
     reader: &mut BitReader<'_>,
     m: ModNo,
 ) -> Result<Option<ModNo>, Malformed>
-    requires linear { IsLinear g.now.core }
-    requires cycles { AreCyclesOf g.now.core cycles.now }
-    requires in_range { m.0 < length g.now.core.modules }
-    ensures in_range { IfOk result (λ o. IfSome o (λ k. k.0 < length g.now.core.modules)) }
-    ensures passed { IfOk result (λ o. IsPassed (IsPlaceLeft g.now.core m.0) (IsNextLeft g.now.core o) reader.old reader.new) }
+    requires in_range { m.0 < length g.grammar.now.core.modules }
+    ensures in_range { IfOk result (λ o. IfSome o (λ k. k.0 < length g.entry.grammar.now.core.modules)) }
+    ensures passed { IfOk result (λ o. IsPassed (IsPlaceLeft g.entry.grammar.now.core m.0) (IsNextLeft g.entry.grammar.now.core o) reader.old reader.new) }
     ensures fewer { OnOk result (length reader.new.left < length reader.old.left) }
-    ensures malformed { IsErr result → ¬ IsPlaceLeft g.now.core m.0 reader.old.left }
+    ensures malformed { IsErr result → ¬ IsPlaceLeft g.entry.grammar.now.core m.0 reader.old.left }
 {
-    let k = pass_chain(g, cycles, reader, m)?;
-    pass_part(g, cycles, reader, k)
+    let k = pass_chain(g, reader, m)?;
+    pass_part(g, reader, k)
 }
 
 /// Passes a place at the start module.
-fn pass_place(g: &Grammar, cycles: &Cycles, reader: &mut BitReader<'_>) -> Result<(), Malformed>
-    requires linear { IsLinear g.now.core }
-    requires cycles { AreCyclesOf g.now.core cycles.now }
-    ensures passed { OnOk result (IsPassed (IsPlaceLeft g.now.core g.now.core.start) IsPadding reader.old reader.new) }
-    ensures malformed { IsErr result → ¬ IsPlaceLeft g.now.core g.now.core.start reader.old.left }
+fn pass_place(g: Linear<'_>, reader: &mut BitReader<'_>) -> Result<(), Malformed>
+    ensures passed { OnOk result (IsPassed (IsPlaceLeft g.entry.grammar.now.core g.entry.grammar.now.core.start) IsPadding reader.old reader.new) }
+    ensures malformed { IsErr result → ¬ IsPlaceLeft g.entry.grammar.now.core g.entry.grammar.now.core.start reader.old.left }
 {
-    let mut m = g.start();
-    while let Some(next) = pass_first(g, cycles, reader, m)? {
+    let mut m = g.grammar.start();
+    while let Some(next) = pass_first(g, reader, m)? {
         m = next;
     }
     Ok(())
 }
 
 /// Passes a label up to its padding.
-pub(crate) fn pass_label(
-    g: &Grammar,
-    cycles: &Cycles,
-    reader: &mut BitReader<'_>,
-) -> Result<(), Malformed>
-    requires linear { IsLinear g.now.core }
-    requires cycles { AreCyclesOf g.now.core cycles.now }
-    ensures passed { OnOk result (IsPassed (IsLabelLeft g.now.core) IsPadding reader.old reader.new) }
-    ensures malformed { IsErr result → ¬ IsLabelLeft g.now.core reader.old.left }
+pub(crate) fn pass_label(g: Linear<'_>, reader: &mut BitReader<'_>) -> Result<(), Malformed>
+    ensures passed { OnOk result (IsPassed (IsLabelLeft g.entry.grammar.now.core) IsPadding reader.old reader.new) }
+    ensures malformed { IsErr result → ¬ IsLabelLeft g.entry.grammar.now.core reader.old.left }
 {
     let Ok(of_edge) = reader.bit() else {
         return Err(Malformed);
     };
     if of_edge {
-        return pass_place(g, cycles, reader);
+        return pass_place(g, reader);
     }
     let Ok(is_output) = reader.bit() else {
         return Err(Malformed);
     };
-    let start = &g.modules()[g.start().0 as usize];
+    let start = &g.grammar.modules()[g.grammar.start().0 as usize];
     if is_output {
         return pass_port(reader, start.outputs().len());
     }

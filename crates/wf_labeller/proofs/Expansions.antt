@@ -4,6 +4,7 @@ use Rattle.std.specs.Prelude.{position, is_some, option_map, ◌==◌}
 use Rattle.std.specs.List.{list_all}
 use Rattle.std.proofs.lemmas.Bool.Decides.{nat_tests}
 use Rattle.std.proofs.lemmas.List.{length-map, get_or-map}
+use Rattle.std.proofs.lemmas.Simd.{map-map}
 use Rattle.std.proofs.lemmas.List.Quantifiers.{position-Some}
 use Rattle.wf_model.specs.declared.event.Event.{Event}
 use Rattle.wf_model.specs.declared.event.Event.TheVariants.{Start, Expand}
@@ -14,6 +15,7 @@ use Rattle.wf_model.specs.Run.{Instance, made, names_of, expanded_by, CanExpand,
 use Rattle.wf_model.specs.Items.{edge_item}
 use Rattle.wf_model.specs.Faults.{fault_of}
 use Rattle.wf_model.proofs.Lists.{same_bytes, is_at, at_in, in_append_right}
+use Rattle.wf_model.proofs.NumberLists.{length-numbers}
 use Rattle.wf_model.proofs.Runs.{name_in, name_new, AllExtend-append}
 use Rattle.wf_model.proofs.ItemNames.{name_made}
 use Rattle.wf_model.proofs.Differ.{one_of_name}
@@ -22,7 +24,7 @@ use Rattle.bit_pack.specs.Bits.{packed}
 use Rattle.bit_pack.specs.Written.{first_bits}
 use Rattle.bit_pack.proofs.Filling.{first_packed}
 use Rattle.wf_spec.specs.Held.{HeldGrammar}
-use Rattle.label_model.specs.Labels.{OfEdge, label_bits, ending_bits}
+use Rattle.label_model.specs.Labels.{Label, OfEdge, label_bits, ending_bits}
 use Rattle.label_model.specs.Places.{place_of}
 use Rattle.label_model.specs.Files.{Entry, entry_of}
 use Rattle.label_model.specs.RunLabels.{address_in, labelled_by, IsPrefix}
@@ -31,6 +33,8 @@ use Rattle.wf_run.specs.Runs.{RunSeen, Node, node_at, name_at, IsExpandedAs, IsR
 use Rattle.wf_spec.proofs.Finding.{not_found}
 use Rattle.wf_spec.proofs.Tests.{all_gives, all_from}
 use Rattle.wf_labeller.specs.Entries.{edge_entry, numbered_edges}
+use Rattle.wf_labeller.specs.Groups.{edges_bits, bits_of_items}
+use Rattle.wf_labeller.proofs.MadeBits.{bits-zip}
 use Rattle.wf_run.proofs.NamedInstances.{none_there}
 
 -- a test of lengths passes where the lengths are so
@@ -142,3 +146,22 @@ module _ (r : RunSeen) (events : List Event) (run : IsRunOf r events) (i : List 
         (ap (λ z. map (edge_entry g z names (first_bits bytes n) chain) (numbered_edges 0 (production_at g z).edges)) b ∙
         (ap (λ z. map (edge_entry g p names z chain) (numbered_edges 0 (production_at g p).edges)) (ap (λ z. first_bits z n) c ∙ (ap (first_bits (packed (node_at r k).bits)) d ∙ first_packed (node_at r k).bits)) ∙
         (ap (λ z. map (edge_entry g p names (node_at r k).bits z) (numbered_edges 0 (production_at g p).edges)) f ∙ entries_are wf 0 (production_at g p).edges)))
+
+    -- the labels of edges of these numbers
+    labels_are : IsWellFormed g → (ns : List ℕ) →
+        map (λ e. label_bits (OfEdge (place_of g g.start (address_in (events ++ Expand i p names ∷ []) i) p e))) ns ≡ map (λ e. (node_at r k).bits ++ ending_bits (node_at r k).chain (alternative_of g p) e) ns
+    labels_are wf [] = refl
+    labels_are wf (n ∷ ns) =
+        ap (λ b. b ∷ map (λ e. label_bits (OfEdge (place_of g g.start (address_in (events ++ Expand i p names ∷ []) i) p e))) ns) (its_label wf n) ∙
+        ap (λ l. ((node_at r k).bits ++ ending_bits (node_at r k).chain (alternative_of g p) n) ∷ l) (labels_are wf ns)
+
+    -- the labels that are made with the prefix that the run keeps of the instance are those of the items of the event
+    pub made_bits : IsWellFormed g → (q : ℕ) → q ≡ p → edges_bits g q (node_at r k).bits (node_at r k).chain ≡ bits_of_items (labelled_by g (events ++ Expand i p names ∷ []) (Expand i p names))
+    made_bits wf q b =
+        let es = (production_at g p).edges in
+        let ns = numbers_from 0 (length es) in
+        let label : ℕ → Label = λ e. OfEdge (place_of g g.start (address_in (events ++ Expand i p names ∷ []) i) p e) in
+        ap (λ z. edges_bits g z (node_at r k).bits (node_at r k).chain) b ∙
+        (sym (labels_are wf ns) ∙
+        (sym (map-map label_bits label ns) ∙
+        sym (bits-zip (map (edge_item g i p names) es) (map label ns) (length-map es (edge_item g i p names) ∙ sym (length-map ns label ∙ length-numbers 0 (length es))))))

@@ -1,13 +1,10 @@
 -- Entries that are kept one behind another.
-use Rattle.std.proofs.Common.{◌≡◌, ℕ, ◌≤◌, List, [], ◌∷◌, ◌++◌, map, length, flat_map, refl, ap, sym, ◌∙◌, arith, append_assoc, append-nil, length-append}
+use Rattle.std.proofs.Common.{◌≡◌, ℕ, ◌≤◌, List, [], ◌∷◌, ◌++◌, length, flat_map, refl, ap, sym, ◌∙◌, arith, append_assoc, append-nil, length-append}
 use Rattle.std.specs.Prelude.{codes}
 use Rattle.std.proofs.lemmas.List.Concat.{flat_map-append, flat_map_single}
 use Rattle.std.proofs.lemmas.List.{map-id}
-use Rattle.std.proofs.lemmas.Simd.{map-map}
-use Rattle.wf_model.specs.Items.{Item, dotted}
-use Rattle.label_model.specs.Labels.{Label}
-use Rattle.label_model.specs.Files.{Entry, entry_of}
-use Rattle.wf_labeller.specs.Entries.{labels_in_bytes}
+use Rattle.wf_model.specs.Items.{dotted}
+use Rattle.label_model.specs.Files.{Entry}
 use Rattle.wf_labeller.specs.Keeping.{Adds, HasMore}
 
 -- behind what was kept come the parts of some entries, and these and the entries that are left are all
@@ -56,7 +53,3 @@ listed old new entries none adds = adds ∙ (ap (λ z. z ++ flat_map (λ e. e �
 -- an instance's name, a dot and a port's name have room
 pub dotted_room : (a b : List ℕ) → length a ≤ 64 → length b ≤ 64 → length (dotted a b) ≤ 129
 dotted_room a b h k = omega (arith, length-append (a ++ codes ".") b, length-append a (codes "."))
-
--- labels that are kept come behind those that were there
-pub labels_kept : (old new : List (List ℕ)) (items : List (Item × Label)) → Adds (λ e. e.label ∷ []) old new (map entry_of items) → new ≡ old ++ labels_in_bytes items
-labels_kept old new items adds = adds ∙ ap (λ z. old ++ z) (flat_map_single (λ (e : Entry). e.label) (map entry_of items) ∙ map-map (λ (e : Entry). e.label) entry_of items)

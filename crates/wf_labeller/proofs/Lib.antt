@@ -5,3 +5,6 @@ pub mod EdgesRead
 pub mod Expansions
 pub mod Bounds
 pub mod Cutting
+pub mod Grouped
+pub mod Measured
+pub mod MadeBits

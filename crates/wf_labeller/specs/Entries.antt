@@ -17,10 +17,6 @@ use Rattle.wf_labeller.specs.declared.entry.Entry.{Entry as EntryHeld}
 abbrev pub entry_seen : EntryHeld → Entry
 entry_seen e = record { name = e.name; label = e.label }
 
--- the labels of items, each as the bytes that its bits fill
-abbrev pub labels_in_bytes : List (Item × Label) → List (List ℕ)
-labels_in_bytes items = map (λ t. packed (label_bits t.1)) items
-
 -- the entry is that of an item that the event makes, and the label of the item has at most as many bits as the bound says of an event that is the n-th expand event or comes after n of them
 pub record HasLabelWithin (g : Grammar) (events : List Event) (e : Event) (n : ℕ) (x : Entry) : Type 0 where
   pub labelled : Item × Label

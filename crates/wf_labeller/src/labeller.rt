@@ -10,13 +10,13 @@ ghost use Rattle.label_model.specs.Files.{entry_of, entry_bytes};
 ghost use Rattle.label_model.specs.RunLabels.{labelled_by};
 ghost use Rattle.wf_run.specs.Runs.{IsRunOf, GoesOn};
 ghost use Rattle.wf_run.specs.Found.{IsFoundAs, IsFoundFor};
-ghost use Rattle.wf_labeller.specs.Entries.{HaveLabelsWithin, labels_in_bytes};
+ghost use Rattle.wf_labeller.specs.Entries.{HaveLabelsWithin};
+ghost use Rattle.wf_labeller.specs.Groups.{AreLabelsWithin};
 ghost use Rattle.wf_labeller.specs.Keeping.{Adds, HasMore};
 
 use crate::edges::keep_edges;
 use crate::entry::Records;
 use crate::keeper::Keeper;
-use crate::labels::Labels;
 use crate::ports::keep_root;
 use crate::room::have_room;
 use bit_pack::BitWriter;
@@ -60,16 +60,6 @@ impl<'a> Labeller<'a> {
         &self.run
     }
 
-    /// The number of the instance that an event expands, by one look-up; None where there is none.
-    fn look_up(&self, event: &Event) -> Option<NodeNo>
-        ensures { IsFoundFor self.now event.now result }
-    {
-        match event {
-            Event::Start { .. } => None,
-            Event::Expand { instance, .. } => self.run.find(instance.bytes()),
-        }
-    }
-
     /// Takes an event, if it extends the run, and gives the entries of the items that it makes: those of the root's inputs and then of its outputs for a start event, those of the edges of the production for an expand event. After an error the run and the entries are as they were.
     ///
     /// Errors: as `Run::start` and `Run::expand`, in their order; `NoMemory` may come at any time.
@@ -91,7 +81,7 @@ impl<'a> Labeller<'a> {
         // The bound holds since the grammar is well-formed and strictly linear.
         let _formed = self.run.grammar().start();
         let mut made = Records::new(self.alloc);
-        let found = self.look_up(event);
+        let found = look_up(&self.run, event);
         self.label(found, event, &mut made)?;
         *into = made;
         Ok(())
@@ -112,6 +102,8 @@ impl<'a> Labeller<'a> {
         ensures taken { OnOk result ((events : List Event) → IsRunOf self.old events → IsRunOf self.new (events ++ event.now ∷ [])) }
         ensures entries { OnOk result ((events : List Event) → IsRunOf self.old events →
             into.new.items ≡ into.old.items ++ flat_map entry_bytes (map entry_of (labelled_by self.old.grammar.core (events ++ event.now ∷ []) event.now))) }
+        ensures bound { OnOk result ((events : List Event) → IsRunOf self.old events →
+            AreLabelsWithin self.new.grammar.core (events ++ event.now ∷ []) event.now self.new.expands) }
         ensures extends { OnOk result ((events : List Event) → IsRunOf self.old events → fault_of self.old.grammar.core self.old.most events event.now ≡ None) }
         ensures goes_on { OnOk result (GoesOn self.old self.new) }
         ensures refused { IfErr result (λ f. (f ≡ NoMemory) ⊎
@@ -119,38 +111,13 @@ impl<'a> Labeller<'a> {
         ensures run { OnErr result (self.new ≡ self.old) }
         ensures into { OnErr result (into.new.items ≡ into.old.items) }
     {
+        // The bound holds since the grammar is well-formed and strictly linear.
+        let _formed = self.run.grammar().start();
         let before = into.len();
         match self.label(found, event, into) {
             Ok(()) => Ok(()),
             Err(fault) => {
                 into.truncate(before);
-                Err(fault)
-            }
-        }
-    }
-
-    /// Takes an event as `take` does, and appends the labels of the items that it makes, without their names. After an error the run and the labels are as they were.
-    ///
-    /// Errors: as `take`.
-    ///
-    /// Cost: that of the event in the run, and linear in the bytes of the labels. Memory is taken for the run and for the labels alone.
-    pub fn label_items(&mut self, event: &Event, into: &mut Labels) -> Result<(), RunFault>
-        ensures taken { OnOk result ((events : List Event) → IsRunOf self.old events → IsRunOf self.new (events ++ event.now ∷ [])) }
-        ensures labels { OnOk result ((events : List Event) → IsRunOf self.old events →
-            into.new ≡ into.old ++ labels_in_bytes (labelled_by self.old.grammar.core (events ++ event.now ∷ []) event.now)) }
-        ensures extends { OnOk result ((events : List Event) → IsRunOf self.old events → fault_of self.old.grammar.core self.old.most events event.now ≡ None) }
-        ensures goes_on { OnOk result (GoesOn self.old self.new) }
-        ensures refused { IfErr result (λ f. (f ≡ NoMemory) ⊎
-            ((events : List Event) → IsRunOf self.old events → fault_of self.old.grammar.core self.old.most events event.now ≡ Some f)) }
-        ensures run { OnErr result (self.new ≡ self.old) }
-        ensures into { OnErr result (into.new ≡ into.old) }
-    {
-        let count = into.count();
-        let found = self.look_up(event);
-        match self.label(found, event, into) {
-            Ok(()) => Ok(()),
-            Err(fault) => {
-                into.truncate(count);
                 Err(fault)
             }
         }
@@ -190,6 +157,16 @@ impl<'a> Labeller<'a> {
                 to,
             ),
         }
+    }
+}
+
+/// The number of the instance that an event expands, by one look-up; None where there is none.
+pub(crate) fn look_up(run: &Run<'_>, event: &Event) -> Option<NodeNo>
+    ensures { IsFoundFor run.now event.now result }
+{
+    match event {
+        Event::Start { .. } => None,
+        Event::Expand { instance, .. } => run.find(instance.bytes()),
     }
 }
 
@@ -274,7 +251,7 @@ fn keep_inner<K: Keeper>(
 }
 
 /// The numbers of an instance that was looked up and of a production by which it may be expanded into these names, each of which has at most 64 bytes. None tells that the run refuses the event.
-fn place(
+pub(crate) fn place(
     run: &Run<'_>,
     found: Option<NodeNo>,
     instance: &[u8],

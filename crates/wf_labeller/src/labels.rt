@@ -2,7 +2,6 @@
 ghost use Rattle.std.specs.Prelude.{◌≡◌, ◌<◌, ◌≤◌, ◌++◌, ◌∷◌, [], length, take, get_or, OnOk, OnErr};
 ghost use Rattle.wf_labeller.specs.Pieces.{pieces, AreEnds};
 
-use crate::keeper::Keeper;
 use std::alloc::{AllocError, Global};
 use std::marker::Model;
 
@@ -64,18 +63,6 @@ fn add_piece(bytes: &mut Vec<u8>, ends: &mut Vec<usize>, piece: &[u8]) -> Result
     }
 }
 
-/// Drops all pieces but the first ones, so many.
-fn cut_pieces(bytes: &mut Vec<u8>, ends: &mut Vec<usize>, count: usize)
-    requires ends { AreEnds 0 ends.old.items (length bytes.old.items) }
-    requires in_range { count ≤ length ends.old.items }
-    ensures ends { AreEnds 0 ends.new.items (length bytes.new.items) }
-    ensures pieces { pieces bytes.new.items 0 ends.new.items ≡ take count (pieces bytes.old.items 0 ends.old.items) }
-{
-    let size = begin_of(ends, count);
-    ends.truncate(count);
-    bytes.truncate(size);
-}
-
 impl Labels {
     /// No labels. Takes no memory.
     pub fn new(alloc: Global) -> Labels
@@ -102,26 +89,11 @@ impl Labels {
         piece_of(&self.bytes, &self.ends, i)
     }
 
-    /// Drops all labels but the first ones, so many.
-    pub(crate) fn truncate(&mut self, count: usize)
-        requires { count ≤ length self.old }
-        ensures { self.new ≡ take count self.old }
+    /// Appends the bytes of a label. The only error is that memory is refused, and then the labels are as they were.
+    pub fn push(&mut self, label: &[u8]) -> Result<(), AllocError>
+        ensures ok { OnOk result (self.new ≡ self.old ++ label.now ∷ []) }
+        ensures err { OnErr result (self.new ≡ self.old) }
     {
-        cut_pieces(&mut self.bytes, &mut self.ends, count)
-    }
-}
-
-/// Labels keep of an entry the label alone.
-impl Keeper for Labels {
-    ghost use Rattle.std.specs.Prelude.{ℕ, List, [], ◌∷◌};
-
-    ghost Part = { List ℕ };
-
-    ghost parts_of = { λ e. e.label ∷ [] };
-
-    ghost kept = { λ l. l };
-
-    fn keep(&mut self, _instance: &[u8], _port: &[u8], label: &[u8]) -> Result<(), AllocError> {
         add_piece(&mut self.bytes, &mut self.ends, label)
     }
 }

@@ -17,7 +17,7 @@ use wf_label::{Label, write_anew};
 use wf_spec::{Grammar, Name, PortNo, Side};
 
 /// Writes the label of a port of the root, in place of what was written.
-fn write_port(bits: &mut BitWriter, side: Side, port: PortNo) -> Result<(), AllocError>
+pub(crate) fn write_port(bits: &mut BitWriter, side: Side, port: PortNo) -> Result<(), AllocError>
     ensures ok { OnOk result (bits.new ≡ label_bits (port_label side port.0)) }
     ensures few { OnOk result (length bits.new ≤ 391551) }
 {

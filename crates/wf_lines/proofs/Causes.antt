@@ -3,7 +3,6 @@ use Rattle.std.proofs.Common.{◌≡◌, ℕ, Bool, sym, ◌∙◌, subst}
 use Rattle.wf_io.specs.Told.{Rose}
 use Rattle.wf_lines.specs.Taking.{IsCauseOf, IsCauseOfHalt, IsWritingCauseOf}
 use Rattle.wf_lines.specs.declared.fault.Halt.{Halt}
-use Rattle.wf_lines.specs.declared.fault.Halt.TheVariants.{WriteFault}
 use Rattle.wf_lines.specs.declared.fault.LinesFault.{LinesFault}
 use Rattle.wf_lines.specs.declared.fault.LinesFault.TheVariants.{Stopped, Halted}
 

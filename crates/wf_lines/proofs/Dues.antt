@@ -1,7 +1,7 @@
 -- What is due, and what of it was put.
-use Rattle.std.proofs.Common.{◌≡◌, ℕ, List, [], ◌++◌, take, Option, refl, sym, ap, ◌∙◌, subst, append-nil, append_assoc}
+use Rattle.std.proofs.Common.{◌≡◌, ℕ, List, [], ◌++◌, take, Option, sym, ap, ◌∙◌, subst, append-nil, append_assoc}
 use Rattle.wf_io.specs.Told.{Appended}
-use Rattle.wf_io.proofs.Appending.{appended_none, appended_twice, begun_longer, begun_after}
+use Rattle.wf_io.proofs.Appending.{appended_none, appended_twice, begun_after}
 use Rattle.wf_lines.specs.Taking.{IsDue, IsBegun, IsPutAt}
 use Rattle.wf_lines.specs.declared.fault.Halt.{Halt}
 use Rattle.wf_lines.specs.declared.fault.Halt.TheVariants.{WriteFault}

@@ -1,5 +1,5 @@
 -- What lines make, and what lines that go on from them make.
-use Rattle.std.proofs.Common.{◌≡◌, ◌⊎◌, ℕ, true, List, [], ◌∷◌, ◌++◌, refl, sym, ap, ◌∙◌, subst, inl, inr, append-nil, append_assoc, true≢false}
+use Rattle.std.proofs.Common.{◌≡◌, ◌⊎◌, ℕ, true, List, [], ◌∷◌, ◌++◌, sym, ap, ◌∙◌, subst, inl, inr, append-nil, append_assoc, true≢false}
 use Rattle.wf_io.specs.Lines.{Line, Tail, AtEnd, Broken, LongFile, is_too_long}
 use Rattle.wf_lines.specs.LineStages.{LineEnds, TakesLine, StopsLine, OfLines, IsOneWay}
 use Rattle.wf_lines.proofs.LineStages.{taken_not_stopped, stopped_once}

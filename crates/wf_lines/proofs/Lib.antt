@@ -4,6 +4,7 @@ pub mod LineStages
 pub mod Growing
 pub mod Openings
 pub mod Makings
+pub mod Pieces
 pub mod Seekings
 pub mod SoFar
 pub mod SomeEnding

@@ -1,7 +1,7 @@
 -- What lines make, where the first of them are taken.
-use Rattle.std.proofs.Common.{◌≡◌, ◌⊎◌, ℕ, List, [], ◌∷◌, ◌++◌, refl, sym, ap, ◌∙◌, subst, inl, inr, append_assoc, append-nil, true≢false}
+use Rattle.std.proofs.Common.{◌≡◌, ℕ, List, [], ◌∷◌, ◌++◌, sym, ap, ◌∙◌, subst, inl, inr, append_assoc, true≢false}
 use Rattle.wf_io.specs.Lines.{Line, Tail, AtEnd, Broken, LongFile}
-use Rattle.wf_lines.specs.LineStages.{LineEnds, TakesLine, StopsLine, AllTaken, OfTail, OfLines, IsOneWay, IsClosedOneWay, ClosesOrGoesOn}
+use Rattle.wf_lines.specs.LineStages.{LineEnds, TakesLine, StopsLine, AllTaken, OfLines, IsOneWay}
 
 module _ {S E : Type 0} (ends : LineEnds E) (Takes : S → ℕ → List ℕ → S → List ℕ → Type 0) (Stops : S → ℕ → List ℕ → E → List ℕ → Type 0) where
   -- where the first lines are taken, those behind them go on from there

@@ -1,18 +1,14 @@
 -- How far the lines of a file are taken, and what of this was put.
-use Rattle.std.proofs.Common.{◌≡◌, ℕ, List, [], ◌∷◌, ◌++◌, ◌+◌, length, take, Option, Some, None, refl, sym, ap, ◌∙◌, subst, inl, inr, ⊎_elim, arith, append_assoc, append-nil, length-append, true≢false}
+use Rattle.std.proofs.Common.{◌≡◌, ℕ, List, [], ◌∷◌, ◌++◌, ◌+◌, length, take, Option, Some, None, refl, sym, ap, ◌∙◌, subst, arith, append_assoc, append-nil}
 use Rattle.std.proofs.lemmas.List.{take_all}
 use Rattle.wf_io.specs.Told.{Appended}
-use Rattle.wf_io.specs.Lines.{Line, FileLines, Tail, AtEnd, Broken, LongFile, text_of}
+use Rattle.wf_io.specs.Lines.{Line, FileLines, AtEnd, text_of}
 use Rattle.wf_io.specs.Readers.{Reader, Lends, Ends}
 use Rattle.wf_io.proofs.Appending.{begun_longer}
-use Rattle.wf_lines.specs.LineStages.{LineEnds, TakesLine, AllTaken, OfLines, IsOneWay, IsClosedOneWay, ClosesOrGoesOn}
-use Rattle.wf_lines.specs.Taking.{IsDue, IsBegun, Halts, IsPutAt, halt_end, end_at, IsStoppedBy, IsStoppedAtEnd, IsMade, AreTaken, AreStopped}
-use Rattle.wf_lines.specs.declared.fault.Halt.{Halt}
-use Rattle.wf_lines.specs.declared.fault.Halt.TheVariants.{LineTooLong, FileTooLong, ReadFault, WriteFault}
-use Rattle.wf_lines.specs.declared.fault.LinesFault.{LinesFault}
-use Rattle.wf_lines.specs.declared.fault.LinesFault.TheVariants.{Stopped, Halted}
-use Rattle.wf_lines.proofs.LineStages.{lines_on, all_on, sound_on, lines_begin, stopped_here}
-use Rattle.wf_lines.proofs.Dues.{due_begun, due_put, due_later, due_more}
+use Rattle.wf_lines.specs.LineStages.{LineEnds, AllTaken}
+use Rattle.wf_lines.specs.Taking.{IsDue, IsBegun}
+use Rattle.wf_lines.proofs.LineStages.{all_on}
+use Rattle.wf_lines.proofs.Dues.{due_later, due_more}
 
 -- a beginning of a text is one of each longer text
 pub begun_of : (text whole more : List ℕ) (a b : Option (List ℕ)) → whole ≡ text ++ more → IsBegun text a b → IsBegun whole a b

@@ -1,17 +1,19 @@
 -- How the lines of a file stop, and how they are all taken, after those that are taken so far.
-use Rattle.std.proofs.Common.{◌≡◌, ℕ, List, [], ◌∷◌, ◌++◌, ◌⊎◌, Option, Some, None, refl, sym, ap, ◌∙◌, subst, inl, inr, append_assoc, append-nil}
+use Rattle.std.proofs.Common.{◌≡◌, ℕ, List, [], ◌∷◌, ◌++◌, ◌⊎◌, Option, Some, None, refl, sym, ap, ◌∙◌, subst, inl, inr, append_assoc, append-nil, true≢false}
 use Rattle.wf_io.specs.Told.{Appended}
-use Rattle.wf_io.specs.Lines.{Line, FileLines, Tail, AtEnd, Broken, LongFile, text_of}
+use Rattle.wf_io.specs.Lines.{Line, FileLines, Tail, AtEnd, text_of}
 use Rattle.wf_io.specs.Readers.{Reader, Lends, Ends}
-use Rattle.wf_lines.specs.LineStages.{LineEnds, TakesLine, StopsLine, AllTaken, OfTail, OfLines, IsOneWay, IsClosedOneWay, ClosesOrGoesOn}
-use Rattle.wf_lines.specs.Taking.{IsDue, IsBegun, Halts, IsPutAt, halt_end, end_at, IsStoppedBy, IsStoppedAtEnd, IsMade, AreTaken, AreStopped}
+use Rattle.wf_lines.specs.LineStages.{LineEnds, StopsLine, AllTaken, OfLines, IsOneWay, IsClosedOneWay, ClosesOrGoesOn}
+use Rattle.wf_lines.specs.Taking.{IsBegun, Halts, IsPutAt, halt_end, end_at, IsStoppedBy, IsStoppedAtEnd, AreTaken, AreStopped}
+use Rattle.wf_lines.specs.BegunLines.{BegunLine, begun_line, BeginsEach}
 use Rattle.wf_lines.specs.declared.fault.Halt.{Halt}
 use Rattle.wf_lines.specs.declared.fault.Halt.TheVariants.{LineTooLong, FileTooLong, ReadFault, WriteFault}
 use Rattle.wf_lines.specs.declared.fault.LinesFault.{LinesFault}
 use Rattle.wf_lines.specs.declared.fault.LinesFault.TheVariants.{Stopped, Halted}
 use Rattle.std.proofs.lemmas.Option.{same_Some}
-use Rattle.wf_lines.proofs.LineStages.{lines_on, sound_on, lines_begin, stopped_here, taken_here}
+use Rattle.wf_lines.proofs.LineStages.{lines_on, sound_on, lines_begin, stopped_here}
 use Rattle.wf_lines.proofs.Dues.{due_begun, due_put, due_more}
+use Rattle.wf_lines.proofs.Makings.{told_or}
 use Rattle.wf_lines.proofs.SoFar.{IsTakenSoFar, begun_of, all_begun}
 
 none_some : {A : Type 0} {x : A} → None ≡ Some x → ⊥
@@ -95,27 +97,33 @@ module _ {S E : Type 0} (ends : LineEnds E) (Takes : S → ℕ → List ℕ → 
     made_here d piece stops e t going =
         sym (stopped_here ends Takes Stops IsSound one (ClosesOrGoesOn Finishes StopsAtEnd) left.tail lends.first next.lines far.state d piece sound (stopped_line d piece stops) e t (subst (λ ls. Going far.state ls left.tail e t) lends.left going)).1
 
-    -- what a line may have made begins what is left
-    made_begins : (piece : List ℕ) → IsMade Takes Stops far.state r.line r.held piece → (e : E) (t : List ℕ) → Going far.state left.lines left.tail e t → (more : List ℕ) × (t ≡ piece ++ more)
-    made_begins piece (inl taken) e t going =
-        taken_here ends Takes Stops IsSound one (ClosesOrGoesOn Finishes StopsAtEnd) left.tail lends.first next.lines far.state taken.0 piece sound (lends.short, subst (λ n. Takes far.state n (text_of lends.first.raw) taken.0 piece) lends.number (subst (λ x. Takes far.state r.line x taken.0 piece) lends.text taken.1)) e t (subst (λ ls. Going far.state ls left.tail e t) lends.left going)
-    made_begins piece (inr (inl stopped)) e t going = ([], made_here stopped.0 piece stopped.1 e t going ∙ sym (append-nil piece))
-    made_begins piece (inr (inr none)) e t going = (t, sym (ap (λ x. x ++ t) none))
+    module _ (Begins : BegunLine S → Type 0) (begins : BeginsEach IsSound Takes Stops Begins) where
+      -- what a line makes first begins what is left
+      begun_begins : (piece : List ℕ) → Begins (begun_line far.state r.line r.held piece) → (e : E) (t : List ℕ) → Going far.state (lends.first ∷ next.lines) left.tail e t → (more : List ℕ) × (t ≡ piece ++ more)
+      begun_begins piece begun e t (inl (inl long)) = absurd (true≢false (sym long.0 ∙ lends.short))
+      begun_begins piece begun e t (inl (inr stopped)) =
+          begins.stopped (begun_line far.state r.line r.held piece) e t sound begun (subst (λ n. Stops far.state n r.held e t) (sym lends.number) (subst (λ x. Stops far.state lends.first.number x e t) (sym lends.text) stopped.1))
+      begun_begins piece begun e t (inr o) =
+          let m = begins.taken (begun_line far.state r.line r.held piece) o.0 o.1 sound begun (subst (λ n. Takes far.state n r.held o.0 o.1) (sym lends.number) (subst (λ x. Takes far.state lends.first.number x o.0 o.1) (sym lends.text) o.3.1)) in
+          (m.0 ++ o.2, o.5 ∙ (ap (λ x. x ++ o.2) m.1 ∙ append_assoc piece m.0 o.2))
 
-    -- the next line is not taken
-    pub line_stops : {F : Type 0} (end_of : F → Option E) (f : LinesFault F) → IsStoppedBy Takes Stops end_of far.state r.line r.held due f now new → AreStopped (Stopping s all.lines all.tail) (Going s all.lines all.tail) (end_at ends end_of f) old new
-    line_stops end_of (Stopped f) why = from_here (end_of f)
-        (λ e is. (why.0, subst (λ ls. Stopping far.state ls left.tail e why.0) (sym lends.left) (inl (stopped_line e why.0 (why.1 e is))), put_behind why.0 why.3))
-        (λ e t going. told (end_of f) refl e t going)
-      where
-        told : (o : Option E) → end_of f ≡ o → (e : E) (t : List ℕ) → Going far.state left.lines left.tail e t → IsBegun (far.text ++ t) old new
-        told None is e t going = begun_of (far.text ++ why.0) (far.text ++ t) t old new (ap (λ x. x ++ t) (sym (append-nil far.text) ∙ ap (λ x. far.text ++ x) (sym (why.2 is)))) (all_begun (far.text ++ why.0) old new (put_behind why.0 why.3))
-        told (Some d) is e t going = subst (λ x. IsBegun (far.text ++ x) old new) (sym (made_here d why.0 (why.1 d is) e t going)) (all_begun (far.text ++ why.0) old new (put_behind why.0 why.3))
-    line_stops end_of (Halted h) why = subst (λ z. AreStopped (Stopping s all.lines all.tail) (Going s all.lines all.tail) (halt_end ends z) old new) (sym why.0) (from_here None
-        (λ e is. absurd (none_some is))
-        (λ e t going.
-        let m = made_begins why.1.0 why.1.1 e t going in
-        begun_of (far.text ++ why.1.0) (far.text ++ t) m.0 old new (ap (λ x. far.text ++ x) m.1 ∙ sym (append_assoc far.text why.1.0 m.0)) (begun_behind why.1.0 why.1.2)))
+      -- so does what it may have made
+      made_begins : (piece : List ℕ) → (((d : E) × Stops far.state r.line r.held d piece) ⊎ Begins (begun_line far.state r.line r.held piece)) → (e : E) (t : List ℕ) → Going far.state left.lines left.tail e t → (more : List ℕ) × (t ≡ piece ++ more)
+      made_begins piece (inl stopped) e t going = ([], made_here stopped.0 piece stopped.1 e t going ∙ sym (append-nil piece))
+      made_begins piece (inr begun) e t going = begun_begins piece begun e t (subst (λ ls. Going far.state ls left.tail e t) lends.left going)
+
+      -- a beginning of what it may have made was put
+      begun_put : (piece : List ℕ) → (((d : E) × Stops far.state r.line r.held d piece) ⊎ Begins (begun_line far.state r.line r.held piece)) → IsBegun (due ++ piece) now new → (e : E) (t : List ℕ) → Going far.state left.lines left.tail e t → IsBegun (far.text ++ t) old new
+      begun_put piece may begun e t going =
+          let m = made_begins piece may e t going in
+          begun_of (far.text ++ piece) (far.text ++ t) m.0 old new (ap (λ x. far.text ++ x) m.1 ∙ sym (append_assoc far.text piece m.0)) (begun_behind piece begun)
+
+      -- the next line is not taken
+      pub line_stops : {F : Type 0} (end_of : F → Option E) (f : LinesFault F) → IsStoppedBy (Stops far.state r.line r.held) (λ piece. Begins (begun_line far.state r.line r.held piece)) end_of due f now new → AreStopped (Stopping s all.lines all.tail) (Going s all.lines all.tail) (end_at ends end_of f) old new
+      line_stops end_of (Stopped f) why = from_here (end_of f)
+          (λ e is. (why.0, subst (λ ls. Stopping far.state ls left.tail e why.0) (sym lends.left) (inl (stopped_line e why.0 (why.1 e is))), put_behind why.0 why.3))
+          (begun_put why.0 (told_or (λ d. Stops far.state r.line r.held d why.0) end_of f why.1 why.2) (all_begun (due ++ why.0) now new why.3))
+      line_stops end_of (Halted h) why = subst (λ z. AreStopped (Stopping s all.lines all.tail) (Going s all.lines all.tail) (halt_end ends z) old new) (sym why.0) (from_here None (λ e is. absurd (none_some is)) (begun_put why.1.0 why.1.1 why.1.2))
 
   module _ (at_end : Ends left AtEnd) where
     -- what is left is the end of a whole file

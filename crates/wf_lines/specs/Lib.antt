@@ -1,2 +1,3 @@
+pub mod BegunLines
 pub mod LineStages
 pub mod Taking

@@ -1,5 +1,5 @@
 -- What the lines of a file make, one after the other: each stops the stage, or leaves a state and a text to those behind it.
-use Rattle.std.specs.Prelude.{◌≡◌, ◌⊎◌, ℕ, Bool, true, false, List, [], ◌∷◌, ◌++◌}
+use Rattle.std.specs.Prelude.{◌≡◌, ◌⊎◌, ℕ, true, false, List, [], ◌∷◌, ◌++◌}
 use Rattle.wf_io.specs.Lines.{Line, Tail, AtEnd, Broken, LongFile, is_too_long, text_of}
 
 -- the ends that lines come to whatever takes them: the line of a number is too long; the file goes on past the most bytes that are read of it, in the line of a number; the file is broken

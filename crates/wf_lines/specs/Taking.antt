@@ -1,11 +1,11 @@
 -- What taking the lines of a file promises.
-use Rattle.std.specs.Prelude.{◌≡◌, ◌⊎◌, ◌≤◌, ℕ, Bool, true, List, [], ◌∷◌, ◌++◌, length, take, Option, Some, None, Result, MatchResult}
+use Rattle.std.specs.Prelude.{◌≡◌, ◌⊎◌, ℕ, Bool, true, List, [], ◌∷◌, ◌++◌, take, Option, Some, None}
 use Rattle.wf_io.specs.Told.{Rose, Appended}
 use Rattle.wf_io.specs.Lines.{Line, FileLines, Tail, AtEnd, Broken, LongFile, is_too_long}
 use Rattle.wf_io.specs.Readers.{Ends}
 use Rattle.wf_io.specs.declared.lines.LineFault.{LineFault}
 use Rattle.wf_io.specs.declared.lines.LineFault.TheVariants.{LineTooLong as LineTooLongHeld, FileTooLong as FileTooLongHeld, Fault}
-use Rattle.wf_lines.specs.LineStages.{LineEnds, AllTaken, OfLines, ClosesOrGoesOn, IsOneWay, IsClosedOneWay}
+use Rattle.wf_lines.specs.LineStages.{LineEnds}
 use Rattle.wf_lines.specs.declared.fault.Halt.{Halt}
 use Rattle.wf_lines.specs.declared.fault.Halt.TheVariants.{LineTooLong, FileTooLong, ReadFault, WriteFault}
 use Rattle.wf_lines.specs.declared.fault.LinesFault.{LinesFault}
@@ -69,16 +69,12 @@ abbrev pub IsWritingCauseOf : {F : Type 0} → ℕ → ℕ → Bool → LinesFau
 IsWritingCauseOf before after last (Stopped f) = after ≡ before
 IsWritingCauseOf before after last (Halted h) = (h ≡ WriteFault) × Rose before after last
 
--- why a text may be put in part: the line that makes it is taken, or stops what takes it, or nothing is made
-abbrev pub IsMade : {S E : Type 0} → (S → ℕ → List ℕ → S → List ℕ → Type 0) → (S → ℕ → List ℕ → E → List ℕ → Type 0) → S → ℕ → List ℕ → List ℕ → Type 0
-IsMade Takes Stops s n text piece = ((q : _) × Takes s n text q piece) ⊎ (((e : _) × Stops s n text e piece) ⊎ (piece ≡ []))
-
--- what a line that was not taken made and put, behind what is due: the text with which it stopped what takes it, nothing where memory is wanting, and a beginning where writing failed
-abbrev pub IsStoppedBy : {S E F : Type 0} → (S → ℕ → List ℕ → S → List ℕ → Type 0) → (S → ℕ → List ℕ → E → List ℕ → Type 0) → (F → Option E) → S → ℕ → List ℕ → List ℕ → LinesFault F → Option (List ℕ) → Option (List ℕ) → Type 0
-IsStoppedBy Takes Stops end_of s n text due (Stopped f) old new =
-    (piece : List ℕ) × ((e : _) → end_of f ≡ Some e → Stops s n text e piece) × (end_of f ≡ None → piece ≡ []) × Appended (due ++ piece) old new
-IsStoppedBy Takes Stops end_of s n text due (Halted h) old new =
-    (h ≡ WriteFault) × ((piece : List ℕ) × IsMade Takes Stops s n text piece × IsBegun (due ++ piece) old new)
+-- what a line made where it was not taken, and what of this was put, behind what is due: the rest of the text with which it stopped what takes it, where that is told; where memory is wanting, a piece that begins whatever it makes; and a beginning of either where writing failed
+abbrev pub IsStoppedBy : {E F : Type 0} → (E → List ℕ → Type 0) → (List ℕ → Type 0) → (F → Option E) → List ℕ → LinesFault F → Option (List ℕ) → Option (List ℕ) → Type 0
+IsStoppedBy Stops Begins end_of due (Stopped f) old new =
+    (piece : List ℕ) × ((e : _) → end_of f ≡ Some e → Stops e piece) × (end_of f ≡ None → Begins piece) × Appended (due ++ piece) old new
+IsStoppedBy Stops Begins end_of due (Halted h) old new =
+    (h ≡ WriteFault) × ((piece : List ℕ) × (((e : _) × Stops e piece) ⊎ Begins piece) × IsBegun (due ++ piece) old new)
 
 -- so where the end of a whole file stopped what takes it
 abbrev pub IsStoppedAtEnd : {S E F : Type 0} → (S → List ℕ → Type 0) → (S → E → List ℕ → Type 0) → (F → Option E) → S → List ℕ → LinesFault F → Option (List ℕ) → Option (List ℕ) → Type 0

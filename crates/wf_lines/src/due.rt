@@ -67,6 +67,7 @@ impl Due {
     /// Puts what is due to make room for a text, which then is due alone; a text that is longer than the room is put at once.
     fn renew<O: Sink>(&mut self, out: &mut O, text: &[u8]) -> Result<(), Failed>
         ensures ok { OnOk result (IsDue (self.old ++ text.now) self.new (O.put_bytes out.old) (O.put_bytes out.new)) }
+        ensures short { OnOk result (length self.new ≤ 65536) }
         ensures err { IsErr result → IsBegun (self.old ++ text.now) (O.put_bytes out.old) (O.put_bytes out.new) }
         ensures same { OnOk result (O.faults out.new ≡ O.faults out.old) }
         ensures later { O.faults out.old ≤ O.faults out.new }
@@ -86,6 +87,7 @@ impl Due {
     /// A text is due behind what is: it is gathered, or what is due is put first to make room.
     pub fn add<O: Sink>(&mut self, out: &mut O, text: &[u8]) -> Result<(), Failed>
         ensures ok { OnOk result (IsDue (self.old ++ text.now) self.new (O.put_bytes out.old) (O.put_bytes out.new)) }
+        ensures short { OnOk result (length self.new ≤ 65536) }
         ensures err { IsErr result → IsBegun (self.old ++ text.now) (O.put_bytes out.old) (O.put_bytes out.new) }
         ensures same { OnOk result (O.faults out.new ≡ O.faults out.old) }
         ensures later { O.faults out.old ≤ O.faults out.new }

@@ -1,10 +1,11 @@
 // What takes lines.
-ghost use Rattle.std.specs.Prelude.{◌≡◌, ◌≢◌, ℕ, List, [], Option, None, Some, IfErr, OnOk};
+ghost use Rattle.std.specs.Prelude.{◌≡◌, ◌≤◌, ◌+◌, ℕ, true, false, cond, List, [], ◌++◌, Option, None, Some, IfOk, IfErr, OnOk};
 ghost use Rattle.wf_lines.specs.LineStages.{LineEnds};
+ghost use Rattle.wf_lines.specs.BegunLines.{BegunLine, begun_line, further};
 
 /// What takes the lines of a file, one after the other.
 ///
-/// It is in a state. The text of a line leaves a state and makes a text, or stops it; so does the end of a whole file.
+/// It is in a state. The text of a line leaves a state and makes a text, or stops it; so does the end of a whole file. The text that a line makes comes piece by piece: `take` begins the line and makes the first piece, and each `more` makes one piece of those that are held, until none is left.
 pub trait Taker {
     /// Why a line, or the end of the file, stops it.
     type Fault: Drop;
@@ -30,6 +31,15 @@ pub trait Taker {
     /// Whether the text of the line of a number stops it in this end, with this text.
     ghost stops: { State → ℕ → List ℕ → End → List ℕ → Type 0 };
 
+    /// Whether what a line made so far begins each text that it may make.
+    ghost begins: { BegunLine State → Type 0 };
+
+    /// Whether this line is begun, and made this so far.
+    ghost is_within: { Self → BegunLine State → Type 0 };
+
+    /// How many pieces are held, which this line or a later one makes.
+    ghost left: { Self → ℕ };
+
     /// Whether the end of a whole file makes this text.
     ghost finishes: { State → List ℕ → Type 0 };
 
@@ -48,7 +58,7 @@ pub trait Taker {
     /// Whether memory may be wanting.
     ghost wants_memory: { Type 0 };
 
-    /// The text that the last line, or the end of the file, made.
+    /// The piece that was made last.
     ghost made: { Self → List ℕ };
 
     /// What may be known of it. What is known stays known, whatever it takes.
@@ -57,13 +67,31 @@ pub trait Taker {
     /// Whether this is known of it.
     ghost is_known: { Self → Known → Type 0 };
 
-    /// Takes the text of the line of a number, from 1.
+    /// Begins the line of a number, from 1, which has this text, and makes its first piece. None of the pieces that are held is made.
     fn take(&mut self, number: u64, text: &[u8]) -> Result<(), Self::Fault>
         requires { is_ready self.old }
         ensures ready { OnOk result (is_ready self.new) }
-        ensures taken { OnOk result ((s : State) → is_at self.old s → (q : State) × takes s number text.now q (made self.new) × is_at self.new q) }
+        ensures within { OnOk result ((s : State) → is_at self.old s → is_within self.new (begun_line s number text.now (made self.new))) }
+        ensures begins { OnOk result ((s : State) → is_at self.old s → begins (begun_line s number text.now (made self.new))) }
+        ensures left { OnOk result (left self.old ≤ left self.new) }
         ensures stopped { IfErr result (λ f. (e : End) → end_of f ≡ Some e → (s : State) → is_at self.old s → stops s number text.now e (made self.new)) }
-        ensures memory { IfErr result (λ f. end_of f ≡ None → wants_memory × (made self.new ≡ [])) }
+        ensures memory { IfErr result (λ f. end_of f ≡ None → wants_memory) }
+        ensures wanting { IfErr result (λ f. end_of f ≡ None → (s : State) → is_at self.old s → begins (begun_line s number text.now (made self.new))) }
+        ensures fault { IfErr result is_fault }
+        ensures known { (k : Known) → is_known self.old k → is_known self.new k };
+
+    /// Makes one piece more of the line that is begun, of those that are held. False where none is left that the line sets free: then the line is taken.
+    fn more(&mut self) -> Result<bool, Self::Fault>
+        requires { is_ready self.old }
+        ensures ready { OnOk result (is_ready self.new) }
+        ensures one { IfOk result (λ more. left self.old ≡ left self.new + cond more 1 0) }
+        ensures within { IfOk result (λ more. more ≡ true → (p : BegunLine State) → is_within self.old p → is_within self.new (further p (made self.new))) }
+        ensures taken { IfOk result (λ more. more ≡ false → (p : BegunLine State) → is_within self.old p →
+            (q : State) × takes p.state p.number p.text q (p.made ++ made self.new) × is_at self.new q) }
+        ensures begins { OnOk result ((p : BegunLine State) → is_within self.old p → begins (further p (made self.new))) }
+        ensures stopped { IfErr result (λ f. (e : End) → end_of f ≡ Some e → (p : BegunLine State) → is_within self.old p → stops p.state p.number p.text e (p.made ++ made self.new)) }
+        ensures memory { IfErr result (λ f. end_of f ≡ None → wants_memory) }
+        ensures wanting { IfErr result (λ f. end_of f ≡ None → (p : BegunLine State) → is_within self.old p → begins (further p (made self.new))) }
         ensures fault { IfErr result is_fault }
         ensures known { (k : Known) → is_known self.old k → is_known self.new k };
 
@@ -76,7 +104,7 @@ pub trait Taker {
         ensures fault { IfErr result is_fault }
         ensures known { (k : Known) → is_known self.old k → is_known self.new k };
 
-    /// The text that the last line, or the end of the file, made.
+    /// The piece that was made last.
     fn made(&self) -> &[u8]
         ensures { result.now ≡ made self.now };
 }

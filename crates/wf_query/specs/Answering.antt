@@ -7,12 +7,17 @@ use Rattle.wf_query.specs.declared.answering.QueryFault.{QueryFault}
 use Rattle.wf_query.specs.declared.answering.QueryFault.TheVariants.{Wrong, NoMemory as WantsMemory}
 use Rattle.wf_query.specs.declared.batching.BatchFault.{BatchFault}
 use Rattle.wf_query.specs.declared.batching.BatchFault.TheVariants.{LineWrong, LineTooLong, FileTooLong, ReadFault, WriteFault, NoMemory}
-use Rattle.wf_query.specs.Lines.{Ended, WrongAt}
+use Rattle.wf_lines.specs.BegunLines.{BegunLine}
+use Rattle.wf_query.specs.Lines.{Ended, WrongAt, TakesQuery}
 
 -- the end that a query makes that is not answered; want of memory is none
 abbrev pub query_end : QueryFault → Option Ended
 query_end (Wrong line) = Some (WrongAt line)
 query_end WantsMemory = None
+
+-- the text of a line is answered by what is known, with all that was made of it
+abbrev pub IsAnswered : {K : Type 0} → (K → List ℕ → List ℕ → List ℕ → Type 0) → BegunLine K → Type 0
+IsAnswered Words p = TakesQuery Words p.state p.number p.text p.state p.made
 
 -- the end of a whole file makes no text
 abbrev pub MakesNothing : {K : Type 0} → K → List ℕ → Type 0

@@ -1,7 +1,8 @@
 // What answers queries, as what takes the lines of a file.
 ghost use Rattle.std.specs.Prelude.{◌≡◌, ◌++◌, [], codes};
+ghost use Rattle.wf_lines.specs.BegunLines.{MakesAtOnce};
 ghost use Rattle.wf_query.specs.Lines.{Ended, IsOneWord, TakesQuery, StopsQueries, query_ends};
-ghost use Rattle.wf_query.specs.Answering.{NeverStops, Kept, MakesNothing, query_end};
+ghost use Rattle.wf_query.specs.Answering.{IsAnswered, NeverStops, Kept, MakesNothing, query_end};
 
 use crate::answerer::Answerer;
 use crate::answers::line_of;
@@ -17,7 +18,7 @@ pub(crate) enum QueryFault {
     NoMemory,
 }
 
-/// What answers queries, and the line of the last answer.
+/// What answers queries, and the line of the last answer. A query makes its line at once.
 pub(crate) struct Answering<'a, A> {
     pub(crate) answerer: &'a mut A,
     pub(crate) made: &'static [u8],
@@ -39,6 +40,12 @@ impl<A: Answerer> Taker for Answering<'_, A> {
     ghost takes = { TakesQuery A.words };
 
     ghost stops = { StopsQueries };
+
+    ghost begins = { MakesAtOnce (TakesQuery A.words) };
+
+    ghost is_within = { λ s p. IsAnswered A.words p × A.is_known s.answerer.now p.state };
+
+    ghost left = { λ s. 0 };
 
     ghost finishes = { MakesNothing };
 
@@ -66,6 +73,11 @@ impl<A: Answerer> Taker for Answering<'_, A> {
         };
         self.made = line_of(told);
         Ok(())
+    }
+
+    fn more(&mut self) -> Result<bool, QueryFault> {
+        self.made = b"";
+        Ok(false)
     }
 
     fn finish(&mut self) -> Result<(), QueryFault> {

@@ -12,3 +12,4 @@ pub mod OneCycles
 pub mod OneLoops
 pub mod LinearOrLoops
 pub mod SomeCycles
+pub mod OneTable

@@ -1,11 +1,11 @@
 -- A well-formed grammar is strictly linear, or has two loops of one module.
-use Rattle.std.proofs.Common.{◌≡◌, ◌≢◌, ◌⊎◌, ℕ, ◌<◌, ◌≤◌, length, refl, sym, ap, ◌∙◌, subst, inl, inr, ⊎_elim, arith}
+use Rattle.std.proofs.Common.{◌≡◌, ◌≢◌, ◌⊎◌, ℕ, ◌<◌, length, sym, ◌∙◌, subst, inl, inr, ⊎_elim, arith}
 use Rattle.std.proofs.lemmas.Bool.{cases_lt}
 use Rattle.wf_model.specs.declared.body.Step.{Step as StepHeld}
 use Rattle.wf_model.specs.Grammar.{Grammar, head_of, body_of}
 use Rattle.wf_model.specs.WellFormed.{IsWellFormed}
 use Rattle.wf_model.specs.Reach.{Step, target_of}
-use Rattle.wf_model.specs.Linear.{IsStepOf, Continues, IsLinear}
+use Rattle.wf_model.specs.Linear.{Continues, IsLinear}
 use Rattle.wf_model.proofs.Composites.{composite_below}
 use Rattle.wf_model.proofs.Deciding.{Either, IsFirst, either_same, either_not, either_both, number_either, below_either, test_either, some_below, first_below}
 use Rattle.wf_model.proofs.Going.{same_step}
@@ -14,7 +14,7 @@ use Rattle.label_model.proofs.Deriving.{derives_law}
 use Rattle.label_model.proofs.LabelOrNot.{step_either}
 use Rattle.wf_recur.specs.declared.fault.RecurFault.{RecurFault}
 use Rattle.wf_recur.specs.declared.fault.RecurFault.TheVariants.{TwoLoops}
-use Rattle.wf_recur.specs.Loops.{IsBefore, HasOneLoop, IsTwoLoops, IsFaultOf}
+use Rattle.wf_recur.specs.Loops.{IsBefore, HasOneLoop, IsFaultOf}
 
 -- the step s stands before each other of which this is so
 record IsFirstStep (P : Step → Type 0) (s : Step) : Type 0 where

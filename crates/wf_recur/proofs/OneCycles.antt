@@ -49,7 +49,7 @@ same_seen o p a b s =
     ∙ (ap (λ k. record { cycle = p.cycle; place = k; step = o.step }) b ∙ ap (λ k. record { cycle = p.cycle; place = p.place; step = k }) s)
 
 module _ (g : Grammar) (linear : IsLinear g) (c d : CyclesSeen) (p : AreCyclesOf g c) (q : AreCyclesOf g d) where
-  same_leasts : map least_of c.rounds ≡ map least_of d.rounds
+  pub same_leasts : map least_of c.rounds ≡ map least_of d.rounds
   same_leasts =
       same_rising (map least_of c.rounds) (map least_of d.rounds) p.numbered.in_order q.numbered.in_order
       (λ z. ((λ i. q.numbered.all z (p.numbered.each z i)), (λ i. p.numbered.all z (q.numbered.each z i))))

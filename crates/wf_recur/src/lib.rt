@@ -2,6 +2,7 @@
 #![tactic(auto)]
 
 mod fault;
+mod linear_grammar;
 mod reach;
 mod rounds;
 mod search;
@@ -9,6 +10,7 @@ mod steps;
 mod table;
 
 pub use fault::RecurFault;
+pub use linear_grammar::Linear;
 pub use search::cycles;
 pub use steps::target;
 pub use table::{CycleNo, Cycles, OnCycle};

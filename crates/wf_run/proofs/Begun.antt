@@ -9,7 +9,6 @@ use Rattle.wf_model.specs.Faults.{is_nil, fault_of}
 use Rattle.wf_model.proofs.Taking.{skipped, taking_law}
 use Rattle.run_faults.proofs.Beginnings.{begun_with}
 use Rattle.wf_spec.specs.Held.{HeldGrammar}
-use Rattle.wf_recur.specs.Cycles.{CyclesSeen}
 use Rattle.wf_run.specs.declared.node.Node.{Node as NodeHeld}
 use Rattle.wf_run.specs.Runs.{Node, RunSeen, IsRunOf, GoesOn}
 use Rattle.wf_run.specs.Nodes.{node_of, run_of, IsFilledPrefix, IsRunKept}
@@ -50,11 +49,10 @@ module _ (g : HeldGrammar) (most : ℕ) (names new : List (List ℕ)) (nodes : L
       ∙ (ap (λ (n : Node). record { grammar = g; most = most; names = name ∷ []; nodes = n ∷ []; expands = expands }) root
       ∙ ap (λ z. started_run z name) v))
 
-  pub begun_kept : (c : CyclesSeen) → IsWellFormed g.core → IsFilledPrefix x → IsRunKept (run_of g most names nodes expands) c nodes → (r : RunSeen) → run_of g most names nodes expands ≡ r →
-      ((events : List Event) → IsRunOf r events → fault_of r.grammar.core r.most events (Start name) ≡ None) → IsRunKept (run_of g most new xs expands) c xs
-  begun_kept c formed filled k r v taken = record {
+  pub begun_kept : IsWellFormed g.core → IsFilledPrefix x → IsRunKept (run_of g most names nodes expands) nodes → (r : RunSeen) → run_of g most names nodes expands ≡ r →
+      ((events : List Event) → IsRunOf r events → fault_of r.grammar.core r.most events (Start name) ≡ None) → IsRunKept (run_of g most new xs expands) xs
+  begun_kept formed filled k r v taken = record {
     linear = k.linear;
-    cycles = k.cycles;
     most = k.most;
     filled = alone;
     events = k.events ++ Start name ∷ [];

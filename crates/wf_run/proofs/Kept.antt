@@ -7,7 +7,6 @@ use Rattle.wf_model.specs.Faults.{some_twice}
 use Rattle.wf_model.proofs.Lists.{in_at, at_below, at_is, in_map}
 use Rattle.bit_pack.specs.Written.{IsWhole}
 use Rattle.wf_spec.specs.Held.{HeldGrammar}
-use Rattle.wf_recur.specs.Cycles.{CyclesSeen}
 use Rattle.wf_run.specs.declared.node.Node.{Node as NodeHeld}
 use Rattle.wf_run.specs.Runs.{Node, RunSeen, node_at, name_at, IsRunOf}
 use Rattle.wf_run.specs.Nodes.{node_of, run_of, IsRunKept}
@@ -32,15 +31,14 @@ module _ (g : HeldGrammar) (most : ℕ) (names : List (List ℕ)) (nodes after :
       ap (λ l. record { grammar = g; most = most; names = names ++ new; nodes = l; expands = expands + 1 }) map_is ∙
       ap (λ n. record { grammar = g; most = most; names = names ++ new; nodes = opened_nodes g.core (map node_of nodes) k p (held_at nodes k) (length new); expands = n }) e
 
-  pub kept_after : (c : CyclesSeen) → IsWellFormed g.core → IsRunKept (run_of g most names nodes expands) c nodes → CanOpen (run_of g most names nodes expands) k p new → some_twice names new ≡ false →
-      ((n : NodeHeld) → IsIn n after → IsWhole n.bytes.now n.length) → IsRunKept (run_of g most (names ++ new) after (expands + 1)) c after
-  kept_after c wf kept opens fresh whole =
+  pub kept_after : IsWellFormed g.core → IsRunKept (run_of g most names nodes expands) nodes → CanOpen (run_of g most names nodes expands) k p new → some_twice names new ≡ false →
+      ((n : NodeHeld) → IsIn n after → IsWhole n.bytes.now n.length) → IsRunKept (run_of g most (names ++ new) after (expands + 1)) after
+  kept_after wf kept opens fresh whole =
       let r = run_of g most names nodes expands in
       let next = opened r kept.events k p new wf kept.run opens.there (opens.left kept.events kept.run ∙ none_twice names new fresh) in
       let few = prefix_small (opened_run r k p new) _ wf next kept.most kept.linear in
       record {
         linear = kept.linear;
-        cycles = kept.cycles;
         most = kept.most;
         filled = λ n i. record { whole = whole n i; few = few_bits (opened_run r k p new) after map_is few n i (whole n i) };
         events = kept.events ++ Expand (name_at r k) p new ∷ [];

@@ -5,7 +5,6 @@ use Rattle.wf_model.specs.declared.event.Event.{Event}
 use Rattle.wf_model.specs.Linear.{IsLinear}
 use Rattle.bit_pack.specs.Written.{first_bits, IsWhole}
 use Rattle.wf_spec.specs.Held.{HeldGrammar}
-use Rattle.wf_recur.specs.Cycles.{CyclesSeen, AreCyclesOf}
 use Rattle.wf_run.specs.declared.chain.Chain.{Chain}
 use Rattle.wf_run.specs.declared.node.Node.{Node as NodeHeld}
 use Rattle.wf_run.specs.Runs.{Node, RunSeen, IsRunOf}
@@ -38,9 +37,8 @@ pub record IsFilledPrefix (n : NodeHeld) : Type 0 where
   pub few : n.length < 2 ^ 17
 
 -- what the fields of a run keep: the grammar is strictly linear, the bytes of each prefix are filled, and the run is that of some events
-pub record IsRunKept (r : RunSeen) (c : CyclesSeen) (nodes : List NodeHeld) : Type 0 where
+pub record IsRunKept (r : RunSeen) (nodes : List NodeHeld) : Type 0 where
   pub linear : IsLinear r.grammar.core
-  pub cycles : AreCyclesOf r.grammar.core c
   pub most : r.most ≤ 2 ^ 24
   pub filled : (n : NodeHeld) → IsIn n nodes → IsFilledPrefix n
   pub events : List Event

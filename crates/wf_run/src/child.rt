@@ -1,12 +1,11 @@
 // The nodes of children.
 ghost use Rattle.std.specs.Prelude.{◌≡◌, ◌<◌, ◌≤◌, ◌+◌, ◌^◌, ◌++◌, None, length, option_map, get_or, IfOk, IfSome};
 ghost use Rattle.wf_model.specs.Grammar.{body_of};
-ghost use Rattle.wf_model.specs.Linear.{IsLinear};
 ghost use Rattle.bit_pack.specs.Written.{first_bits, IsWhole};
 ghost use Rattle.label_model.specs.Continuing.{is_step};
 ghost use Rattle.label_model.specs.Labels.{step_bits};
 ghost use Rattle.label_model.specs.Places.{chain_by};
-ghost use Rattle.wf_recur.specs.Cycles.{AreCyclesOf, step_of};
+ghost use Rattle.wf_recur.specs.Cycles.{step_of};
 ghost use Rattle.wf_label.specs.Values.{place_step_of};
 ghost use Rattle.wf_run.specs.Nodes.{node_of};
 ghost use Rattle.wf_run.specs.Opening.{child_prefix, child_node};
@@ -18,8 +17,8 @@ use crate::prefix::PrefixRef;
 use bumpalo::Bump;
 use std::alloc::{AllocError, Global};
 use wf_label::{PlaceStep, with_step};
-use wf_recur::{Cycles, target};
-use wf_spec::{Grammar, ModNo, Step};
+use wf_recur::{Cycles, Linear, target};
+use wf_spec::{ModNo, Step};
 
 /// Whether a step is the continuing step of a module.
 fn is_continuing(cycles: &Cycles, m: ModNo, step: Step) -> bool
@@ -80,30 +79,27 @@ fn spelled<'a>(
 fn child_prefix<'a>(
     alloc: Global,
     arena: &'a Bump,
-    g: &Grammar,
-    cycles: &Cycles,
+    g: Linear<'_>,
     parent: PrefixRef<'a>,
     step: Step,
 ) -> Result<PrefixRef<'a>, AllocError>
-    requires production { step.production.0 < length g.now.core.productions }
-    requires position { step.position.0 < length (body_of g.now.core step.production.0) }
-    requires linear { IsLinear g.now.core }
-    requires cycles { AreCyclesOf g.now.core cycles.now }
+    requires production { step.production.0 < length g.grammar.now.core.productions }
+    requires position { step.position.0 < length (body_of g.grammar.now.core step.production.0) }
     requires parent { CanGoOn parent }
-    ensures prefix { IfOk result (λ r. prefix_of r ≡ child_prefix g.now.core (step_of step) (prefix_of parent.entry)) }
+    ensures prefix { IfOk result (λ r. prefix_of r ≡ child_prefix g.entry.grammar.now.core (step_of step) (prefix_of parent.entry)) }
     ensures whole { IfOk result (λ r. IsWhole r.bytes.now r.length) }
     ensures chain { IfOk result (λ r. IfSome r.chain (λ c. c ≤ 2 ^ 24)) }
 {
-    let m = target(g, step);
-    if !g.is_composite(m) {
+    let m = target(g.grammar, step);
+    if !g.grammar.is_composite(m) {
         return Ok(PrefixRef {
             bytes: &[],
             length: 0,
             chain: None,
         });
     }
-    let rule = g.production(step.production);
-    if is_continuing(cycles, rule.head(), step) {
+    let rule = g.grammar.production(step.production);
+    if is_continuing(g.cycles, rule.head(), step) {
         return Ok(PrefixRef {
             bytes: parent.bytes,
             length: parent.length,
@@ -119,7 +115,7 @@ fn child_prefix<'a>(
     Ok(PrefixRef {
         bytes,
         length,
-        chain: begun(cycles, m),
+        chain: begun(g.cycles, m),
     })
 }
 
@@ -129,26 +125,23 @@ fn child_prefix<'a>(
 pub(crate) fn child<'a>(
     alloc: Global,
     arena: &'a Bump,
-    g: &Grammar,
-    cycles: &Cycles,
+    g: Linear<'_>,
     parent: PrefixRef<'a>,
     step: Step,
 ) -> Result<Node<'a>, AllocError>
-    requires production { step.production.0 < length g.now.core.productions }
-    requires position { step.position.0 < length (body_of g.now.core step.production.0) }
-    requires linear { IsLinear g.now.core }
-    requires cycles { AreCyclesOf g.now.core cycles.now }
+    requires production { step.production.0 < length g.grammar.now.core.productions }
+    requires position { step.position.0 < length (body_of g.grammar.now.core step.production.0) }
     requires parent { CanGoOn parent }
-    ensures node { IfOk result (λ n. node_of n ≡ child_node g.now.core step.production.0 (prefix_of parent.entry) step.position.0) }
+    ensures node { IfOk result (λ n. node_of n ≡ child_node g.entry.grammar.now.core step.production.0 (prefix_of parent.entry) step.position.0) }
     ensures whole { IfOk result (λ n. IsWhole n.bytes.now n.length) }
 {
-    let prefix = child_prefix(alloc, arena, g, cycles, parent, step)?;
+    let prefix = child_prefix(alloc, arena, g, parent, step)?;
     Ok(Node {
         bytes: prefix.bytes,
         chain: Chain::new(prefix.chain),
         length: prefix.length,
         first_child: 0,
-        module: target(g, step),
+        module: target(g.grammar, step),
         children: 0,
     })
 }

@@ -2,10 +2,8 @@
 ghost use Rattle.std.specs.Prelude.{◌≡◌, ◌<◌, ◌≤◌, ◌+◌, ◌^◌, ◌++◌, false, length, take, map, IfErr, IfSome, OnOk, OnErr};
 ghost use Rattle.wf_model.specs.Lists.{IsIn};
 ghost use Rattle.wf_model.specs.Grammar.{body_of};
-ghost use Rattle.wf_model.specs.Linear.{IsLinear};
 ghost use Rattle.wf_model.specs.Faults.{some_twice};
 ghost use Rattle.bit_pack.specs.Written.{IsWhole};
-ghost use Rattle.wf_recur.specs.Cycles.{AreCyclesOf};
 ghost use Rattle.wf_run.specs.declared.node.Node.{Node as NodeHeld};
 ghost use Rattle.wf_run.specs.Names.{AreNamesRefused};
 ghost use Rattle.wf_run.specs.Nodes.{node_of, IsFilledPrefix};
@@ -18,32 +16,29 @@ use crate::node::{Node, NodeNo};
 use crate::prefix::PrefixRef;
 use bumpalo::Bump;
 use std::alloc::{AllocError, Global};
-use wf_recur::Cycles;
-use wf_spec::{Grammar, Name, PosNo, ProdNo, RunFault, Step};
+use wf_recur::Linear;
+use wf_spec::{Name, PosNo, ProdNo, RunFault, Step};
 
 /// Appends the nodes of the children that a production makes. After an error some of them may be there.
 fn append_children<'a>(
     alloc: Global,
     arena: &'a Bump,
-    g: &Grammar,
-    cycles: &Cycles,
+    g: Linear<'_>,
     nodes: &mut Vec<Node<'a>>,
     parent: PrefixRef<'a>,
     p: ProdNo,
 ) -> Result<(), AllocError>
-    requires production { p.0 < length g.now.core.productions }
-    requires linear { IsLinear g.now.core }
-    requires cycles { AreCyclesOf g.now.core cycles.now }
+    requires production { p.0 < length g.grammar.now.core.productions }
     requires parent { CanGoOn parent }
-    ensures added { OnOk result (AddsChildren g.now.core p.0 (prefix_of parent.entry) (length (body_of g.now.core p.0)) nodes.old.items nodes.new.items) }
+    ensures added { OnOk result (AddsChildren g.entry.grammar.now.core p.0 (prefix_of parent.entry) (length (body_of g.entry.grammar.now.core p.0)) nodes.old.items nodes.new.items) }
     ensures begins { OnErr result (take (length nodes.old.items) nodes.new.items ≡ nodes.old.items) }
 {
-    for j in 0..g.production(p).positions().len() {
+    for j in 0..g.grammar.production(p).positions().len() {
         let step = Step {
             production: p,
             position: PosNo(j as u8),
         };
-        let node = child(alloc, arena, g, cycles, parent, step)?;
+        let node = child(alloc, arena, g, parent, step)?;
         nodes.push(node)?;
     }
     Ok(())
@@ -63,23 +58,20 @@ pub(crate) struct Expansion<'n> {
 pub(crate) fn grow<'a>(
     alloc: Global,
     arena: &'a Bump,
-    g: &Grammar,
-    cycles: &Cycles,
+    g: Linear<'_>,
     taken: &mut PlacedNames<'a>,
     nodes: &mut Vec<Node<'a>>,
     e: Expansion,
 ) -> Result<(), RunFault>
     requires there { e.instance.0 < length nodes.old.items }
-    requires production { e.production.0 < length g.now.core.productions }
-    requires one_each { length e.names.now ≡ length (body_of g.now.core e.production.0) }
+    requires production { e.production.0 < length g.grammar.now.core.productions }
+    requires one_each { length e.names.now ≡ length (body_of g.grammar.now.core e.production.0) }
     requires room { length nodes.old.items + length e.names.now ≤ 2 ^ 24 }
-    requires linear { IsLinear g.now.core }
-    requires cycles { AreCyclesOf g.now.core cycles.now }
     requires filled { (n : NodeHeld) → IsIn n nodes.old.items → IsFilledPrefix n }
     requires chain { IfSome (held_at nodes.old.items e.instance.0).chain (λ c. c < 2 ^ 24) }
     ensures fresh { OnOk result (some_twice taken.old e.entry.names.now ≡ false) }
     ensures names { OnOk result (taken.new ≡ taken.old ++ e.entry.names.now) }
-    ensures nodes { OnOk result (map node_of nodes.new.items ≡ opened_nodes g.now.core
+    ensures nodes { OnOk result (map node_of nodes.new.items ≡ opened_nodes g.entry.grammar.now.core
         (map node_of nodes.old.items) e.entry.instance.0 e.entry.production.0 (held_at nodes.old.items e.entry.instance.0) (length e.entry.names.now)) }
     ensures whole { OnOk result ((n : NodeHeld) → IsIn n nodes.new.items → IsWhole n.bytes.now n.length) }
     ensures refused { IfErr result (AreNamesRefused taken.old e.entry.names.now) }
@@ -87,14 +79,14 @@ pub(crate) fn grow<'a>(
     ensures same_nodes { OnErr result (nodes.new.items ≡ nodes.old.items) }
 {
     let before = nodes.len();
-    let count = g.production(e.production).positions().len() as u8;
+    let count = g.grammar.production(e.production).positions().len() as u8;
     let node = nodes[e.instance.0 as usize];
     let parent = PrefixRef {
         bytes: node.bytes,
         length: node.length,
         chain: node.chain.number(),
     };
-    if let Err(_) = append_children(alloc, arena, g, cycles, nodes, parent, e.production) {
+    if let Err(_) = append_children(alloc, arena, g, nodes, parent, e.production) {
         nodes.truncate(before);
         return Err(RunFault::NoMemory);
     }

@@ -1,9 +1,7 @@
 // The first instance of a run.
 ghost use Rattle.std.specs.Prelude.{◌≡◌, ◌∷◌, [], OnOk, IfErr, OnErr};
 ghost use Rattle.wf_model.specs.declared.event.RunFault.TheVariants.{NoMemory};
-ghost use Rattle.wf_model.specs.Linear.{IsLinear};
 ghost use Rattle.wf_model.specs.WellFormed.{IsWellFormed};
-ghost use Rattle.wf_recur.specs.Cycles.{AreCyclesOf};
 ghost use Rattle.wf_run.specs.Nodes.{node_of, IsFilledPrefix};
 ghost use Rattle.wf_run.specs.Opening.{closed_node, root_prefix};
 
@@ -11,19 +9,17 @@ use crate::chain::Chain;
 use crate::child::begun;
 use crate::names::PlacedNames;
 use crate::node::Node;
-use wf_recur::Cycles;
-use wf_spec::{Grammar, RunFault};
+use wf_recur::Linear;
+use wf_spec::RunFault;
 
 /// The root: its prefix has one bit, which is set, and no bits where the start module is atomic.
-pub(crate) fn root<'a>(g: &Grammar, cycles: &Cycles) -> Node<'a>
-    requires linear { IsLinear g.now.core }
-    requires cycles { AreCyclesOf g.now.core cycles.now }
-    ensures node { node_of result ≡ closed_node g.now.core.start (root_prefix g.now.core) }
+pub(crate) fn root<'a>(g: Linear<'_>) -> Node<'a>
+    ensures node { node_of result ≡ closed_node g.entry.grammar.now.core.start (root_prefix g.entry.grammar.now.core) }
     ensures filled { IsFilledPrefix result }
-    ensures formed { IsWellFormed g.now.core }
+    ensures formed { IsWellFormed g.entry.grammar.now.core }
 {
-    let start = g.start();
-    if !g.is_composite(start) {
+    let start = g.grammar.start();
+    if !g.grammar.is_composite(start) {
         return Node {
             bytes: &[],
             chain: Chain::new(None),
@@ -35,7 +31,7 @@ pub(crate) fn root<'a>(g: &Grammar, cycles: &Cycles) -> Node<'a>
     }
     Node {
         bytes: &[128],
-        chain: Chain::new(begun(cycles, start)),
+        chain: Chain::new(begun(g.cycles, start)),
         length: 1,
         first_child: 0,
         module: start,

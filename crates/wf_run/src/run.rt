@@ -10,7 +10,6 @@ ghost use Rattle.wf_model.specs.WellFormed.{IsWellFormed};
 ghost use Rattle.bit_pack.specs.Bits.{packed};
 ghost use Rattle.run_faults.specs.Standing.{IsFound, Fits};
 ghost use Rattle.run_faults.specs.Order.{names_fault};
-ghost use Rattle.wf_recur.specs.Cycles.{AreCyclesOf};
 ghost use Rattle.wf_run.specs.Runs.{RunSeen, node_at, name_at, IsRunOf, GoesOn};
 ghost use Rattle.wf_run.specs.Found.{IsFoundAs};
 ghost use Rattle.wf_run.specs.Opening.{opened_run};
@@ -26,7 +25,7 @@ use bumpalo::Bump;
 use run_faults::{Found, fault_before_names, fault_of_names, start_fault};
 use std::alloc::Global;
 use std::marker::Model;
-use wf_recur::Cycles;
+use wf_recur::Linear;
 use wf_spec::{Grammar, ModNo, Name, ProdNo, RunFault};
 
 /// A run of a strictly linear grammar. Its instances are numbered from 0 in order of making. Names and prefixes lie in an arena, and are placed there once and never written again.
@@ -34,8 +33,7 @@ use wf_spec::{Grammar, ModNo, Name, ProdNo, RunFault};
 pub struct Run<'a> {
     alloc: Global,
     arena: &'a Bump,
-    grammar: &'a Grammar,
-    cycles: &'a Cycles,
+    linear: Linear<'a>,
     most: u32,
     expands: u32,
     names: PlacedNames<'a>,
@@ -48,28 +46,20 @@ impl<'a> Model for Run<'a> {
 
     ghost Value = { RunSeen };
 
-    ghost view = { λ r. run_of r.grammar.now r.most r.names r.nodes.items r.expands };
+    ghost view = { λ r. run_of r.linear.grammar.now r.most r.names r.nodes.items r.expands };
 
-    ghost invariant = { λ r. IsRunKept (run_of r.grammar.now r.most r.names r.nodes.items r.expands) r.cycles.now r.nodes.items };
+    ghost invariant = { λ r. IsRunKept (run_of r.linear.grammar.now r.most r.names r.nodes.items r.expands) r.nodes.items };
 }
 
 impl<'a> Run<'a> {
     /// A run before its start, of at most `most` instances, as `with_key` with the key 0. Takes no memory.
-    pub fn new(
-        alloc: Global,
-        arena: &'a Bump,
-        grammar: &'a Grammar,
-        cycles: &'a Cycles,
-        most: u32,
-    ) -> Run<'a>
-        requires linear { IsLinear grammar.now.core }
-        requires cycles { AreCyclesOf grammar.now.core cycles.now }
+    pub fn new(alloc: Global, arena: &'a Bump, linear: Linear<'a>, most: u32) -> Run<'a>
         requires most { most ≤ 2 ^ 24 }
         ensures run { IsRunOf result [] }
-        ensures grammar { result.grammar ≡ grammar.now }
+        ensures grammar { result.grammar ≡ linear.entry.grammar.now }
         ensures most { result.most ≡ most }
     {
-        Run::with_key(alloc, 0, arena, grammar, cycles, most)
+        Run::with_key(alloc, 0, arena, linear, most)
     }
 
     /// A run before its start, of at most `most` instances, whose names are hashed with this key. Takes no memory.
@@ -77,22 +67,18 @@ impl<'a> Run<'a> {
         alloc: Global,
         key: u64,
         arena: &'a Bump,
-        grammar: &'a Grammar,
-        cycles: &'a Cycles,
+        linear: Linear<'a>,
         most: u32,
     ) -> Run<'a>
-        requires linear { IsLinear grammar.now.core }
-        requires cycles { AreCyclesOf grammar.now.core cycles.now }
         requires most { most ≤ 2 ^ 24 }
         ensures run { IsRunOf result [] }
-        ensures grammar { result.grammar ≡ grammar.now }
+        ensures grammar { result.grammar ≡ linear.entry.grammar.now }
         ensures most { result.most ≡ most }
     {
         Run {
             alloc,
             arena,
-            grammar,
-            cycles,
+            linear,
             most,
             expands: 0,
             names: PlacedNames::with_key(alloc, key, arena),
@@ -106,7 +92,7 @@ impl<'a> Run<'a> {
         ensures linear { IsLinear self.now.grammar.core }
         ensures most { self.now.most ≤ 2 ^ 24 }
     {
-        self.grammar
+        self.linear.grammar
     }
 
     /// How many instances there are.
@@ -196,7 +182,7 @@ impl<'a> Run<'a> {
         if let Some(fault) = self.fault_of_start(name) {
             return Err(fault);
         }
-        let root = root(self.grammar, self.cycles);
+        let root = root(self.linear);
         plant(&mut self.names, &mut self.nodes, root, name)?;
         Ok(NodeNo(0))
     }
@@ -252,7 +238,13 @@ impl<'a> Run<'a> {
     {
         let found = self.found(n);
         let count = self.nodes.len();
-        if let Some(fault) = fault_before_names(self.grammar, count, found, production, names) {
+        if let Some(fault) = fault_before_names(
+            self.linear.grammar,
+            count,
+            found,
+            production,
+            names,
+        ) {
             return Some(fault);
         }
         self.fault_without_room(names)
@@ -275,7 +267,7 @@ impl<'a> Run<'a> {
         ensures opens { IfOk result (λ e. CanOpen self.now e.instance.0 e.production.0 e.names.now) }
     {
         // A grammar is well-formed: the number of a production has 16 bits.
-        let _formed = self.grammar.start();
+        let _formed = self.linear.grammar.start();
         if let Some(fault) = self.fault_of_expand(found, production, names) {
             return Err(fault);
         }
@@ -300,12 +292,11 @@ impl<'a> Run<'a> {
         ensures refused { IfErr result (AreNamesRefused self.old.names e.entry.names.now) }
         ensures unchanged { OnErr result (self.new ≡ self.old) }
     {
-        let _formed = self.grammar.start();
+        let _formed = self.linear.grammar.start();
         if let Err(fault) = grow(
             self.alloc,
             self.arena,
-            self.grammar,
-            self.cycles,
+            self.linear,
             &mut self.names,
             &mut self.nodes,
             e,

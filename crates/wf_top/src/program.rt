@@ -13,23 +13,9 @@ use wf_message::{Ending, Status, status_of, tell};
 
 /// Does what the words say over the files of a shelf: text goes to `out`, and a line on a refusal or a fault to `err`.
 ///
-/// `check SPEC` writes the canonical text of a grammar, and the rank, the choice and the cycle of each composite module.
+/// Each family of commands says in its crate what its commands write, and FORMATS.md has their words and messages. `IsOutcome` (specs/Outcome) says it of all of them.
 ///
-/// `view SPEC VIEW` writes each module that is seen under a safe view, whether it is expanded, and the pairs of its ports that each of its expansions joins.
-///
-/// `ingest SPEC EVENTS` writes the label file of a run: the head once SPEC is accepted, and the entries of the items that an event makes before the next event is taken.
-///
-/// `ask SPEC VIEW LABELS QUERIES` answers each query line from the label file of a run, by `yes`, `no`, `hidden`, `unknown` or `clash`, from the labels of the two items and the view alone. It takes no memory once the first answer is put.
-///
-/// `decide SPEC VIEW HEX HEX` writes what two labels tell under a safe view: `yes` or `no`, whether the item of the second depends on that of the first; `hidden 1` or `hidden 2`, if the view hides one of them; or `clash`, if no run has both.
-///
-/// `drill SPEC VIEW N SEED` makes the run that `gen` writes, labels its items, decides 1,000 pairs of them under a safe view, and writes how many instances and items there are, the bits of the longest label, and how many pairs are answered `yes`, `no` and `hidden`.
-///
-/// `export SPEC VIEW EVENTS` writes what a run shows under a safe view: the instances that are not open, the visible items, and the links.
-///
-/// `gen SPEC N SEED` writes the events of a run of at most N expansions, which the two numbers determine.
-///
-/// `trace SPEC VIEW EVENTS QUERIES` answers each query line by `yes`, `no`, `hidden` or `unknown`: whether the second item depends on the first, however the run is finished under the view.
+/// A call that ends for want of memory, or at a failed write, has put a beginning of its text; one of `ask` that ends for want of memory has put nothing.
 pub fn run<H: Shelf, O: Sink, E: Sink>(
     alloc: Global,
     words: &[&str],

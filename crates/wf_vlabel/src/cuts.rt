@@ -1,15 +1,14 @@
 // Where chains leave what a view expands.
 ghost use Rattle.std.specs.Prelude.{◌≡◌, ◌≢◌, ◌<◌, ℕ, length, get_or, IfOk, IfSome, None};
-ghost use Rattle.wf_model.specs.Linear.{IsLinear};
 ghost use Rattle.wf_model.specs.View.{expands};
 ghost use Rattle.label_model.specs.Continuing.{continuing};
-ghost use Rattle.wf_recur.specs.Cycles.{AreCyclesOf, round_at};
+ghost use Rattle.wf_recur.specs.Cycles.{round_at};
 ghost use Rattle.wf_view.specs.Held.{IsHeldFor};
 ghost use Rattle.wf_vlabel.specs.Cuts.{IsCut, cut_before};
 
 use std::alloc::{AllocError, Global};
-use wf_recur::{CycleNo, Cycles};
-use wf_spec::{Grammar, ModNo};
+use wf_recur::{CycleNo, Linear};
+use wf_spec::ModNo;
 use wf_view::View;
 
 /// How many continuing steps lead from a module to the first that is not expanded, from what this is for the next module.
@@ -29,29 +28,27 @@ fn one_before(view: &View, m: ModNo, next: Option<u32>) -> Option<u32>
 /// Tells where chains from the modules of a cycle leave what the view expands. What was right of other modules stays right.
 ///
 /// It goes backwards twice: once to find what holds at place 0, and once more to tell it at each place.
-fn cut_cycle(g: &Grammar, cycles: &Cycles, view: &View, c: CycleNo, cuts: &mut [Option<u32>])
-    requires linear { IsLinear g.now.core }
-    requires cycles { AreCyclesOf g.now.core cycles.now }
-    requires cycle { c.0 < length cycles.now.rounds }
-    requires count { length cuts.old ≡ length g.now.core.modules }
+fn cut_cycle(g: Linear<'_>, view: &View, c: CycleNo, cuts: &mut [Option<u32>])
+    requires cycle { c.0 < length g.cycles.now.rounds }
+    requires count { length cuts.old ≡ length g.grammar.now.core.modules }
     ensures count { length cuts.new ≡ length cuts.old }
-    ensures kept { (m : ℕ) → IsCut g.now.core (expands view.now.core) m (get_or cuts.old m None) →
-        IsCut g.now.core (expands view.now.core) m (get_or cuts.new m None) }
-    ensures told { (j : ℕ) → j < length (round_at cycles.now c.0) →
-        IsCut g.now.core (expands view.now.core) (get_or (round_at cycles.now c.0) j 0) (get_or cuts.new (get_or (round_at cycles.now c.0) j 0) None) }
+    ensures kept { (m : ℕ) → IsCut g.entry.grammar.now.core (expands view.now.core) m (get_or cuts.old m None) →
+        IsCut g.entry.grammar.now.core (expands view.now.core) m (get_or cuts.new m None) }
+    ensures told { (j : ℕ) → j < length (round_at g.entry.cycles.now c.0) →
+        IsCut g.entry.grammar.now.core (expands view.now.core) (get_or (round_at g.entry.cycles.now c.0) j 0) (get_or cuts.new (get_or (round_at g.entry.cycles.now c.0) j 0) None) }
 {
-    let _modules = g.modules();
-    let length = cycles.length(c);
+    let _modules = g.grammar.modules();
+    let length = g.cycles.length(c);
     let mut next = None;
     let mut ahead = length;
     while ahead > 0 {
         ahead -= 1;
-        next = one_before(view, cycles.at(c, ahead), next);
+        next = one_before(view, g.cycles.at(c, ahead), next);
     }
     let mut place = length;
     while place > 0 {
         place -= 1;
-        let m = cycles.at(c, place);
+        let m = g.cycles.at(c, place);
         next = one_before(view, m, next);
         cuts[m.0 as usize] = next;
     }
@@ -62,20 +59,17 @@ fn cut_cycle(g: &Grammar, cycles: &Cycles, view: &View, c: CycleNo, cuts: &mut [
 /// Cost: two looks at each module of a cycle. Fails only for want of memory.
 pub(crate) fn cuts_of(
     alloc: Global,
-    g: &Grammar,
-    cycles: &Cycles,
+    g: Linear<'_>,
     view: &View,
 ) -> Result<Vec<Option<u32>>, AllocError>
-    requires linear { IsLinear g.now.core }
-    requires cycles { AreCyclesOf g.now.core cycles.now }
-    requires view { IsHeldFor g.now.core view.now }
-    ensures count { IfOk result (λ cuts. length cuts.items ≡ length g.now.core.modules) }
-    ensures cuts { IfOk result (λ cuts. (m : ℕ) → m < length g.now.core.modules → continuing g.now.core m ≢ None →
-        IsCut g.now.core (expands view.now.core) m (get_or cuts.items m None)) }
+    requires view { IsHeldFor g.grammar.now.core view.now }
+    ensures count { IfOk result (λ cuts. length cuts.items ≡ length g.entry.grammar.now.core.modules) }
+    ensures cuts { IfOk result (λ cuts. (m : ℕ) → m < length g.entry.grammar.now.core.modules → continuing g.entry.grammar.now.core m ≢ None →
+        IsCut g.entry.grammar.now.core (expands view.now.core) m (get_or cuts.items m None)) }
 {
-    let mut cuts = vec![in alloc; None; g.modules().len()]?;
-    for c in 0..cycles.count() {
-        cut_cycle(g, cycles, view, CycleNo(c), &mut cuts);
+    let mut cuts = vec![in alloc; None; g.grammar.modules().len()]?;
+    for c in 0..g.cycles.count() {
+        cut_cycle(g, view, CycleNo(c), &mut cuts);
     }
     Ok(cuts)
 }

@@ -1,9 +1,8 @@
 // Labels of views.
 ghost use Rattle.std.specs.Prelude.{◌≡◌, ◌<◌, length, get_or, IfOk};
 ghost use Rattle.wf_model.specs.Grammar.{body_of};
-ghost use Rattle.wf_model.specs.Linear.{IsLinear};
 ghost use Rattle.wf_model.specs.Proper.{IsProper};
-ghost use Rattle.wf_recur.specs.Cycles.{AreCyclesOf, round_at};
+ghost use Rattle.wf_recur.specs.Cycles.{round_at};
 ghost use Rattle.wf_body.specs.Matrices.{step_of};
 ghost use Rattle.wf_view.specs.Held.{IsHeldFor};
 ghost use Rattle.wf_safe.specs.Full.{AreFullRows};
@@ -19,7 +18,7 @@ use crate::rounds::square_groups;
 use bool_mat::MatRef;
 use std::alloc::{AllocError, Global};
 use std::marker::Model;
-use wf_recur::{CycleNo, Cycles};
+use wf_recur::{CycleNo, Cycles, Linear};
 use wf_safe::FullDeps;
 use wf_spec::{Grammar, ModNo, PosNo, Step};
 use wf_view::View;
@@ -31,8 +30,7 @@ use wf_view::View;
 /// Source of the idea: Bao, Davidson, Milo, "Labeling Workflow Views with Fine-Grained Dependencies", VLDB 2012 (view labels).
 #[derive(Drop)]
 pub struct ViewLabel<'a> {
-    g: &'a Grammar,
-    cycles: &'a Cycles,
+    linear: Linear<'a>,
     expanded: Vec<bool>,
     full: Groups,
     bodies: Groups,
@@ -47,8 +45,8 @@ impl<'a> Model for ViewLabel<'a> {
     ghost Value = { ViewLabelSeen };
 
     ghost view = { λ l. record {
-      grammar = l.g.now.core;
-      cycles = l.cycles.now;
+      grammar = l.linear.grammar.now.core;
+      cycles = l.linear.cycles.now;
       flags = l.expanded.items;
       full = l.full;
       bodies = l.bodies;
@@ -56,8 +54,8 @@ impl<'a> Model for ViewLabel<'a> {
     } };
 
     ghost invariant = { λ l. IsKept (record {
-      grammar = l.g.now.core;
-      cycles = l.cycles.now;
+      grammar = l.linear.grammar.now.core;
+      cycles = l.linear.cycles.now;
       flags = l.expanded.items;
       full = l.full;
       bodies = l.bodies;
@@ -71,29 +69,25 @@ impl<'a> ViewLabel<'a> {
     /// Cost: for each position of each body that the view shows three passes through the body, and for each module of a cycle 52 products of matrices at most.
     pub fn build(
         alloc: Global,
-        g: &'a Grammar,
-        cycles: &'a Cycles,
+        linear: Linear<'a>,
         view: &View,
         full: &FullDeps,
     ) -> Result<ViewLabel<'a>, AllocError>
-        requires proper { IsProper g.now.core }
-        requires linear { IsLinear g.now.core }
-        requires cycles { AreCyclesOf g.now.core cycles.now }
-        requires view { IsHeldFor g.now.core view.now }
-        requires full { AreFullRows g.now.core view.now.core full.now }
+        requires proper { IsProper linear.grammar.now.core }
+        requires view { IsHeldFor linear.grammar.now.core view.now }
+        requires full { AreFullRows linear.grammar.now.core view.now.core full.now }
         ensures label { IfOk result (λ l. IsLabelOfView l view.now.core) }
-        ensures grammar { IfOk result (λ l. l.grammar ≡ g.now.core) }
-        ensures cycles { IfOk result (λ l. l.cycles ≡ cycles.now) }
+        ensures grammar { IfOk result (λ l. l.grammar ≡ linear.entry.grammar.now.core) }
+        ensures cycles { IfOk result (λ l. l.cycles ≡ linear.entry.cycles.now) }
     {
-        let _modules = g.modules();
+        let _modules = linear.grammar.modules();
         let expanded = Vec::from_slice(alloc, view.marks())?;
-        let pairs = full_groups(alloc, g, full)?;
-        let bodies = body_groups(alloc, g, view, full)?;
-        let cuts = cuts_of(alloc, g, cycles, view)?;
-        let squares = square_groups(alloc, g, cycles, view, full, cuts.as_slice(), &bodies)?;
+        let pairs = full_groups(alloc, linear.grammar, full)?;
+        let bodies = body_groups(alloc, linear.grammar, view, full)?;
+        let cuts = cuts_of(alloc, linear, view)?;
+        let squares = square_groups(alloc, linear, view, full, cuts.as_slice(), &bodies)?;
         Ok(ViewLabel {
-            g,
-            cycles,
+            linear,
             expanded,
             full: pairs,
             bodies,
@@ -107,7 +101,7 @@ impl<'a> ViewLabel<'a> {
         ensures grammar { result.now.core ≡ self.now.grammar }
         ensures label { IsViewLabel self.now }
     {
-        self.g
+        self.linear.grammar
     }
 
     /// The cycles that `build` was given.
@@ -115,7 +109,16 @@ impl<'a> ViewLabel<'a> {
         ensures cycles { result.now ≡ self.now.cycles }
         ensures label { IsViewLabel self.now }
     {
-        self.cycles
+        self.linear.cycles
+    }
+
+    /// The grammar with its cycles, as `build` was given them.
+    pub fn linear(&self) -> Linear<'a>
+        ensures grammar { result.grammar.now.core ≡ self.now.grammar }
+        ensures cycles { result.cycles.now ≡ self.now.cycles }
+        ensures label { IsViewLabel self.now }
+    {
+        self.linear
     }
 
     /// Whether the view expands a module.
@@ -167,7 +170,7 @@ impl<'a> ViewLabel<'a> {
         requires place { place < length (round_at self.now.cycles c.0) }
         ensures { IsCut self.now.grammar (is_expanded self.now) (get_or (round_at self.now.cycles c.0) place 0) result }
     {
-        self.cuts[self.cycles.at(c, place).0 as usize]
+        self.cuts[self.linear.cycles.at(c, place).0 as usize]
     }
 
     /// The matrix of `2^k` rounds down from the module at a place of a cycle that is seen and expanded whole, from its inputs to its inputs. `k` is below 24.
@@ -179,7 +182,7 @@ impl<'a> ViewLabel<'a> {
         ensures { result ≡ (matrices_of self.now).square_in (get_or (round_at self.now.cycles c.0) place 0) k }
     {
         self.squares
-            .matrix(self.cycles.at(c, place).0 as usize, k as usize)
+            .matrix(self.linear.cycles.at(c, place).0 as usize, k as usize)
     }
 
     /// The matrix of `2^k` rounds up to the module at a place of a cycle that is seen and expanded whole, from its outputs to its outputs. `k` is below 24.
@@ -190,8 +193,7 @@ impl<'a> ViewLabel<'a> {
         requires k { k < 24 }
         ensures { result ≡ (matrices_of self.now).square_out (get_or (round_at self.now.cycles c.0) place 0) k }
     {
-        self.squares
-            .matrix(self.cycles.at(c, place).0 as usize, 24 + k as usize)
+        self.squares.matrix(self.linear.cycles.at(c, place).0 as usize, 24 + k as usize)
     }
 
     // Where the matrices of a position begin within those of its body: of 64 positions at most, with 66 matrices each.
@@ -200,6 +202,13 @@ impl<'a> ViewLabel<'a> {
         ensures begins { result ≡ begins self.now.grammar (step_of s) }
         ensures few { result < 4224 }
     {
-        s.position.0 as usize * (self.g.production(s.production).positions().len() + 2)
+        s.position.0 as usize
+            * (self
+                .linear
+                .grammar
+                .production(s.production)
+                .positions()
+                .len()
+                + 2)
     }
 }

@@ -1,33 +1,19 @@
 // Files by their paths.
 ghost use Rattle.std.specs.Prelude.{◌≡◌, ◌^◌, ◌-◌, ◌≤◌, nat_eq, None, Some, IfSome, length};
 
-use std::fs::{self, File};
+use crate::held_file::HeldFile;
+use crate::read_once::ReadOnce;
 use std::hash::{BuildHasher, RandomState};
-use std::io::{ErrorKind, Read};
-use std::os::unix::fs::FileExt;
 use wf_io::{Failed, Shelf};
-
-/// More bytes than a path has that the system opens.
-const PATH_MOST: usize = 4096;
-
-/// An open file, the path by which it was opened, and the place in it up to which it was read on.
-///
-/// The path stands in a room of its own, so that no memory can be wanting where a file is opened.
-#[derive(Drop)]
-struct Held {
-    path: [u8; PATH_MOST],
-    length: usize,
-    file: File,
-    place: u64,
-}
 
 /// The files of the system, each by its path from the working folder. It does not tell its files.
 ///
-/// The file that was read last stays open. It is read on from where it was read last, so a pipe may stand for it; a read at any other place of a pipe is a fault. The count of faults stays at 2^64 - 1 once it is there. The key of tables is drawn once, and 0 where the system gives no random bytes.
+/// The file that was read last stays open until one of another path is read, and goes before that one is opened. The count of faults stays at 2^64 - 1 once it is there. The key of tables is drawn once, and 0 where the system gives no random bytes.
 #[derive(Drop)]
 pub struct DirShelf<'r> {
     rt: &'r HostRuntime,
-    held: Option<Held>,
+    held: Option<HeldFile>,
+    read_once: ReadOnce,
     faults: u64,
     key: u64,
 }
@@ -46,77 +32,37 @@ impl<'r> DirShelf<'r> {
         DirShelf {
             rt,
             held: None,
+            read_once: ReadOnce::new(),
             faults: 0,
             key: drawn_key(rt),
         }
     }
 }
 
-/// Opens a file. None where it cannot be opened. Takes no memory.
-fn opened(rt: &HostRuntime, name: &str) -> Option<Held> {
-    let bytes = name.as_bytes();
-    let length = bytes.len();
-    let mut path = [0u8; PATH_MOST];
-    path.get_mut(..length)?.copy_from_slice(bytes);
-    let file = fs::open(rt, name).ok()?;
-    Some(Held {
-        path,
-        length,
-        file,
-        place: 0,
-    })
-}
-
-/// Reads from a place of a file. A read that a signal interrupts is tried again.
-fn read_from(file: &File, at: u64, buf: &mut [u8]) -> Option<usize>
-    ensures { IfSome result (λ n. n ≤ length buf.old) }
+/// Opens the file of a path while none is held, so that no path can name a file that the program itself opened.
+fn open_alone(rt: &HostRuntime, held: &mut Option<HeldFile>, read_once: &mut ReadOnce, name: &str)
+    requires { held.old ≡ None }
 {
-    for _ in 0..u64::MAX {
-        match file.read_at(buf, at) {
-            Ok(n) => return Some(n),
-            Err(error) => {
-                if error.kind() != ErrorKind::Interrupted {
-                    return None;
-                }
-            }
-        }
-    }
-    None
+    *held = HeldFile::open(rt, name, read_once);
 }
 
-/// Reads on in a file. A read that a signal interrupts is tried again.
-fn read_on(file: &mut File, buf: &mut [u8]) -> Option<usize>
-    ensures { IfSome result (λ n. n ≤ length buf.old) }
-{
-    for _ in 0..u64::MAX {
-        match file.read(buf) {
-            Ok(n) => return Some(n),
-            Err(error) => {
-                if error.kind() != ErrorKind::Interrupted {
-                    return None;
-                }
-            }
-        }
+/// Holds the file of a path. A file of another path that was held is let go, and closed, first.
+fn hold(rt: &HostRuntime, held: &mut Option<HeldFile>, read_once: &mut ReadOnce, name: &str) {
+    let is_held = match held {
+        Some(file) => file.is_of(name),
+        None => false,
+    };
+    if !is_held {
+        *held = None;
+        open_alone(rt, held, read_once, name);
     }
-    None
 }
 
-/// Reads from a place of a file that is open: on from where it was read last, or elsewhere.
-fn read_at_place(held: &mut Held, at: u64, buf: &mut [u8]) -> Option<usize>
-    ensures { IfSome result (λ n. n ≤ length buf.old) }
-{
-    if at != held.place {
-        return read_from(&held.file, at, buf);
-    }
-    let count = read_on(&mut held.file, buf)?;
-    held.place = at.saturating_add(count as u64);
-    Some(count)
-}
-
-/// Reads from the file of a name, which is opened first if another is held. It reads nothing into an empty buffer.
+/// Reads from the file of a path, which is held from then on. It reads nothing into an empty buffer.
 fn read_held(
     rt: &HostRuntime,
-    held: &mut Option<Held>,
+    held: &mut Option<HeldFile>,
+    read_once: &mut ReadOnce,
     name: &str,
     at: u64,
     buf: &mut [u8],
@@ -127,15 +73,8 @@ fn read_held(
     if buf.is_empty() {
         return Some(0);
     }
-    let is_held = match held {
-        Some(h) => h.path.get(..h.length) == Some(name.as_bytes()),
-        None => false,
-    };
-    if !is_held {
-        *held = opened(rt, name);
-    }
-    let h = held.as_mut()?;
-    read_at_place(h, at, buf)
+    hold(rt, held, read_once, name);
+    held.as_mut()?.read_at(rt, at, buf)
 }
 
 impl<'r> Shelf for DirShelf<'r> {
@@ -146,7 +85,7 @@ impl<'r> Shelf for DirShelf<'r> {
     ghost at_last = { λ s. nat_eq s.faults (2 ^ 64 - 1) };
 
     fn read_at(&mut self, name: &str, at: u64, buf: &mut [u8]) -> Result<usize, Failed> {
-        match read_held(self.rt, &mut self.held, name, at, buf) {
+        match read_held(self.rt, &mut self.held, &mut self.read_once, name, at, buf) {
             Some(n) => Ok(n),
             None => {
                 self.faults = self.faults.saturating_add(1);

@@ -4,7 +4,10 @@
 ghost use Rattle.std.specs.Prelude.{◌≡◌};
 ghost use Rattle.wfprov.specs.Codes.{code_of};
 
+mod again;
 mod dir_shelf;
+mod held_file;
+mod read_once;
 mod std_sink;
 
 use dir_shelf::DirShelf;
@@ -55,7 +58,7 @@ fn words_of(alloc: Global, texts: &[String]) -> Result<Vec<&str>, AllocError> {
 
 /// Tells that memory was wanting before there were words.
 fn told_wanting(rt: &HostRuntime) -> ExitCode {
-    let mut err = StdSink::new(rt.stderr());
+    let mut err = StdSink::new(rt, rt.stderr());
     let _ = err.put(b"no memory\n");
     ExitCode::from(code_of(Status::NoMemory))
 }
@@ -69,8 +72,8 @@ fn main(rt: HostRuntime) -> ExitCode {
         return told_wanting(&rt);
     };
     let mut shelf = DirShelf::new(&rt);
-    let mut out = StdSink::new(rt.stdout());
-    let mut err = StdSink::new(rt.stderr());
+    let mut out = StdSink::new(&rt, rt.stdout());
+    let mut err = StdSink::new(&rt, rt.stderr());
     let status = run(alloc, &words, &mut shelf, &mut out, &mut err);
     ExitCode::from(code_of(status))
 }

@@ -2,9 +2,8 @@
 ghost use Rattle.std.specs.Prelude.{◌≡◌, ℕ, ◌+◌, ◌-◌, ◌*◌, ◌<◌, length, IfOk};
 ghost use Rattle.bool_mat.specs.Matrix.{Adds, matrix_at};
 ghost use Rattle.wf_model.specs.Grammar.{Grammar as GrammarSeen, Assignment};
-ghost use Rattle.wf_model.specs.Linear.{IsLinear};
 ghost use Rattle.label_model.specs.Continuing.{after};
-ghost use Rattle.wf_recur.specs.Cycles.{AreCyclesOf, round_at, least_of};
+ghost use Rattle.wf_recur.specs.Cycles.{round_at, least_of};
 ghost use Rattle.wf_vlabel.specs.ChainMatrices.{AreFirsts, AreLasts, AreParts, HasSteps, IsChain};
 
 use crate::groups::Groups;
@@ -12,33 +11,29 @@ use crate::rounds::steps::push_step;
 use crate::rounds::way::{Way, joined};
 use bool_mat::{MatNo, MatPool};
 use std::alloc::{AllocError, Global};
-use wf_recur::{CycleNo, Cycles};
-use wf_spec::Grammar;
+use wf_recur::{CycleNo, Linear};
 
 /// Pushes the matrices of the first 1, 2 and so on steps of a cycle. Before each of them but the first stands that of its last step.
 ///
 /// Cost: a product for each place but the first.
 fn push_firsts(
-    g: &Grammar,
-    cycles: &Cycles,
+    g: Linear<'_>,
     bodies: &Groups,
     c: CycleNo,
     way: Way,
     pool: &mut MatPool,
 ) -> Result<MatNo, AllocError>
-    requires linear { IsLinear g.now.core }
-    requires cycles { AreCyclesOf g.now.core cycles.now }
-    requires cycle { c.0 < length cycles.now.rounds }
-    requires steps { (d : Assignment) × HasSteps g.now.core d bodies.now (least_of (round_at cycles.now c.0)) }
-    ensures added { IfOk result (λ n. Adds pool.old pool.new n.0 (2 * length (round_at cycles.now c.0) - 1)) }
-    ensures firsts { IfOk result (λ n. (d : Assignment) → HasSteps g.now.core d bodies.now (least_of (round_at cycles.now c.0)) →
-        AreFirsts way g.now.core d (least_of (round_at cycles.now c.0)) (length (round_at cycles.now c.0)) pool.new n.0) }
+    requires cycle { c.0 < length g.cycles.now.rounds }
+    requires steps { (d : Assignment) × HasSteps g.grammar.now.core d bodies.now (least_of (round_at g.cycles.now c.0)) }
+    ensures added { IfOk result (λ n. Adds pool.old pool.new n.0 (2 * length (round_at g.entry.cycles.now c.0) - 1)) }
+    ensures firsts { IfOk result (λ n. (d : Assignment) → HasSteps g.entry.grammar.now.core d bodies.now (least_of (round_at g.entry.cycles.now c.0)) →
+        AreFirsts way g.entry.grammar.now.core d (least_of (round_at g.entry.cycles.now c.0)) (length (round_at g.entry.cycles.now c.0)) pool.new n.0) }
 {
-    let length = cycles.length(c);
-    let first = push_step(g, cycles, bodies, c, 0, way, pool)?;
+    let length = g.cycles.length(c);
+    let first = push_step(g, bodies, c, 0, way, pool)?;
     let mut last = first;
     for place in 1..length {
-        let step = push_step(g, cycles, bodies, c, place, way, pool)?;
+        let step = push_step(g, bodies, c, place, way, pool)?;
         last = joined(pool, way, last, step)?;
     }
     Ok(first)
@@ -48,27 +43,24 @@ fn push_firsts(
 ///
 /// Cost: a product for each place but the last.
 fn push_lasts(
-    g: &Grammar,
-    cycles: &Cycles,
+    g: Linear<'_>,
     bodies: &Groups,
     c: CycleNo,
     way: Way,
     pool: &mut MatPool,
 ) -> Result<MatNo, AllocError>
-    requires linear { IsLinear g.now.core }
-    requires cycles { AreCyclesOf g.now.core cycles.now }
-    requires cycle { c.0 < length cycles.now.rounds }
-    requires steps { (d : Assignment) × HasSteps g.now.core d bodies.now (least_of (round_at cycles.now c.0)) }
-    ensures added { IfOk result (λ n. Adds pool.old pool.new n.0 (2 * length (round_at cycles.now c.0) - 1)) }
-    ensures lasts { IfOk result (λ n. (d : Assignment) → HasSteps g.now.core d bodies.now (least_of (round_at cycles.now c.0)) →
-        AreLasts way g.now.core d (least_of (round_at cycles.now c.0)) (length (round_at cycles.now c.0)) (length (round_at cycles.now c.0)) pool.new n.0) }
+    requires cycle { c.0 < length g.cycles.now.rounds }
+    requires steps { (d : Assignment) × HasSteps g.grammar.now.core d bodies.now (least_of (round_at g.cycles.now c.0)) }
+    ensures added { IfOk result (λ n. Adds pool.old pool.new n.0 (2 * length (round_at g.entry.cycles.now c.0) - 1)) }
+    ensures lasts { IfOk result (λ n. (d : Assignment) → HasSteps g.entry.grammar.now.core d bodies.now (least_of (round_at g.entry.cycles.now c.0)) →
+        AreLasts way g.entry.grammar.now.core d (least_of (round_at g.entry.cycles.now c.0)) (length (round_at g.entry.cycles.now c.0)) (length (round_at g.entry.cycles.now c.0)) pool.new n.0) }
 {
-    let mut place = cycles.length(c) - 1;
-    let first = push_step(g, cycles, bodies, c, place, way, pool)?;
+    let mut place = g.cycles.length(c) - 1;
+    let first = push_step(g, bodies, c, place, way, pool)?;
     let mut last = first;
     while place > 0 {
         place -= 1;
-        let step = push_step(g, cycles, bodies, c, place, way, pool)?;
+        let step = push_step(g, bodies, c, place, way, pool)?;
         last = joined(pool, way, step, last)?;
     }
     Ok(first)
@@ -77,22 +69,19 @@ fn push_lasts(
 /// The matrices of the first steps and then those of the last steps of a cycle, one way. Fails only for want of memory.
 pub(crate) fn parts_of(
     alloc: Global,
-    g: &Grammar,
-    cycles: &Cycles,
+    g: Linear<'_>,
     bodies: &Groups,
     c: CycleNo,
     way: Way,
 ) -> Result<MatPool, AllocError>
-    requires linear { IsLinear g.now.core }
-    requires cycles { AreCyclesOf g.now.core cycles.now }
-    requires cycle { c.0 < length cycles.now.rounds }
-    requires steps { (d : Assignment) × HasSteps g.now.core d bodies.now (least_of (round_at cycles.now c.0)) }
-    ensures { IfOk result (λ pool. (d : Assignment) → HasSteps g.now.core d bodies.now (least_of (round_at cycles.now c.0)) →
-        AreParts way g.now.core d (least_of (round_at cycles.now c.0)) (length (round_at cycles.now c.0)) pool) }
+    requires cycle { c.0 < length g.cycles.now.rounds }
+    requires steps { (d : Assignment) × HasSteps g.grammar.now.core d bodies.now (least_of (round_at g.cycles.now c.0)) }
+    ensures { IfOk result (λ pool. (d : Assignment) → HasSteps g.entry.grammar.now.core d bodies.now (least_of (round_at g.entry.cycles.now c.0)) →
+        AreParts way g.entry.grammar.now.core d (least_of (round_at g.entry.cycles.now c.0)) (length (round_at g.entry.cycles.now c.0)) pool) }
 {
     let mut pool = MatPool::new(alloc);
-    push_firsts(g, cycles, bodies, c, way, &mut pool)?;
-    push_lasts(g, cycles, bodies, c, way, &mut pool)?;
+    push_firsts(g, bodies, c, way, &mut pool)?;
+    push_lasts(g, bodies, c, way, &mut pool)?;
     Ok(pool)
 }
 

@@ -2,9 +2,8 @@
 ghost use Rattle.std.specs.Prelude.{◌≡◌, ℕ, ◌<◌, length, get_or, IfOk, OnOk};
 ghost use Rattle.bool_mat.specs.Matrix.{Adds, matrix_at};
 ghost use Rattle.wf_model.specs.Grammar.{Grammar as GrammarSeen, Assignment};
-ghost use Rattle.wf_model.specs.Linear.{IsLinear};
 ghost use Rattle.label_model.specs.Continuing.{after};
-ghost use Rattle.wf_recur.specs.Cycles.{AreCyclesOf, round_at, least_of};
+ghost use Rattle.wf_recur.specs.Cycles.{round_at, least_of};
 ghost use Rattle.wf_vlabel.specs.declared.rounds.way.Way.TheVariants.{Down, Up};
 ghost use Rattle.wf_vlabel.specs.ChainMatrices.{AreParts, HasSteps};
 ghost use Rattle.wf_vlabel.specs.RoundSteps.{HasRounds, IsSquareGroup, numbers_in, steps_on};
@@ -14,8 +13,7 @@ use crate::rounds::parts::{parts_of, push_round};
 use crate::rounds::way::Way;
 use bool_mat::{MatNo, MatPool, power_table};
 use std::alloc::{AllocError, Global};
-use wf_recur::{CycleNo, Cycles};
-use wf_spec::Grammar;
+use wf_recur::{CycleNo, Linear};
 
 /// Pushes a matrix of another pool.
 fn push_copy(from: &MatPool, m: MatNo, to: &mut MatPool) -> Result<MatNo, AllocError>
@@ -62,31 +60,28 @@ fn push_squares(
 /// Cost: for each module six products and 46 squares.
 pub(crate) fn square_cycle(
     alloc: Global,
-    g: &Grammar,
-    cycles: &Cycles,
+    g: Linear<'_>,
     bodies: &Groups,
     c: CycleNo,
     squares: &mut MatPool,
     first: &mut [Option<MatNo>],
 ) -> Result<(), AllocError>
-    requires linear { IsLinear g.now.core }
-    requires cycles { AreCyclesOf g.now.core cycles.now }
-    requires cycle { c.0 < length cycles.now.rounds }
-    requires steps { (d : Assignment) × HasSteps g.now.core d bodies.now (least_of (round_at cycles.now c.0)) }
-    requires count { length first.old ≡ length g.now.core.modules }
+    requires cycle { c.0 < length g.cycles.now.rounds }
+    requires steps { (d : Assignment) × HasSteps g.grammar.now.core d bodies.now (least_of (round_at g.cycles.now c.0)) }
+    requires count { length first.old ≡ length g.grammar.now.core.modules }
     ensures count { length first.new ≡ length first.old }
-    ensures kept { OnOk result ((d : Assignment) → HasSteps g.now.core d bodies.now (least_of (round_at cycles.now c.0)) →
-        (m : ℕ) → HasRounds g.now.core d m squares.old (numbers_in first.old) → HasRounds g.now.core d m squares.new (numbers_in first.new)) }
-    ensures told { OnOk result ((d : Assignment) → HasSteps g.now.core d bodies.now (least_of (round_at cycles.now c.0)) →
-        (j : ℕ) → j < length (round_at cycles.now c.0) → HasRounds g.now.core d (get_or (round_at cycles.now c.0) j 0) squares.new (numbers_in first.new)) }
+    ensures kept { OnOk result ((d : Assignment) → HasSteps g.entry.grammar.now.core d bodies.now (least_of (round_at g.entry.cycles.now c.0)) →
+        (m : ℕ) → HasRounds g.entry.grammar.now.core d m squares.old (numbers_in first.old) → HasRounds g.entry.grammar.now.core d m squares.new (numbers_in first.new)) }
+    ensures told { OnOk result ((d : Assignment) → HasSteps g.entry.grammar.now.core d bodies.now (least_of (round_at g.entry.cycles.now c.0)) →
+        (j : ℕ) → j < length (round_at g.entry.cycles.now c.0) → HasRounds g.entry.grammar.now.core d (get_or (round_at g.entry.cycles.now c.0) j 0) squares.new (numbers_in first.new)) }
 {
-    let _modules = g.modules();
-    let size = cycles.length(c);
-    let mut down = parts_of(alloc, g, cycles, bodies, c, Way::Down)?;
-    let mut up = parts_of(alloc, g, cycles, bodies, c, Way::Up)?;
+    let _modules = g.grammar.modules();
+    let size = g.cycles.length(c);
+    let mut down = parts_of(alloc, g, bodies, c, Way::Down)?;
+    let mut up = parts_of(alloc, g, bodies, c, Way::Up)?;
     for place in 0..size {
         let n = push_squares(&mut down, &mut up, size, place, squares)?;
-        first[cycles.at(c, place).0 as usize] = Some(n);
+        first[g.cycles.at(c, place).0 as usize] = Some(n);
     }
     Ok(())
 }

@@ -2,9 +2,8 @@
 ghost use Rattle.std.specs.Prelude.{◌≡◌, ◌<◌, ◌+◌, length, get_or, Some, IfOk};
 ghost use Rattle.bool_mat.specs.Matrix.{Adds, matrix_at};
 ghost use Rattle.wf_model.specs.Grammar.{Assignment, body_of};
-ghost use Rattle.wf_model.specs.Linear.{IsLinear};
 ghost use Rattle.label_model.specs.Continuing.{continuing, after};
-ghost use Rattle.wf_recur.specs.Cycles.{AreCyclesOf, round_at, least_of, step_of};
+ghost use Rattle.wf_recur.specs.Cycles.{round_at, least_of, step_of};
 ghost use Rattle.wf_vlabel.specs.ChainMatrices.{HasSteps, IsChain, place_along};
 ghost use Rattle.wf_vlabel.specs.Tables.{begins};
 
@@ -12,19 +11,17 @@ use crate::groups::Groups;
 use crate::rounds::way::Way;
 use bool_mat::{MatNo, MatPool};
 use std::alloc::AllocError;
-use wf_recur::{CycleNo, Cycles};
+use wf_recur::{CycleNo, Linear};
 use wf_spec::{Grammar, PosNo, ProdNo, Step};
 
 /// The continuing step of the module at a place of a cycle.
-fn step_at(g: &Grammar, cycles: &Cycles, c: CycleNo, place: u16) -> Step
-    requires linear { IsLinear g.now.core }
-    requires cycles { AreCyclesOf g.now.core cycles.now }
-    requires cycle { c.0 < length cycles.now.rounds }
-    requires place { place < length (round_at cycles.now c.0) }
-    ensures { continuing g.now.core (after g.now.core place (least_of (round_at cycles.now c.0))) ≡ Some (step_of result) }
+fn step_at(g: Linear<'_>, c: CycleNo, place: u16) -> Step
+    requires cycle { c.0 < length g.cycles.now.rounds }
+    requires place { place < length (round_at g.cycles.now c.0) }
+    ensures { continuing g.entry.grammar.now.core (after g.entry.grammar.now.core place (least_of (round_at g.entry.cycles.now c.0))) ≡ Some (step_of result) }
 {
-    let _modules = g.modules();
-    match cycles.on(cycles.at(c, place)) {
+    let _modules = g.grammar.modules();
+    match g.cycles.on(g.cycles.at(c, place)) {
         Some(on) => on.step,
         None => Step {
             production: ProdNo(0),
@@ -50,25 +47,22 @@ fn place_of(g: &Grammar, s: Step, way: Way) -> usize
 
 /// Pushes the matrix of the continuing step of the module at a place of a cycle.
 pub(crate) fn push_step(
-    g: &Grammar,
-    cycles: &Cycles,
+    g: Linear<'_>,
     bodies: &Groups,
     c: CycleNo,
     place: u16,
     way: Way,
     pool: &mut MatPool,
 ) -> Result<MatNo, AllocError>
-    requires linear { IsLinear g.now.core }
-    requires cycles { AreCyclesOf g.now.core cycles.now }
-    requires cycle { c.0 < length cycles.now.rounds }
-    requires place { place < length (round_at cycles.now c.0) }
-    requires steps { (d : Assignment) × HasSteps g.now.core d bodies.now (least_of (round_at cycles.now c.0)) }
+    requires cycle { c.0 < length g.cycles.now.rounds }
+    requires place { place < length (round_at g.cycles.now c.0) }
+    requires steps { (d : Assignment) × HasSteps g.grammar.now.core d bodies.now (least_of (round_at g.cycles.now c.0)) }
     ensures added { IfOk result (λ n. Adds pool.old pool.new n.0 1) }
-    ensures step { IfOk result (λ n. (d : Assignment) → HasSteps g.now.core d bodies.now (least_of (round_at cycles.now c.0)) →
-        IsChain way g.now.core d (after g.now.core place (least_of (round_at cycles.now c.0))) 1 (matrix_at pool.new n.0)) }
+    ensures step { IfOk result (λ n. (d : Assignment) → HasSteps g.entry.grammar.now.core d bodies.now (least_of (round_at g.entry.cycles.now c.0)) →
+        IsChain way g.entry.grammar.now.core d (after g.entry.grammar.now.core place (least_of (round_at g.entry.cycles.now c.0))) 1 (matrix_at pool.new n.0)) }
 {
-    let s = step_at(g, cycles, c, place);
-    let at = place_of(g, s, way);
+    let s = step_at(g, c, place);
+    let at = place_of(g.grammar, s, way);
     let m = bodies.matrix(s.production.0 as usize, at);
     pool.push(m.rows, m.columns)
 }

@@ -26,7 +26,7 @@ returns-in_default-for_view-clause-obeys g c = λ entries held. obeys_wanting []
 -- the label of the view is of the same grammar
 pub batch-requires-clause-store : goal.batch-requires-clause-store
 batch-requires-clause-store g c =
-    let same = c.in-Ok.ensures.grammar ∙ ap (λ (h : HeldGrammar). h.core) c.grammar.ensures.grammar in
+    let same = c.in-Ok.ensures.grammar ∙ ap (λ (h : HeldGrammar). h.core) c.linear.ensures.grammar in
     subst (λ (x : Grammar). IsStoreFor x c.args.store.now) (sym same) c.requires.store
 
 -- so what is put by the label of a view is put by the grammar and the view
@@ -39,13 +39,13 @@ put_under g held_view view label entries held file e old new same is of are put 
 pub returns-in-Ok-batch-clause-obeys : goal.returns-in-Ok-batch-clause-obeys
 returns-in-Ok-batch-clause-obeys g c = λ entries held.
     let b = c.batch.ensures in
-    let same = c.in-Ok.ensures.grammar ∙ ap (λ (h : HeldGrammar). h.core) c.grammar.ensures.grammar in
+    let same = c.in-Ok.ensures.grammar ∙ ap (λ (h : HeldGrammar). h.core) c.linear.ensures.grammar in
     queries_put _ _ _ _ _ _ _ _ _ _ _ _ c.batch.result (λ f told. put_under _ _ _ _ entries _ _ _ _ _ same c.view.ensures.view c.in-Ok.ensures.label held (b.put f told)) b.same b.put_same b.cause b.files b.later b.put_later _ (ap end_by (sym c.in-Ok-batch.is))
 
 pub returns-clause-obeys : goal.returns-clause-obeys
 returns-clause-obeys g c = λ entries held.
     let b = c.batch.ensures in
-    let same = c.in-Ok.ensures.grammar ∙ ap (λ (h : HeldGrammar). h.core) c.grammar.ensures.grammar in
+    let same = c.in-Ok.ensures.grammar ∙ ap (λ (h : HeldGrammar). h.core) c.linear.ensures.grammar in
     queries_put _ _ _ _ _ _ _ _ _ _ _ _ c.batch.result (λ f told. put_under _ _ _ _ entries _ _ _ _ _ same c.view.ensures.view c.in-Ok.ensures.label held (b.put f told)) b.same b.put_same b.cause b.files b.later b.put_later _ (c.stop_at.ensures ∙ ap end_by (sym c.in-Err.is))
 
 pub returns-clause-untouched : goal.returns-clause-untouched

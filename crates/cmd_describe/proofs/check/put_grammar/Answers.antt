@@ -16,7 +16,7 @@ pub returns : goal.returns
 returns g c = record {
   writes =
       let s = c.args.spec.now in
-      let t = c.grammar-taken.ensures.taken in
+      let t = c.grammar-taken.ensures.accepted in
       let is = c.deref.ensures.value ∙ c.in-Ok.ensures in
       writes_alike [] (IsWritten c.deref.result.now) (IsChecked s.grammar.core)
       (text_told s.grammar.core t.linear s.ranking s.cycles c.deref.result.now t.ranked t.cycled is)

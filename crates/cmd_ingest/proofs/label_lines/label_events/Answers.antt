@@ -10,12 +10,14 @@ use Rattle.wf_stage.specs.Causes.{IsCause}
 use Rattle.wf_stage.specs.LineEnds.{line_ends, end_of_fault, told_end}
 use Rattle.wf_stage.proofs.LineEnds.{fault_of_outcome, fault_caused}
 use Rattle.wf_stage.proofs.Obeying.{obeys_wanting}
+use Rattle.wf_laws.proofs.Accepted.{none_taken}
+use Rattle.wf_inputs.specs.Inputs.{instance_most}
 use Rattle.wf_inputs.specs.RunTaking.{none_taken_of}
 use Rattle.wf_inputs.specs.EventsEnd.{event_end}
 use Rattle.wf_inputs.specs.Reporting.{IsTakenAs}
-use Rattle.wf_inputs.proofs.EventStages.{events_one_way, events_closed_one_way}
+use Rattle.wf_inputs.proofs.EventStages.{events_one_way, events_begin, events_closed_one_way}
 use Rattle.cmd_ingest.specs.Ingested.{file_head, file_of}
-use Rattle.cmd_ingest.proofs.HeadFirst.{events_begin_head}
+use Rattle.cmd_ingest.proofs.HeadFirst.{file_more, events_begin_head}
 use Rattle.cmd_ingest.proofs.Labelling.{labelled_at_start}
 use Rattle.cmd_ingest.proofs.Ingesting.{Made, AreLabelled, labelled_ends, AreLabelledTo, stopped_at}
 use Rattle.cmd_ingest.proofs.label_lines.label_events.Goals as goal
@@ -36,7 +38,7 @@ returns-in-Ok-take_lines g c =
     let first = c.new-reporting.result in
     let at =
     labelled_at_start c.args.spec.now.grammar first.inbox.kept first.reported c.with_key-run.result first.run.labeller c.new-reporting.ensures.kept c.new-reporting.ensures.reported
-    (ap (λ (l : Labelling). l.labeller) c.new-reporting.ensures.run ∙ c.new-2.ensures) c.with_key-run.ensures.run (c.with_key-run.ensures.grammar ∙ c.grammar.ensures.grammar) c.with_key-run.ensures.most in
+    (ap (λ (l : Labelling). l.labeller) c.new-reporting.ensures.run ∙ c.new-2.ensures) c.with_key-run.ensures.run (c.with_key-run.ensures.grammar ∙ c.linear.ensures.grammar) c.with_key-run.ensures.most in
     let last = c.take_lines.new.taker in
     let IsLast = IsTakenAs last.run.labeller.grammar.core last.run.labeller.most last.inbox.kept last.reported (IsRunOf last.run.labeller) in
     let taken = c.in-Ok-take_lines.ensures in
@@ -59,7 +61,7 @@ returns g c =
     let first = c.new-reporting.result in
     let at =
     labelled_at_start c.args.spec.now.grammar first.inbox.kept first.reported c.with_key-run.result first.run.labeller c.new-reporting.ensures.kept c.new-reporting.ensures.reported
-    (ap (λ (l : Labelling). l.labeller) c.new-reporting.ensures.run ∙ c.new-2.ensures) c.with_key-run.ensures.run (c.with_key-run.ensures.grammar ∙ c.grammar.ensures.grammar) c.with_key-run.ensures.most in
+    (ap (λ (l : Labelling). l.labeller) c.new-reporting.ensures.run ∙ c.new-2.ensures) c.with_key-run.ensures.run (c.with_key-run.ensures.grammar ∙ c.linear.ensures.grammar) c.with_key-run.ensures.most in
     let word = codes "events" in
     let fault = c.in-Err.fault in
     record {
@@ -68,7 +70,7 @@ returns g c =
             subst (λ e. EndsBehind (file_head h) (Made h (lines_in (f c.args.name.now))) e (g.O.Sink.put_bytes c.args.out.now) (g.O.Sink.put_bytes c.take_lines.new.out)) (sym c.events_stop.ensures)
             (stopped_at h (lines_in (f c.args.name.now)) (end_at (line_ends word) (λ stop. told_end (event_end stop)) fault) (end_of_fault event_end word fault) _ _ (fault_of_outcome event_end word fault)
             (told_opened (λ (file : FileLines). AreLabelledTo h file (end_at (line_ends word) (λ stop. told_end (event_end stop)) fault) (g.O.Sink.put_bytes c.args.out.now) (g.O.Sink.put_bytes c.take_lines.new.out)) f c.args.name.now c.in-Ok.lines c.in-Ok.ensures
-            (λ st. c.in-Err.ensures.stopped f told st (none_taken_of h) at (events_one_way file_of) events_closed_one_way tt)));
+            (λ st. c.in-Err.ensures.stopped f told st (none_taken_of h) at (events_one_way file_of) (events_begin file_of file_more) events_closed_one_way (none_taken h instance_most))));
         cause = subst (IsCause _ _ _ _ _ _) (sym c.events_stop.ensures) (fault_caused event_end word _ _ _ _ _ _ fault c.in-Err.ensures.fault c.in-Err.ensures.cause);
         same = c.take_lines.ensures.files;
         later = c.take_lines.ensures.later;

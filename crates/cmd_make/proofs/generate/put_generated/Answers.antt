@@ -9,6 +9,6 @@ use Rattle.cmd_make.proofs.generate.put_generated.Goals as goal
 pub returns : goal.returns
 returns g c = record {
   writes = writes_text _ _
-      (ap (λ (e : Coming). event_lines e.events) c.new-events.ensures ∙ ap (λ (h : HeldGrammar). generated_text h.core c.args.n c.args.seed) c.grammar.ensures.grammar)
+      (ap (λ (e : Coming). event_lines e.events) c.new-events.ensures ∙ ap (λ (h : HeldGrammar). generated_text h.core c.args.n c.args.seed) c.linear.ensures.grammar)
       _ _ _ c.put_events.ensures.writes;
 }

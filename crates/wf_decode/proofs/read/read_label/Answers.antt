@@ -34,10 +34,10 @@ mark_read c u x of_view is e =
 pub loop-mark-init : goal.loop-mark-init
 loop-mark-init c =
     let l = c.args.vl.now in
-    let label = c.grammar-g.ensures.label in
-    let same = c.grammar-g.ensures.grammar in
+    let label = c.linear-g.ensures.label in
+    let same = c.linear-g.ensures.grammar in
     record {
-      in_range = subst (λ g. c.start-at.result.0 < length g.modules) same (subst (λ m. m < length c.grammar-g.result.now.core.modules) (sym c.start-at.ensures.start) c.start-at.ensures.formed.start);
+      in_range = subst (λ g. c.start-at.result.0 < length g.modules) same (subst (λ m. m < length c.linear-g.result.grammar.now.core.modules) (sym c.start-at.ensures.start) c.start-at.ensures.formed.start);
       few = omega arith;
       room = refl;
       grammar = c.cursor-cursor.ensures.grammar ∙ same;
@@ -52,7 +52,7 @@ pub take_mark-requires-clause-reading : goal.take_mark-requires-clause-reading
 take_mark-requires-clause-reading c =
     let a = (goal.at.take_mark-requires-clause-reading c).In-Some in
     let l = c.args.vl.now in
-    let label = c.grammar-g.ensures.label in
+    let label = c.linear-g.ensures.label in
     let u = label.of_view in
     let x = c.requires.label in
     let r = mark_read a u.0 x.0 u.1 x.1 x.2 in
@@ -66,7 +66,7 @@ returns-in-Ends-clause-told c = λ u x of_view is e.
 pub bounds-legs-held : goal.bounds-legs-held
 bounds-legs-held c =
     let a = (goal.at.bounds-legs-held c).In-Some in
-    let u = c.grammar-g.ensures.label.of_view in
+    let u = c.linear-g.ensures.label.of_view in
     let x = c.requires.label in
     (mark_read a u.0 x.0 u.1 x.1 x.2).low
 
@@ -75,7 +75,7 @@ loop-mark-preserved c =
     let a = (goal.at.loop-mark-preserved c).In-Some in
     let l = c.args.vl.now in
     let i = c.loop-mark.invariant in
-    let some = let u = c.grammar-g.ensures.label.of_view in let x = c.requires.label in mark_read a u.0 x.0 u.1 x.1 x.2 in
+    let some = let u = c.linear-g.ensures.label.of_view in let x = c.requires.label in mark_read a u.0 x.0 u.1 x.1 x.2 in
     record {
       in_range = c.in-Goes.ensures.in_range;
       few = omega (arith, some.low, length-set c.loop-mark.legs c.loop-mark.held c.in-Goes.leg);
@@ -95,4 +95,4 @@ returns-clause-told c = λ u x of_view is e.
     let l = c.args.vl.now in
     let r = c.loop-mark.invariant.read u x of_view is e in
     let none = (c.in_default.ensures.next r.marks r.ahead).0 in
-    absurd (reading_some l u c.grammar-g.ensures.label of_view x (take c.loop-mark.held c.loop-mark.legs) c.loop-mark.at.0 (subst (IsReading l u x (take c.loop-mark.held c.loop-mark.legs) c.loop-mark.at.0) none r.reading))
+    absurd (reading_some l u c.linear-g.ensures.label of_view x (take c.loop-mark.held c.loop-mark.legs) c.loop-mark.at.0 (subst (IsReading l u x (take c.loop-mark.held c.loop-mark.legs) c.loop-mark.at.0) none r.reading))

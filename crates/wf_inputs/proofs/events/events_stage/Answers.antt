@@ -1,5 +1,6 @@
 use Rattle.std.proofs.Common.{◌≡◌, [], Some, refl, arith, sym, ap, ◌∙◌, subst}
 use Rattle.std.specs.Prelude.{codes}
+use Rattle.wf_laws.proofs.Accepted.{none_taken}
 use Rattle.wf_io.specs.Readers.{left_in}
 use Rattle.wf_lines.proofs.Openings.{told_opened}
 use Rattle.wf_flat.specs.Table.{IsTableOf, events_of}
@@ -12,7 +13,7 @@ use Rattle.wf_inputs.specs.EventsEnd.{event_end}
 use Rattle.wf_inputs.specs.RunTold.{StopsEvents}
 use Rattle.wf_inputs.specs.RunTaking.{nothing_written, none_taken_of}
 use Rattle.wf_inputs.specs.Reporting.{GrowingSeen, IsTakenAs, IsGrownBy}
-use Rattle.wf_inputs.proofs.EventStages.{events_one_way, events_closed_one_way}
+use Rattle.wf_inputs.proofs.EventStages.{events_one_way, events_begin, events_closed_one_way}
 use Rattle.wf_inputs.proofs.EventLines.{AreTakenInto, run_told, AreStoppedAt, stopped_stops}
 use Rattle.wf_inputs.proofs.ReportLines.{plain_started, plain_at_start}
 use Rattle.wf_inputs.proofs.events.events_stage.Goals as goal
@@ -55,7 +56,7 @@ returns-clause-reads g c =
           let is = fault_of_outcome event_end word c.in-Err.fault (subst IsOfOutcome c.events_stop.ensures w) in
           subst (StopsEvents h instance_most _) (sym c.events_stop.ensures)
           (stopped_stops h e _ (told_opened (AreStoppedAt h (Some e)) f c.args.name.now c.in-Ok.lines c.in-Ok.ensures
-          (λ st. subst (λ o. AreStoppedAt h o (left_in (f c.in-Ok.lines.name) c.in-Ok.lines)) is (c.in-Err.ensures.stopped f told st (none_taken_of h) start (events_one_way nothing_written) events_closed_one_way tt))));
+          (λ st. subst (λ o. AreStoppedAt h o (left_in (f c.in-Ok.lines.name) c.in-Ok.lines)) is (c.in-Err.ensures.stopped f told st (none_taken_of h) start (events_one_way nothing_written) (events_begin nothing_written (λ k limit before e more. ([], refl))) events_closed_one_way (none_taken h instance_most)))));
       cause = subst (IsReadingCause _ _ _) (sym c.events_stop.ensures) (fault_caused_reading event_end word _ _ _ 0 0 _ c.in-Err.fault (λ r. absurd (let x = r refl in omega (arith, x))) c.in-Err.ensures.fault c.in-Err.ensures.cause);
       same = c.take_lines.ensures.files;
       later = c.take_lines.ensures.later;

@@ -1,7 +1,7 @@
 use Rattle.std.proofs.lemmas.Result.{err_from_is_err_and}
 use Rattle.wf_intake.specs.Growing.{StopsRounds, HaltsRounds}
 use Rattle.wf_intake.proofs.Answering.{err_any, passed}
-use Rattle.wf_intake.proofs.Stepping.{next_held, halted_before, round_applied, round_fewer, round_refused, round_halted}
+use Rattle.wf_intake.proofs.Stepping.{next_held, halted_before, round_applied, round_one, round_refused, round_halted}
 use Rattle.wf_intake.proofs.round.apply_next.Goals as goal
 
 pub returns-in_err-held-clause-halted : goal.returns-in_err-held-clause-halted
@@ -28,5 +28,5 @@ returns-in_err-apply_event-clause-halted g c =
 pub returns-clause-round : goal.returns-clause-round
 returns-clause-round g c = round_applied _ _ g.R.Grows.written _ _ _ _ _ _ (next_held _ _ _ _ c.in-Some.is c.in_ok-held.ensures.next) _ _ _ _ c.number_of-number.result _ c.in_ok-apply_event.ensures.marks c.in_ok-apply_event.ensures.noted c.number_of-number.ensures c.in_ok-apply_event.ensures.applied
 
-pub returns-clause-fewer : goal.returns-clause-fewer
-returns-clause-fewer g c = λ _. round_fewer (g.R.Grows.grammar c.args.run.now) (g.R.Grows.most c.args.run.now) g.R.Grows.written _ _ c.args.reported.now (g.R.Grows.is_run c.args.run.now) _ _ (next_held _ _ _ _ c.in-Some.is c.in_ok-held.ensures.next) (g.R.Grows.text c.args.run.now) (g.R.Grows.text c.args.run.now) _ c.in_ok-apply_event.ensures.marks
+pub returns-clause-one : goal.returns-clause-one
+returns-clause-one g c = round_one (g.R.Grows.grammar c.args.run.now) (g.R.Grows.most c.args.run.now) g.R.Grows.written _ _ c.args.reported.now (g.R.Grows.is_run c.args.run.now) _ _ (next_held _ _ _ _ c.in-Some.is c.in_ok-held.ensures.next) (g.R.Grows.text c.args.run.now) (g.R.Grows.text c.args.run.now) _ c.in_ok-apply_event.ensures.marks

@@ -11,24 +11,24 @@ is_bit : (b d : Bool) (bits left : List Bool) → bits ≡ b ∷ left → b ≡ 
 is_bit b d bits left e is = e ∙ ap (λ z. z ∷ left) is
 
 -- behind a one a place is left
-place_left : (c : Then-of_edge) (marks : List Mark) → BeginLabel c.args.g.now.core c.args.bits.now.left marks → BeginMarks c.args.g.now.core c.start-start.result.0 false c.bit.new.self.left marks
+place_left : (c : Then-of_edge) (marks : List Mark) → BeginLabel c.args.g.grammar.now.core c.args.bits.now.left marks → BeginMarks c.args.g.grammar.now.core c.start-start.result.0 false c.bit.new.self.left marks
 place_left c marks h =
-    let g = c.args.g.now.core in
+    let g = c.args.g.grammar.now.core in
     let left = c.bit.new.self.left in
     let bit = rw c.unwrap-of_edge.ensures at c.bit.ensures.ok in
     subst (λ z. BeginMarks g z false left marks) (sym c.start-start.ensures.start) (edge_first g c.args.bits.now.left left marks (is_bit c.unwrap-of_edge.result true c.args.bits.now.left left bit c.if-of_edge.true) h)
 
 -- behind a zero a port is left
-port_left : (c : After-bit-2) (marks : List Mark) → BeginLabel c.args.g.now.core c.args.bits.now.left marks → IsPortFirst c.bit.new.self.left marks
+port_left : (c : After-bit-2) (marks : List Mark) → BeginLabel c.args.g.grammar.now.core c.args.bits.now.left marks → IsPortFirst c.bit.new.self.left marks
 port_left c marks h =
     let bit = rw c.unwrap-of_edge.ensures at c.bit.ensures.ok in
-    port_first c.args.g.now.core c.start-start.ensures.formed c.args.bits.now.left c.bit.new.self.left marks (is_bit c.unwrap-of_edge.result false c.args.bits.now.left c.bit.new.self.left bit c.if-of_edge.false) h
+    port_first c.args.g.grammar.now.core c.start-start.ensures.formed c.args.bits.now.left c.bit.new.self.left marks (is_bit c.unwrap-of_edge.result false c.args.bits.now.left c.bit.new.self.left bit c.if-of_edge.false) h
 
 pub unwrap-of_edge-requires : goal.unwrap-of_edge-requires
-unwrap-of_edge-requires c = ok_from c.bit.result (λ e. label_bit c.args.g.now.core c.args.bits.now.left c.requires.marks.0 c.requires.marks.1 (c.bit.ensures.ended.0 e))
+unwrap-of_edge-requires c = ok_from c.bit.result (λ e. label_bit c.args.g.grammar.now.core c.args.bits.now.left c.requires.marks.0 c.requires.marks.1 (c.bit.ensures.ended.0 e))
 
-pub place_mark-requires-clause-marks : goal.place_mark-requires-clause-marks
-place_mark-requires-clause-marks c = (c.requires.marks.0, place_left (goal.at.place_mark-requires-clause-marks c).Then-of_edge c.requires.marks.0 c.requires.marks.1)
+pub place_mark-requires : goal.place_mark-requires
+place_mark-requires c = record { marks = (c.requires.marks.0, place_left (goal.at.place_mark-requires c).Then-of_edge c.requires.marks.0 c.requires.marks.1) }
 
 pub returns-then-of_edge-clause-first : goal.returns-then-of_edge-clause-first
 returns-then-of_edge-clause-first c = λ marks h. c.place_mark.ensures.first marks (place_left (goal.at.returns-then-of_edge-clause-first c).Then-of_edge marks h)

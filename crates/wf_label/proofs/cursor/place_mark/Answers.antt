@@ -5,30 +5,30 @@ use Rattle.wf_label.proofs.Options.{none_told, some_told}
 use Rattle.wf_label.proofs.MarksRead.{ok_from, some_bit, marks_below, no_chain, chain_number, chain_read}
 use Rattle.wf_label.proofs.cursor.place_mark.Goals as goal
 
-pub continuing_step-requires-clause-in_range : goal.continuing_step-requires-clause-in_range
-continuing_step-requires-clause-in_range c = marks_below c.args.g.now.core c.start-formed.ensures.formed c.args.m.0 false c.requires.marks.0 c.requires.marks.1.of_it
+pub continuing_step-requires : goal.continuing_step-requires
+continuing_step-requires c = record { in_range = marks_below c.args.g.grammar.now.core c.start-formed.ensures.formed c.args.m.0 false c.requires.marks.0 c.requires.marks.1.of_it }
 
 pub part_mark-requires : goal.part_mark-requires
 part_mark-requires c =
     let none = none_told _ c.continuing_step.result _ c.continuing_step.ensures c.if-is_none.ensures in
-    (c.requires.marks.0, no_chain c.args.g.now.core c.args.m.0 c.args.bits.now.left c.requires.marks.0 none c.requires.marks.1)
+    (c.requires.marks.0, no_chain c.args.g.grammar.now.core c.args.m.0 c.args.bits.now.left c.requires.marks.0 none c.requires.marks.1)
 
 pub returns-then-is_none-clause-first : goal.returns-then-is_none-clause-first
 returns-then-is_none-clause-first c = λ marks h.
     let none = none_told _ c.continuing_step.result _ c.continuing_step.ensures c.if-is_none.ensures in
-    c.part_mark.ensures.first marks (no_chain c.args.g.now.core c.args.m.0 c.args.bits.now.left marks none h)
+    c.part_mark.ensures.first marks (no_chain c.args.g.grammar.now.core c.args.m.0 c.args.bits.now.left marks none h)
 
 pub unwrap-c-requires : goal.unwrap-c-requires
 unwrap-c-requires c =
     let on = some_told _ c.continuing_step.result _ c.continuing_step.ensures c.if-is_none.ensures in
-    ok_from c.read_number.result (λ e. chain_number c.args.g.now.core c.args.m.0 c.args.bits.now.left c.requires.marks.0 on c.requires.marks.1 (c.read_number.ensures.malformed e))
+    ok_from c.read_number.result (λ e. chain_number c.args.g.grammar.now.core c.args.m.0 c.args.bits.now.left c.requires.marks.0 on c.requires.marks.1 (c.read_number.ensures.malformed e))
 
 pub passed-requires-clause-module_no : goal.passed-requires-clause-module_no
-passed-requires-clause-module_no c = marks_below c.args.g.now.core c.start-formed.ensures.formed c.args.m.0 false c.requires.marks.0 c.requires.marks.1.of_it
+passed-requires-clause-module_no c = marks_below c.args.g.grammar.now.core c.start-formed.ensures.formed c.args.m.0 false c.requires.marks.0 c.requires.marks.1.of_it
 
 pub returns-clause-first : goal.returns-clause-first
 returns-clause-first c = λ marks h.
-    let g = c.args.g.now.core in
+    let g = c.args.g.grammar.now.core in
     let n = c.unwrap-c.result in
     let on = some_told _ c.continuing_step.result _ c.continuing_step.ensures c.if-is_none.ensures in
     let number = rw c.unwrap-c.ensures at c.read_number.ensures.read in

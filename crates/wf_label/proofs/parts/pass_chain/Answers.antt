@@ -8,19 +8,19 @@ use Rattle.wf_label.proofs.parts.pass_chain.Goals as goal
 
 pub returns-then-is_none-clause-passed : goal.returns-then-is_none-clause-passed
 returns-then-is_none-clause-passed c =
-    let g = c.args.g.now.core in
+    let g = c.args.g.grammar.now.core in
     let m = c.args.m.0 in
     passed_none (IsPlaceLeft g m) (IsPartLeft g m) c.args.reader.now
     (no_chain_left g m (none_told _ c.continuing_step.result _ c.continuing_step.ensures c.if-is_none.ensures))
 
 pub returns-in_err-c-clause-malformed : goal.returns-in_err-c-clause-malformed
 returns-in_err-c-clause-malformed c = λ _.
-    no_chain_number c.args.g.now.core c.args.m.0 c.args.reader.now.left
+    no_chain_number c.args.g.grammar.now.core c.args.m.0 c.args.reader.now.left
     (some_told _ c.continuing_step.result _ c.continuing_step.ensures c.if-is_none.ensures) (c.in_err-c.ensures.malformed refl)
 
 pub returns-clause-passed : goal.returns-clause-passed
 returns-clause-passed c =
-    let g = c.args.g.now.core in
+    let g = c.args.g.grammar.now.core in
     let m = c.args.m.0 in
     let n = c.in_ok-c.c in
     let continues = some_told _ c.continuing_step.result _ c.continuing_step.ensures c.if-is_none.ensures in

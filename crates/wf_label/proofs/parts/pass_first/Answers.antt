@@ -6,7 +6,7 @@ use Rattle.wf_label.proofs.parts.pass_first.Goals as goal
 
 pub returns-clause-passed : goal.returns-clause-passed
 returns-clause-passed c =
-    let g = c.args.g.now.core in
+    let g = c.args.g.grammar.now.core in
     let place = IsPlaceLeft g c.args.m.0 in
     let part = IsPartLeft g c.in_ok-k.k.0 in
     let a = c.args.reader.now in

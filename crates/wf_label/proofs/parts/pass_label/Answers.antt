@@ -21,7 +21,7 @@ two_bits g b c d e x y z first is at second is_then at_then =
 
 pub returns-then-of_edge-clause-passed : goal.returns-then-of_edge-clause-passed
 returns-then-of_edge-clause-passed c =
-    let g = c.args.g.now.core in
+    let g = c.args.g.grammar.now.core in
     let a = c.args.reader.now in
     let b = c.bit.new.self in
     let d = c.pass_place.new.reader in
@@ -30,7 +30,7 @@ returns-then-of_edge-clause-passed c =
 
 pub returns-then-is_output-clause-passed : goal.returns-then-is_output-clause-passed
 returns-then-is_output-clause-passed c =
-    let g = c.args.g.now.core in
+    let g = c.args.g.grammar.now.core in
     let a = c.args.reader.now in
     let b = c.bit-2.new.self in
     let d = c.pass_port.new.reader in
@@ -42,7 +42,7 @@ returns-then-is_output-clause-passed c =
 
 pub returns-clause-passed : goal.returns-clause-passed
 returns-clause-passed c =
-    let g = c.args.g.now.core in
+    let g = c.args.g.grammar.now.core in
     let a = c.args.reader.now in
     let b = c.bit-2.new.self in
     let d = c.pass_port-2.new.reader in

@@ -7,13 +7,13 @@ use Rattle.wf_label.proofs.parts.pass_part.Goals as goal
 
 pub returns-in_err-p-clause-malformed : goal.returns-in_err-p-clause-malformed
 returns-in_err-p-clause-malformed c = λ _ h.
-    let g = c.args.g.now.core in
+    let g = c.args.g.grammar.now.core in
     let k = c.args.k.0 in
     no_alternative g k c.in-Ok.is_step c.bit.new.self.left (c.in_err-p.ensures.malformed refl) (subst (IsPartLeft g k) c.in-Ok.ensures.ok h)
 
 pub returns-then-is_step-clause-passed : goal.returns-then-is_step-clause-passed
 returns-then-is_step-clause-passed c =
-    let g = c.args.g.now.core in
+    let g = c.args.g.grammar.now.core in
     let k = c.args.k.0 in
     let p = c.in_ok-p.p.0 in
     let is = c.in-Ok.ensures.ok ∙ ap (λ b. b ∷ c.bit.new.self.left) c.if-is_step.true in
@@ -22,7 +22,7 @@ returns-then-is_step-clause-passed c =
 
 pub returns-clause-passed : goal.returns-clause-passed
 returns-clause-passed c =
-    let g = c.args.g.now.core in
+    let g = c.args.g.grammar.now.core in
     let k = c.args.k.0 in
     let p = c.in_ok-p.p.0 in
     let is = c.in-Ok.ensures.ok ∙ ap (λ b. b ∷ c.bit.new.self.left) c.if-is_step.false in

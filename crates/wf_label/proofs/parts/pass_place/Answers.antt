@@ -8,7 +8,7 @@ use Rattle.wf_label.proofs.parts.pass_place.Goals as goal
 
 pub loop-next-preserved : goal.loop-next-preserved
 loop-next-preserved c =
-    let g = c.args.g.now.core in
+    let g = c.args.g.grammar.now.core in
     let place = IsPlaceLeft g c.loop-next.m.0 in
     let next = c.in-Some.next in
     let a = c.args.reader.now in
@@ -20,7 +20,7 @@ loop-next-preserved c =
 
 pub returns-clause-passed : goal.returns-clause-passed
 returns-clause-passed c =
-    let g = c.args.g.now.core in
+    let g = c.args.g.grammar.now.core in
     let place = IsPlaceLeft g c.loop-next.m.0 in
     let a = c.args.reader.now in
     let b = c.loop-next.reader in

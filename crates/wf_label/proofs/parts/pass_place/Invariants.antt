@@ -5,8 +5,8 @@ use Rattle.wf_label.proofs.parts.pass_place.Given as goal
 
 abbrev pub invariant-loop-next : goal.invariant-loop-next
 invariant-loop-next l = record {
-  in_range : l.m.0 < length l.g.core.modules;
-  passed : IsPassed (IsPlaceLeft l.g.core l.g.core.start) (IsPlaceLeft l.g.core l.m.0) l.initial.reader l.reader;
+  in_range : l.m.0 < length l.g.grammar.now.core.modules;
+  passed : IsPassed (IsPlaceLeft l.g.grammar.now.core l.g.grammar.now.core.start) (IsPlaceLeft l.g.grammar.now.core l.m.0) l.initial.reader l.reader;
 }
 
 abbrev pub decreases-loop-next : goal.decreases-loop-next

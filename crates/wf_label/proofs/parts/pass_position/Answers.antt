@@ -17,7 +17,7 @@ use Rattle.wf_label.proofs.Counts.{positions_held}
 
 pub returns-in_err-i-clause-malformed : goal.returns-in_err-i-clause-malformed
 returns-in_err-i-clause-malformed c = λ _.
-    let g = c.args.g.now.core in
+    let g = c.args.g.grammar.now.core in
     let p = c.args.p.0 in
     let left = c.args.reader.now.left in
     let few = positions_held c.positions-positions.result.now c.production-rule.result.now.core (production_at g p) c.positions-positions.ensures c.production-rule.ensures.core in
@@ -32,7 +32,7 @@ read xs r s k d are is h =
 
 pub returns-then-is_continuing-clause-malformed : goal.returns-then-is_continuing-clause-malformed
 returns-then-is_continuing-clause-malformed c = λ _ h.
-    let g = c.args.g.now.core in
+    let g = c.args.g.grammar.now.core in
     let p = c.args.p.0 in
     let t : Step = record { production = p; position = c.in_ok-i.i } in
     let head = c.head.ensures ∙ ap (λ (r : Production). r.head) c.production-rule.ensures.core in
@@ -41,7 +41,7 @@ returns-then-is_continuing-clause-malformed c = λ _ h.
 
 pub returns-clause-in_range : goal.returns-clause-in_range
 returns-clause-in_range c =
-    let g = c.args.g.now.core in
+    let g = c.args.g.grammar.now.core in
     let p = c.args.p.0 in
     let t : Step = record { production = p; position = c.in_ok-i.i } in
     let at = read c.positions-positions.result.now c.production-rule.result.now.core (production_at g p) c.in_ok-i.i c.index-positions-i.result c.positions-positions.ensures c.production-rule.ensures.core c.in_ok-i.ensures.below in
@@ -49,7 +49,7 @@ returns-clause-in_range c =
 
 pub returns-clause-passed : goal.returns-clause-passed
 returns-clause-passed c =
-    let g = c.args.g.now.core in
+    let g = c.args.g.grammar.now.core in
     let p = c.args.p.0 in
     let i = c.in_ok-i.i in
     let t : Step = record { production = p; position = i } in

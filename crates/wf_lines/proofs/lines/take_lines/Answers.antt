@@ -1,26 +1,28 @@
-use Rattle.std.proofs.Common.{◌≡◌, refl, sym, ◌∙◌, subst, arith}
+use Rattle.std.proofs.Common.{ℕ, List, sym, ◌∙◌, subst, arith}
 use Rattle.wf_io.specs.Readers.{Stands, Advances, left_in}
-use Rattle.wf_lines.specs.Taking.{Halts, IsStoppedBy, IsStoppedAtEnd}
+use Rattle.wf_lines.specs.BegunLines.{begun_line}
+use Rattle.wf_lines.specs.Taking.{Halts, IsStoppedBy}
 use Rattle.wf_lines.proofs.Seekings.{advanced_lends, advanced_ends, stands_as}
-use Rattle.wf_lines.proofs.SoFar.{none_taken, one_more, later_due, lent_length, all_counted}
+use Rattle.wf_lines.proofs.SoFar.{one_more, later_due, lent_length, all_counted}
 use Rattle.wf_lines.proofs.Stoppings.{halt_stops, line_stops, end_stops, end_taken}
 use Rattle.wf_lines.proofs.Causes.{writing_caused}
 use Rattle.wf_lines.proofs.lines.take_lines.Goals as goal
 
 pub returns-in-Err-clause-stopped : goal.returns-in-Err-clause-stopped
-returns-in-Err-clause-stopped g c = λ f told st s at one closed sound.
+returns-in-Err-clause-stopped g c = λ f told st s at one begins closed sound.
     let i = c.loop-halt.invariant in
     let halts = subst (λ k. Stands (f k) c.loop-halt.lines → Halts (left_in (f k) c.loop-halt.lines) c.in-Err.halt) i.name (c.in-Err.ensures.lines f (i.files ∙ told)) (i.stands f told st) in
     halt_stops g.T.Taker.ends g.T.Taker.takes g.T.Taker.stops g.T.Taker.finishes g.T.Taker.stops_at_end g.T.Taker.is_sound one closed s sound _ _ _ _ _ _ (i.so_far f told st s at) c.in-Err.halt halts c.in-Err.ensures.put
 
 pub returns-in-Err-take_line-clause-stopped : goal.returns-in-Err-take_line-clause-stopped
-returns-in-Err-take_line-clause-stopped g c = λ f told st s at one closed sound.
+returns-in-Err-take_line-clause-stopped g c = λ f told st s at one begins closed sound.
     let i = c.loop-halt.invariant in
     let lends = advanced_lends _ _ _ _ c.in-Ok-true.field-0-test (subst (λ k. Stands (f k) c.loop-halt.lines → Advances c.in-Ok-true.field-0 (left_in (f k) c.loop-halt.lines) c.next_line.new.lines (left_in (f k) c.next_line.new.lines)) i.name (c.in-Ok-true.ensures.lines f (i.files ∙ told)) (i.stands f told st)) in
     let far = later_due g.T.Taker.ends g.T.Taker.takes g.T.Taker.stops s _ _ _ _ _ (i.so_far f told st s at) _ _ c.in-Ok-true.ensures.due in
-    let stopped = subst (λ n. IsStoppedBy g.T.Taker.takes g.T.Taker.stops g.T.Taker.end_of far.state n c.next_line.new.lines.held c.next_line.new.due c.in-Err-take_line.fault (g.O.Sink.put_bytes c.next_line.new.out) (g.O.Sink.put_bytes c.take_line.new.out)) c.line-number.ensures
-    (subst (λ x. IsStoppedBy g.T.Taker.takes g.T.Taker.stops g.T.Taker.end_of far.state c.line-number.result x c.next_line.new.due c.in-Err-take_line.fault (g.O.Sink.put_bytes c.next_line.new.out) (g.O.Sink.put_bytes c.take_line.new.out)) c.held.ensures (c.in-Err-take_line.ensures.stopped far.state far.at)) in
-    line_stops g.T.Taker.ends g.T.Taker.takes g.T.Taker.stops g.T.Taker.finishes g.T.Taker.stops_at_end g.T.Taker.is_sound one closed s sound _ _ _ _ _ _ far c.next_line.new.lines _ lends g.T.Taker.end_of c.in-Err-take_line.fault stopped
+    let t = g.T.Taker in
+    let By : ℕ → List ℕ → Type 0 = λ n x. IsStoppedBy (t.stops far.state n x) (λ piece. t.begins (begun_line far.state n x piece)) t.end_of c.next_line.new.due c.in-Err-take_line.fault (g.O.Sink.put_bytes c.next_line.new.out) (g.O.Sink.put_bytes c.take_line.new.out) in
+    let stopped = subst (λ n. By n c.next_line.new.lines.held) c.line-number.ensures (subst (By c.line-number.result) c.held.ensures (c.in-Err-take_line.ensures.stopped far.state far.at)) in
+    line_stops t.ends t.takes t.stops t.finishes t.stops_at_end t.is_sound one closed s sound _ _ _ _ _ _ far c.next_line.new.lines _ lends t.begins begins t.end_of c.in-Err-take_line.fault stopped
 
 pub returns-in-Err-take_line-clause-cause : goal.returns-in-Err-take_line-clause-cause
 returns-in-Err-take_line-clause-cause g c =
@@ -51,7 +53,7 @@ loop-halt-preserved g c =
     }
 
 pub returns-in-Err-take_end-clause-stopped : goal.returns-in-Err-take_end-clause-stopped
-returns-in-Err-take_end-clause-stopped g c = λ f told st s at one closed sound.
+returns-in-Err-take_end-clause-stopped g c = λ f told st s at one begins closed sound.
     let i = c.loop-halt.invariant in
     let ends = advanced_ends _ _ _ _ c.in-Ok-false.field-0-test (subst (λ k. Stands (f k) c.loop-halt.lines → Advances c.in-Ok-false.field-0 (left_in (f k) c.loop-halt.lines) c.next_line.new.lines (left_in (f k) c.next_line.new.lines)) i.name (c.in-Ok-false.ensures.lines f (i.files ∙ told)) (i.stands f told st)) in
     let far = later_due g.T.Taker.ends g.T.Taker.takes g.T.Taker.stops s _ _ _ _ _ (i.so_far f told st s at) _ _ c.in-Ok-false.ensures.due in

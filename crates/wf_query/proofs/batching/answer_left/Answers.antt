@@ -2,6 +2,7 @@ use Rattle.std.proofs.Common.{◌≡◌, ℕ, List, Option, refl, sym, ap, ◌�
 use Rattle.wf_io.specs.Lines.{FileLines}
 use Rattle.wf_lines.specs.declared.fault.LinesFault.{LinesFault}
 use Rattle.wf_lines.specs.Taking.{end_at}
+use Rattle.wf_lines.proofs.Pieces.{begins_at_once}
 use Rattle.wf_query.specs.declared.answering.QueryFault.{QueryFault}
 use Rattle.wf_query.specs.declared.batching.BatchFault.{BatchFault}
 use Rattle.wf_query.specs.Lines.{ArePut, ended_at, query_ends}
@@ -23,7 +24,7 @@ pub returns-in-Err-clause-put : goal.returns-in-Err-clause-put
 returns-in-Err-clause-put g c f told stands k knows one =
     let words = g.A.Answerer.words in
     put_by_fault (words k) _ c.in-Err.fault c.fault_of.result _ _ c.fault_of.ensures
-    (put_of_stopped words k _ _ _ _ (c.in-Err.ensures.stopped f told stands k knows (queries_one_way words) (queries_closed_one_way words) one))
+    (put_of_stopped words k _ _ _ _ (c.in-Err.ensures.stopped f told stands k knows (queries_one_way words) (begins_at_once _ _ _ (queries_one_way words)) (queries_closed_one_way words) one))
 
 -- what is kept of what answers holds of it where the loan is over
 pub returns-in-Ok-clause-ready : goal.returns-in-Ok-clause-ready

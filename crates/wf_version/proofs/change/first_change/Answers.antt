@@ -7,7 +7,7 @@ loop-m-preserved c = below_more _ _ c.loop-m.invariant (λ q. true≢false (sym 
 
 pub returns : goal.returns
 returns c = λ k q.
-    let low = composite_below c.args.g.now.core c.args.version.modules c.args.version.productions c.requires.version k q.0 in
+    let low = composite_below c.args.g.grammar.now.core c.args.version.modules c.args.version.productions c.requires.version k q.0 in
     let few = c.requires.version.modules in
     let count = ap length c.modules-m-end.ensures.modules in
     c.loop-m.invariant k (omega arith) q

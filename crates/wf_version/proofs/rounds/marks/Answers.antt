@@ -7,9 +7,9 @@ use Rattle.wf_version.proofs.rounds.marks.Goals as goal
 
 pub loop-c-preserved : goal.loop-c-preserved
 loop-c-preserved c =
-    let g = c.args.g.now.core in
+    let g = c.args.g.grammar.now.core in
     let p = c.args.version.productions in
-    let t = c.args.cycles.now in
+    let t = c.args.g.cycles.now in
     let e = c.in_ok-push.ensures.items in
     record {
       count = ap length e ∙ (length_push c.loop-c.list.items c.round_is_within.result ∙ ap (λ n. n + 1) c.loop-c.invariant.count);

@@ -6,5 +6,5 @@ use Rattle.wf_version.proofs.rounds.marks.Given as goal
 abbrev pub invariant-loop-c : goal.invariant-loop-c
 invariant-loop-c l = record {
   count : length l.list.items ≡ l.c;
-  told : (k : ℕ) → k < l.c → (get_or l.list.items k false ≡ true) ↔ RoundWithin l.g.core l.version.productions (round_at l.cycles k);
+  told : (k : ℕ) → k < l.c → (get_or l.list.items k false ≡ true) ↔ RoundWithin l.g.grammar.now.core l.version.productions (round_at l.g.cycles.now k);
 }

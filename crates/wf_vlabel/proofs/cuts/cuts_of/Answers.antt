@@ -4,6 +4,7 @@ use Rattle.wf_model.specs.View.{expands}
 use Rattle.wf_recur.specs.Cycles.{round_at}
 use Rattle.wf_vlabel.specs.Cuts.{IsCut}
 use Rattle.wf_vlabel.proofs.Cutting.{cuts_more, cuts_all}
+use Rattle.wf_recur.proofs.OneTable.{cycled}
 use Rattle.wf_vlabel.proofs.cuts.cuts_of.Goals as goal
 
 pub loop-c-init : goal.loop-c-init
@@ -16,8 +17,8 @@ loop-c-preserved c =
     let n = c.deref_mut.ensures.len in
     let e = c.deref_mut.ensures.value in
     let k = c.cut_cycle.ensures.count in
-    let g = c.args.g.now.core in
-    let t = c.args.cycles.now in
+    let g = c.args.g.grammar.now.core in
+    let t = c.args.g.cycles.now in
     let v = c.loop-c.invariant in
     let kept = subst (λ old. (m : ℕ) → IsCut g (expands c.args.view.now.core) m (get_or old m None) → IsCut g (expands c.args.view.now.core) m (get_or c.cut_cycle.new.cuts m None)) e c.cut_cycle.ensures.kept in
     subst (λ cuts. (length cuts ≡ length g.modules) × ((k j : ℕ) → k < c.loop-c.c + 1 → j < length (round_at t k) → IsCut g (expands c.args.view.now.core) (get_or (round_at t k) j 0) (get_or cuts (get_or (round_at t k) j 0) None)))
@@ -29,4 +30,4 @@ loop-c-preserved c =
 pub returns-clause-cuts : goal.returns-clause-cuts
 returns-clause-cuts c =
     let e = c.count-c-end.ensures in
-    cuts_all c.args.g.now.core c.args.cycles.now (expands c.args.view.now.core) c.loop-c.cuts.items c.requires.cycles (λ k j l h. c.loop-c.invariant.1 k j (omega arith) h)
+    cuts_all c.args.g.grammar.now.core c.args.g.cycles.now (expands c.args.view.now.core) c.loop-c.cuts.items (cycled c.args.g.grammar.now.core c.modules.ensures.formed c.args.g.linear c.args.g.cycles.now c.args.g.cycled) (λ k j l h. c.loop-c.invariant.1 k j (omega arith) h)

@@ -7,6 +7,7 @@ use Rattle.wf_recur.specs.Cycles.{round_at, least_of}
 use Rattle.wf_vlabel.specs.RoundSteps.{HasRounds, numbers_in}
 use Rattle.wf_vlabel.proofs.OpenCycles.{steps_held}
 use Rattle.wf_vlabel.proofs.SquareGroups.{HaveRoundsBelow, rounds_more, squares_told}
+use Rattle.wf_recur.proofs.OneTable.{cycled}
 use Rattle.wf_vlabel.proofs.rounds.square_groups.Goals as goal
 use Rattle.wf_vlabel.proofs.rounds.square_groups.Goals.{then-is_open+in_ok-square_cycle, else-is_open}
 
@@ -18,12 +19,12 @@ loop-c-init c =
 pub square_cycle-requires-clause-steps : goal.square_cycle-requires-clause-steps
 square_cycle-requires-clause-steps c =
     let d = pairs_of c.args.full.now in
-    (d, steps_held c.args.g.now.core c.args.view.now.core d c.args.bodies.now _ c.requires.bodies (c.is_open.ensures.0 c.if-is_open.true))
+    (d, steps_held c.args.g.grammar.now.core c.args.view.now.core d c.args.bodies.now _ c.requires.bodies (c.is_open.ensures.0 c.if-is_open.true))
 
 pub loop-c-preserved : goal.loop-c-preserved
 loop-c-preserved c =
-    let g = c.args.g.now.core in
-    let t = c.args.cycles.now in
+    let g = c.args.g.grammar.now.core in
+    let t = c.args.g.cycles.now in
     let v = c.args.view.now.core in
     let d = pairs_of c.args.full.now in
     let so_far = c.loop-c.invariant in
@@ -49,12 +50,12 @@ loop-c-preserved c =
 
 pub returns : goal.returns
 returns c =
-    let g = c.args.g.now.core in
-    let t = c.args.cycles.now in
+    let g = c.args.g.grammar.now.core in
+    let t = c.args.g.cycles.now in
     let v = c.args.view.now.core in
     let d = pairs_of c.args.full.now in
     let e = c.count-c-end.ensures in
     let all : HaveRoundsBelow g t v d (length t.rounds) c.loop-c.squares (numbers_in c.loop-c.first.items) = λ k j l h o. c.loop-c.invariant.1 k j (omega arith) h o in
-    squares_told g t v d c.of_pool.result c.modules.ensures.formed c.requires.linear c.requires.cycles
+    squares_told g t v d c.of_pool.result c.modules.ensures.formed c.args.g.linear (cycled c.args.g.grammar.now.core c.modules.ensures.formed c.args.g.linear c.args.g.cycles.now c.args.g.cycled)
     (subst (λ pool. HaveRoundsBelow g t v d (length t.rounds) pool c.of_pool.result.first) (sym c.of_pool.ensures.pool)
     (subst (HaveRoundsBelow g t v d (length t.rounds) c.loop-c.squares) (sym c.of_pool.ensures.first) all))

@@ -8,32 +8,32 @@ use Rattle.label_file.proofs.store.Store.open_with_key.Goals as goal
 
 pub returns-in_err-rest-clause-fault : goal.returns-in_err-rest-clause-fault
 returns-in_err-rest-clause-fault c =
-    let p = err_from_is_err_and c.from_residual.result c.from_residual.ensures.1 in rw (p.1, p.2) (c.in_err-rest.ensures.fault c.args.g.now.core)
+    let p = err_from_is_err_and c.from_residual.result c.from_residual.ensures.1 in rw (p.1, p.2) (c.in_err-rest.ensures.fault c.args.g.grammar.now.core)
 
 pub loop-rest-init : goal.loop-rest-init
 loop-rest-init c =
     let entries = c.in_ok-with_capacity.field-0.keys in
     let none : entries ≡ [] = nil_from_length entries c.in_ok-with_capacity.ensures.len in
     let found = c.in_ok-rest.ensures.head in
-    subst (λ es. AreReadSoFar c.args.g.now.core c.args.digests.now c.args.bytes.now c.in_ok-rest.rest.now (held es)) (sym none)
-    (none_read c.args.g.now.core c.args.digests.now found.0 c.args.bytes.now c.in_ok-rest.rest.now found.1 found.2 found.3)
+    subst (λ es. AreReadSoFar c.args.g.grammar.now.core c.args.digests.now c.args.bytes.now c.in_ok-rest.rest.now (held es)) (sym none)
+    (none_read c.args.g.grammar.now.core c.args.digests.now found.0 c.args.bytes.now c.in_ok-rest.rest.now found.1 found.2 found.3)
 
 pub returns-in_default-clause-fault : goal.returns-in_default-clause-fault
 returns-in_default-clause-fault c =
     let rest = c.loop-rest.rest.now in
     let read = c.loop-rest.invariant in
     let some : length rest ≢ 0 = λ q. true≢false (sym (eq-eqb (length rest) 0 q) ∙ (sym c.is_empty.ensures ∙ c.loop-rest-test.true)) in
-    none_whole c.args.g.now.core c.args.digests.now c.args.bytes.now rest c.loop-rest.store read some c.in_default.ensures.none _ (omega (arith, read.place))
+    none_whole c.args.g.grammar.now.core c.args.digests.now c.args.bytes.now rest c.loop-rest.store read some c.in_default.ensures.none _ (omega (arith, read.place))
 
 pub returns-in_err-add-clause-fault : goal.returns-in_err-add-clause-fault
 returns-in_err-add-clause-fault c =
     let p = err_from_is_err_and c.from_residual-in_err-add.result c.from_residual-in_err-add.ensures.1 in
-    rw (p.1, p.2) (refused c.args.g.now.core c.args.digests.now c.args.bytes.now c.loop-rest.rest.now c.loop-rest.store c.loop-rest.invariant _ _ _ c.in-Some.ensures.some c.in_err-add.ensures.refused)
+    rw (p.1, p.2) (refused c.args.g.grammar.now.core c.args.digests.now c.args.bytes.now c.loop-rest.rest.now c.loop-rest.store c.loop-rest.invariant _ _ _ c.in-Some.ensures.some c.in_err-add.ensures.refused)
 
 pub loop-rest-preserved : goal.loop-rest-preserved
 loop-rest-preserved c =
-    one_more c.args.g.now.core c.args.digests.now c.args.bytes.now c.loop-rest.rest.now c.loop-rest.store c.loop-rest.invariant _ _ _ c.in-Some.ensures.some c.in_ok-add.ensures.added
+    one_more c.args.g.grammar.now.core c.args.digests.now c.args.bytes.now c.loop-rest.rest.now c.loop-rest.store c.loop-rest.invariant _ _ _ c.in-Some.ensures.some c.in_ok-add.ensures.added
 
 pub returns-clause-store : goal.returns-clause-store
 returns-clause-store c =
-    all_read c.args.g.now.core c.args.digests.now c.args.bytes.now c.loop-rest.rest.now c.loop-rest.store c.loop-rest.invariant (eqb-true _ _ (sym c.is_empty.ensures ∙ c.loop-rest-test.false))
+    all_read c.args.g.grammar.now.core c.args.digests.now c.args.bytes.now c.loop-rest.rest.now c.loop-rest.store c.loop-rest.invariant (eqb-true _ _ (sym c.is_empty.ensures ∙ c.loop-rest-test.false))

@@ -1,36 +1,47 @@
 use Rattle.std.proofs.Common.{ap, ◌∙◌}
-use Rattle.wf_stage.proofs.LineEnds.{told_is}
-use Rattle.wf_inputs.specs.declared.event_stop.EventStop.TheVariants.{Report}
-use Rattle.wf_inputs.specs.EventsEnd.{intake_end, event_end}
-use Rattle.wf_inputs.proofs.ReportLines.{still_taken, report_taken, report_refused, stop_at_report, refused_or_wanting}
+use Rattle.wf_inputs.proofs.ReportLines.{still_taken, report_begun, report_begins, report_refused, report_wanting, refused_at, wanting_at, refused_or_wanting}
 use Rattle.wf_inputs.proofs.reports.ReportingTaker.take.Goals as goal
 
-pub returns-in-Ok-taken-clause-taken : goal.returns-in-Ok-taken-clause-taken
-returns-in-Ok-taken-clause-taken g c = λ s at.
+pub returns-in-Ok-begun-clause-within : goal.returns-in-Ok-begun-clause-within
+returns-in-Ok-begun-clause-within g c = λ s at.
     let r = g.R.Grows in
     let old = c.args.self.now in
     let clear = c.clear.ensures in
-    report_taken r.written (r.grammar c.clear.new.self) (r.most c.clear.new.self) old.inbox.kept old.reported (r.is_run c.clear.new.self) c.args.number c.args.text.now c.in-Ok.event c.in-Ok.ensures.ok
-    (r.text c.clear.new.self) (r.text c.take_report-taken.new.run) clear.text
-    (r.grammar c.take_report-taken.new.run) (r.most c.take_report-taken.new.run) c.take_report-taken.new.inbox.kept c.take_report-taken.new.reported (r.is_run c.take_report-taken.new.run) c.take_report-taken.ensures.grammar c.take_report-taken.ensures.most c.in-Ok-taken.ensures.taken s
+    let now = c.begin_report-begun.new in
+    report_begun r.written (r.grammar c.clear.new.self) (r.most c.clear.new.self) old.inbox.kept old.reported (r.is_run c.clear.new.self) c.args.number c.args.text.now c.in-Ok.event c.in-Ok.ensures.ok (r.text c.clear.new.self) (r.text now.run) clear.text
+    (r.grammar now.run) (r.most now.run) now.inbox.kept now.reported (r.is_run now.run) c.begin_report-begun.ensures.grammar c.begin_report-begun.ensures.most c.in-Ok-begun.ensures.begun s
     (still_taken (r.grammar old.run) (r.grammar c.clear.new.self) (r.most old.run) (r.most c.clear.new.self) old.inbox.kept old.reported (r.is_run old.run) (r.is_run c.clear.new.self) clear.grammar clear.most clear.run s at)
 
-pub returns-in_default : goal.returns-in_default
-returns-in_default g c =
+pub returns-in-Ok-begun-clause-begins : goal.returns-in-Ok-begun-clause-begins
+returns-in-Ok-begun-clause-begins g c = λ s at.
     let r = g.R.Grows in
     let old = c.args.self.now in
     let clear = c.clear.ensures in
-    let fault = c.in-Err-taken.fault in
-    let stop = stop_at_report fault (event_end (Report fault)) c.in_default.not-NoMemory (λ r told. ap intake_end told) in
-    record {
-      ready = tt;
-      taken = tt;
-      stopped = λ e told s at.
-          report_refused r.written (r.grammar c.clear.new.self) (r.most c.clear.new.self) old.inbox.kept old.reported (r.is_run c.clear.new.self) c.args.number c.args.text.now c.in-Ok.event c.in-Ok.ensures.ok
-          (r.text c.clear.new.self) (r.text c.take_report-taken.new.run) clear.text
-          (r.is_run c.take_report-taken.new.run) stop.0 e (told_is (event_end (Report fault)) e told ∙ stop.2) (c.in-Err-taken.ensures.stopped stop.0 stop.1) s
-          (still_taken (r.grammar old.run) (r.grammar c.clear.new.self) (r.most old.run) (r.most c.clear.new.self) old.inbox.kept old.reported (r.is_run old.run) (r.is_run c.clear.new.self) clear.grammar clear.most clear.run s at);
-      memory = λ none. absurd (stop.3 none);
-      fault = refused_or_wanting fault;
-      known = λ k h. c.take_report-taken.ensures.known k (clear.known k h);
-    }
+    let now = c.begin_report-begun.new in
+    report_begins r.written (r.grammar c.clear.new.self) (r.most c.clear.new.self) old.inbox.kept old.reported (r.is_run c.clear.new.self) c.args.number c.args.text.now c.in-Ok.event c.in-Ok.ensures.ok (r.text c.clear.new.self) (r.text now.run) clear.text
+    (r.grammar now.run) (r.most now.run) now.inbox.kept now.reported (r.is_run now.run) c.begin_report-begun.ensures.grammar c.begin_report-begun.ensures.most c.in-Ok-begun.ensures.begun s
+    (still_taken (r.grammar old.run) (r.grammar c.clear.new.self) (r.most old.run) (r.most c.clear.new.self) old.inbox.kept old.reported (r.is_run old.run) (r.is_run c.clear.new.self) clear.grammar clear.most clear.run s at)
+
+pub returns-clause-stopped : goal.returns-clause-stopped
+returns-clause-stopped g c = λ e told s at.
+    let r = g.R.Grows in
+    let old = c.args.self.now in
+    let clear = c.clear.ensures in
+    let now = c.begin_report-begun.new in
+    let stop = refused_at c.in-Err-begun.refused e told in
+    report_refused r.written (r.grammar c.clear.new.self) (r.most c.clear.new.self) old.inbox.kept old.reported (r.is_run c.clear.new.self) c.args.number c.args.text.now c.in-Ok.event c.in-Ok.ensures.ok (r.text c.clear.new.self) (r.text now.run) clear.text
+    (r.is_run now.run) stop.0 e stop.2 (c.in-Err-begun.ensures.stopped stop.0 stop.1) s
+    (still_taken (r.grammar old.run) (r.grammar c.clear.new.self) (r.most old.run) (r.most c.clear.new.self) old.inbox.kept old.reported (r.is_run old.run) (r.is_run c.clear.new.self) clear.grammar clear.most clear.run s at)
+
+pub returns-clause-wanting : goal.returns-clause-wanting
+returns-clause-wanting g c = λ none s at.
+    let r = g.R.Grows in
+    let old = c.args.self.now in
+    let clear = c.clear.ensures in
+    let now = c.begin_report-begun.new in
+    report_wanting r.written (r.grammar c.clear.new.self) (r.most c.clear.new.self) old.inbox.kept old.reported (r.is_run c.clear.new.self) c.args.number c.args.text.now c.in-Ok.event c.in-Ok.ensures.ok (r.text c.clear.new.self) (r.text now.run) clear.text
+    (r.is_run now.run) (c.in-Err-begun.ensures.halted (wanting_at c.in-Err-begun.refused none)) s
+    (still_taken (r.grammar old.run) (r.grammar c.clear.new.self) (r.most old.run) (r.most c.clear.new.self) old.inbox.kept old.reported (r.is_run old.run) (r.is_run c.clear.new.self) clear.grammar clear.most clear.run s at)
+
+pub returns-clause-fault : goal.returns-clause-fault
+returns-clause-fault g c = refused_or_wanting c.in-Err-begun.refused

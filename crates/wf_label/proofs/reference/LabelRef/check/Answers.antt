@@ -17,28 +17,28 @@ at_error P (Ok x) h = tt
 at_error P (Err e) h = h
 
 -- a label was read from the front of the bytes
-read : (c : After-at) → IsPassed (IsLabelLeft c.args.g.now.core) IsPadding (at_front c.args.bytes.now) c.pass_label.new.reader
-read c = subst (λ r. IsPassed (IsLabelLeft c.args.g.now.core) IsPadding r c.pass_label.new.reader) c.new-reader.ensures c.in_ok-pass_label.ensures.passed
+read : (c : After-at) → IsPassed (IsLabelLeft c.args.g.grammar.now.core) IsPadding (at_front c.args.bytes.now) c.pass_label.new.reader
+read c = subst (λ r. IsPassed (IsLabelLeft c.args.g.grammar.now.core) IsPadding r c.pass_label.new.reader) c.new-reader.ensures c.in_ok-pass_label.ensures.passed
 
 pub returns-then-bytes-gt16384-clause-malformed : goal.returns-then-bytes-gt16384-clause-malformed
-returns-then-bytes-gt16384-clause-malformed c = few_bytes c.args.g.now.core c.args.bytes.now c.start-formed.ensures.formed c.requires.linear c.if-bytes-gt16384.true
+returns-then-bytes-gt16384-clause-malformed c = few_bytes c.args.g.grammar.now.core c.args.bytes.now c.start-formed.ensures.formed c.args.g.linear c.if-bytes-gt16384.true
 
 pub returns-in_err-pass_label-clause-malformed : goal.returns-in_err-pass_label-clause-malformed
 returns-in_err-pass_label-clause-malformed c =
-    let g = c.args.g.now.core in
+    let g = c.args.g.grammar.now.core in
     let none = subst (λ (r : Reading). ¬ IsLabelLeft g r.left) c.new-reader.ensures (c.in_err-pass_label.ensures.malformed refl) in
     at_error (¬ IsLabelBytes g c.args.bytes.now) c.from_residual.result (nothing_read g c.args.bytes.now none)
 
 pub returns-else-padding-clause-malformed : goal.returns-else-padding-clause-malformed
 returns-else-padding-clause-malformed c =
-    let g = c.args.g.now.core in
+    let g = c.args.g.grammar.now.core in
     let r = c.pass_label.new.reader in
     let h = subst (λ a. IsPassed (IsLabelLeft g) IsPadding a r) c.new-reader.ensures c.in_ok-pass_label.ensures.passed in
     more_left g c.args.bytes.now r h (λ p. true≢false (sym (c.padding.ensures.1 p) ∙ c.if-padding.false))
 
 pub overflow_cast-at : goal.overflow_cast-at
 overflow_cast-at c =
-    let place = place_read c.args.g.now.core c.args.bytes.now c.pass_label.new.reader (read c) in
+    let place = place_read c.args.g.grammar.now.core c.args.bytes.now c.pass_label.new.reader (read c) in
     let few = c.if-bytes-gt16384.false in
     omega (arith, c.at.ensures)
 
@@ -48,11 +48,11 @@ new-requires c =
     let r = c.pass_label.new.reader in
     let are : AreBytes bytes = All-from_get_or (λ b. b < 256) bytes 0 (λ i h. let fits = c.type_inv.bytes i in omega arith) in
     let few = c.if-bytes-gt16384.false in
-    subst (IsWhole bytes) (sym c.at.ensures) (whole_read c.args.g.now.core bytes r (read c) (c.padding.ensures.0 c.if-padding.true) are (omega arith))
+    subst (IsWhole bytes) (sym c.at.ensures) (whole_read c.args.g.grammar.now.core bytes r (read c) (c.padding.ensures.0 c.if-padding.true) are (omega arith))
 
 pub returns-then-padding-clause-label : goal.returns-then-padding-clause-label
 returns-then-padding-clause-label c =
-    let g = c.args.g.now.core in
+    let g = c.args.g.grammar.now.core in
     let bytes = c.args.bytes.now in
     let r = c.pass_label.new.reader in
     let h = subst (λ a. IsPassed (IsLabelLeft g) IsPadding a r) c.new-reader.ensures c.in_ok-pass_label.ensures.passed in

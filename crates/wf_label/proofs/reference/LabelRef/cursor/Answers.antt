@@ -6,7 +6,7 @@ use Rattle.wf_label.proofs.reference.LabelRef.cursor.Goals as goal
 use Rattle.wf_label.proofs.reference.LabelRef.cursor.Goals.{After-new}
 
 -- the bits begin with those of the label
-begins : (c : After-new) (l : Label) → IsLabel c.args.g.now.core l → c.args.self.now ≡ label_bits l → BeginLabel c.args.g.now.core c.new.result.left (marks_of c.args.g.now.core l)
+begins : (c : After-new) (l : Label) → IsLabel c.args.g.grammar.now.core l → c.args.self.now ≡ label_bits l → BeginLabel c.args.g.grammar.now.core c.new.result.left (marks_of c.args.g.grammar.now.core l)
 begins c l of_it e = record {
   label = l;
   of_it = of_it;
@@ -18,4 +18,4 @@ begins c l of_it e = record {
 pub invariant_of-result : goal.invariant_of-result
 invariant_of-result c =
     let l = c.requires.label in
-    record { linear = c.requires.linear; cycles_are = c.requires.cycles; marks = (marks_of c.args.g.now.core l.0, begins c l.0 l.1 l.2) }
+    (marks_of c.args.g.grammar.now.core l.0, begins c l.0 l.1 l.2)

@@ -13,6 +13,6 @@ returns-clause-fault c = told_some _ _ (c.fault_of_names.ensures ∙ ap (λ (r :
 pub returns-clause-room : goal.returns-clause-room
 returns-clause-room c =
     let i = c.self.inside in
-    let counted = names_count (run_of i.grammar.now i.most i.names i.nodes.items i.expands) c.self.invariant.events c.self.invariant.run in
+    let counted = names_count (run_of i.linear.grammar.now i.most i.names i.nodes.items i.expands) c.self.invariant.events c.self.invariant.run in
     let past : i.most < length i.names + length c.args.names.now = omega (arith, counted, length-map i.nodes.items node_of, i.nodes.ok.0, c.len-count.ensures) in
     faulty_without_room i.most i.names c.args.names.now _ c.fault_of_names.ensures past _

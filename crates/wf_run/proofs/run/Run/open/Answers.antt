@@ -25,13 +25,13 @@ grow-requires-clause-chain c =
     let i = c.self.inside in
     let k = c.self.invariant in
     let opens = subst (λ (r : RunSeen). CanOpen r c.args.e.instance.0 c.args.e.production.0 c.args.e.names.now) (sym c.self.view_is) c.requires in
-    can_rise (run_of i.grammar.now i.most i.names i.nodes.items i.expands) k.events c.args.e.instance.0 c.start-formed.ensures.formed k.run k.most opens.there
+    can_rise (run_of i.linear.grammar.now i.most i.names i.nodes.items i.expands) k.events c.args.e.instance.0 c.start-formed.ensures.formed k.run k.most opens.there
 
 pub overflow_add-self : goal.overflow_add-self
 overflow_add-self c =
     let i = c.self.inside in
     let k = c.self.invariant in
-    let few = expands_small (run_of i.grammar.now i.most i.names i.nodes.items i.expands) k.events c.start-formed.ensures.formed k.run k.most in
+    let few = expands_small (run_of i.linear.grammar.now i.most i.names i.nodes.items i.expands) k.events c.start-formed.ensures.formed k.run k.most in
     omega (arith, few)
 
 pub invariant_of-self-2 : goal.invariant_of-self-2
@@ -40,4 +40,4 @@ invariant_of-self-2 c =
     let e = c.args.e in
     let opens = subst (λ (r : RunSeen). CanOpen r e.instance.0 e.production.0 e.names.now) (sym c.self.view_is) c.requires in
     let s = c.in_default.ensures in
-    rw (s.names) (kept_after i.grammar.now i.most i.names i.nodes.items _ i.expands e.instance.0 e.production.0 e.names.now s.nodes i.cycles.now c.start-formed.ensures.formed c.self.invariant opens s.fresh s.whole)
+    rw (s.names) (kept_after i.linear.grammar.now i.most i.names i.nodes.items _ i.expands e.instance.0 e.production.0 e.names.now s.nodes c.start-formed.ensures.formed c.self.invariant opens s.fresh s.whole)

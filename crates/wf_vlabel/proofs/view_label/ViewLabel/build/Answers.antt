@@ -1,12 +1,13 @@
 use Rattle.std.proofs.Common.{false, get_or, ap, sym, ◌∙◌}
 use Rattle.wf_model.specs.Meaning.{pairs_of}
+use Rattle.wf_recur.proofs.OneTable.{cycled}
 use Rattle.wf_vlabel.specs.Seen.{ViewLabelSeen}
 use Rattle.wf_vlabel.proofs.LabelKept.{AreMade, label_of_view, label_kept}
 use Rattle.wf_vlabel.proofs.view_label.ViewLabel.build.Goals as goal
 use Rattle.wf_vlabel.proofs.view_label.ViewLabel.build.Goals.{In_ok-squares}
 
 abbrev label : In_ok-squares → ViewLabelSeen
-label c = record { grammar = c.args.g.now.core; cycles = c.args.cycles.now; flags = c.in_ok-expanded.expanded.items; full = c.in_ok-pairs.pairs; bodies = c.in_ok-bodies.bodies; squares = c.in_ok-squares.squares }
+label c = record { grammar = c.args.linear.grammar.now.core; cycles = c.args.linear.cycles.now; flags = c.in_ok-expanded.expanded.items; full = c.in_ok-pairs.pairs; bodies = c.in_ok-bodies.bodies; squares = c.in_ok-squares.squares }
 
 -- the parts were made for the view
 made : (c : In_ok-squares) → AreMade (label c) c.in_ok-cuts.cuts.items c.args.view.now.core (pairs_of c.args.full.now)
@@ -14,8 +15,8 @@ made c =
     record {
       formed = c.modules-modules.ensures.formed;
       proper = c.requires.proper;
-      linear = c.requires.linear;
-      cycles_are = c.requires.cycles;
+      linear = c.args.linear.linear;
+      cycles_are = cycled c.args.linear.grammar.now.core c.modules-modules.ensures.formed c.args.linear.linear c.args.linear.cycles.now c.args.linear.cycled;
       is_view = c.requires.view.is_view;
       induced = c.requires.full.induced;
       expanded = λ m. c.marks.ensures m ∙ ap (λ l. get_or l m false) (sym c.in_ok-expanded.ensures.items);

@@ -1,0 +1,103 @@
+#!/usr/bin/env python3
+"""Compares what `ingest` takes for the reports of a run in another order with what it takes for them in order.
+
+burst.py wide writes a specification whose steps hand on 64 items each, so that a label file is many times as large as the
+reports. burst.py order NAME writes the lines of its standard input in another order: `last` has the start behind all other
+reports, and `reversed` has each report before the one that its instance needs. burst.py beside PROGRAM SPEC EVENTS OTHER
+labels both files in turns, and ends with 1 where OTHER takes more than so many times the seconds of the processor or the
+peak of memory, or where the two label files have not the same entries.
+"""
+
+import argparse
+import json
+import sys
+import tempfile
+from pathlib import Path
+
+sys.path.append(str(Path(__file__).resolve().parent.parent / "bench"))
+from measure import run_for_use
+from reports import entries_in
+
+PORTS = 64
+TURNS = 3
+ORDERS = {"last": lambda lines: lines[1:] + lines[:1], "reversed": lambda lines: lines[::-1]}
+
+
+def ports(side):
+    """The names of the ports of one side."""
+    return [f"{side}{k}" for k in range(PORTS)]
+
+
+def module(name):
+    """A module with all ports."""
+    return {"name": name, "in": ports("x"), "out": ports("y")}
+
+
+def pairs(first, then):
+    """Each port of one list with the port of the other in its place."""
+    return [[a, b] for a, b in zip(first, then)]
+
+
+def inner(position, side):
+    """The ports of one side of a position."""
+    return [f"{position}.{name}" for name in ports(side)]
+
+
+def production(head, body):
+    """The positions of a body, one behind the other."""
+    names = [name for name, _ in body]
+    edges = [edge for a, b in zip(names, names[1:]) for edge in pairs(inner(a, "y"), inner(b, "x"))]
+    made = {"head": head, "body": body, "edges": edges}
+    return made | {"in": pairs(ports("x"), inner(names[0], "x")), "out": pairs(inner(names[-1], "y"), ports("y"))}
+
+
+def wide():
+    """A chain whose steps hand on all of their items."""
+    rules = [production("S", [["u", "L"]]), production("L", [["w", "W"], ["l", "L"]]), production("L", [["t", "W"]])]
+    return {"start": "S", "modules": [module(name) for name in ("S", "L", "W")], "productions": rules}
+
+
+def least(program, spec, events, used, work):
+    """The label file of one more turn, and the least that any turn took."""
+    now, labels, _ = run_for_use([program, "ingest", str(spec), str(events)], work)
+    return {name: min(now[name], used.get(name, now[name])) for name in ("processor", "peak")}, labels
+
+
+def beside(args):
+    """What is wrong with the other order; nothing where it is as it should be."""
+    ordered, other = {}, {}
+    with tempfile.TemporaryDirectory() as work:
+        for _ in range(TURNS):
+            ordered, labels = least(args.program, args.spec, args.events, ordered, work)
+            other, others = least(args.program, args.spec, args.other, other, work)
+    if entries_in(labels) != entries_in(others):
+        yield "other entries"
+    for name, most in (("processor", args.seconds), ("peak", args.memory)):
+        times = other[name] / ordered[name]
+        if most and times > most:
+            yield f"{times:.2f} times the {name} of the same in order, more than {most}"
+
+
+def main():
+    words = argparse.ArgumentParser(description=__doc__.splitlines()[0])
+    calls = words.add_subparsers(dest="call", required=True)
+    calls.add_parser("wide")
+    calls.add_parser("order").add_argument("name", choices=ORDERS)
+    tried = calls.add_parser("beside")
+    for name in ("program", "spec", "events", "other"):
+        tried.add_argument(name, type=lambda path: str(Path(path).resolve()))
+    tried.add_argument("--seconds", type=float, help="how many times the seconds it may take; no limit where this is left out")
+    tried.add_argument("--memory", type=float, help="how many times the peak of memory it may take")
+    args = words.parse_args()
+    if args.call == "wide":
+        json.dump(wide(), sys.stdout)
+    elif args.call == "order":
+        sys.stdout.buffer.writelines(ORDERS[args.name](sys.stdin.buffer.readlines()))
+    else:
+        wrong = list(beside(args))
+        if wrong:
+            sys.exit(f"burst.py: {args.other}: {'; '.join(wrong)}")
+
+
+if __name__ == "__main__":
+    main()
