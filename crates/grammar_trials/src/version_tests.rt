@@ -129,6 +129,17 @@ fn changed(alloc: Global, g: Linear<'_>, version: Version) -> Result<Option<u16>
     }
 }
 
+/// Whether these modules get on a cycle after the versions that a grammar names.
+fn are_changed_in(alloc: Global, g: Linear<'_>, wanted: &[Option<u16>]) -> Result<bool, Fail> {
+    let named = g.grammar.versions();
+    for (version, module) in named.iter().zip(wanted) {
+        if changed(alloc, g, *version)? != *module {
+            return Ok(false);
+        }
+    }
+    Ok(named.len() == wanted.len())
+}
+
 /// Whether these modules get on a cycle after the versions of a specification.
 fn are_changed(
     alloc: Global,
@@ -145,13 +156,7 @@ fn are_changed(
         grammar: &grammar,
         cycles: &cycles,
     };
-    let named = grammar.versions();
-    for (version, module) in named.iter().zip(wanted) {
-        if changed(alloc, g, *version)? != *module {
-            return Ok(false);
-        }
-    }
-    Ok(named.len() == wanted.len())
+    are_changed_in(alloc, g, wanted)
 }
 
 #[test]
