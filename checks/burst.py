@@ -5,7 +5,8 @@ burst.py wide writes a specification whose steps hand on 64 items each, so that 
 reports. burst.py order NAME writes the lines of its standard input in another order: `last` has the start behind all other
 reports, and `reversed` has each report before the one that its instance needs. burst.py beside PROGRAM SPEC EVENTS OTHER
 labels both files in turns, and ends with 1 where OTHER takes more than so many times the seconds of the processor or the
-peak of memory, or where the two label files have not the same entries.
+peak of memory, or where the two label files have not the same entries. burst.py drill PROGRAM SPEC EXPANSIONS compares what
+`drill` takes with what `ingest` takes for the same run, in the same way: `drill` labels as many items, and need not hold them.
 """
 
 import argparse
@@ -57,10 +58,18 @@ def wide():
     return {"start": "S", "modules": [module(name) for name in ("S", "L", "W")], "productions": rules}
 
 
-def least(program, spec, events, used, work):
-    """The label file of one more turn, and the least that any turn took."""
-    now, labels, _ = run_for_use([program, "ingest", str(spec), str(events)], work)
-    return {name: min(now[name], used.get(name, now[name])) for name in ("processor", "peak")}, labels
+def least(program, words, used, work):
+    """What one more turn puts, and the least that any turn took."""
+    now, text, _ = run_for_use([program, *words], work)
+    return {name: min(now[name], used.get(name, now[name])) for name in ("processor", "peak")}, text
+
+
+def too_much(args, used, other, than):
+    """Where a call took more than it may."""
+    for name, most in (("processor", args.seconds), ("peak", args.memory)):
+        times = other[name] / used[name]
+        if most and times > most:
+            yield f"{times:.2f} times the {name} of {than}, more than {most}"
 
 
 def beside(args):
@@ -68,14 +77,25 @@ def beside(args):
     ordered, other = {}, {}
     with tempfile.TemporaryDirectory() as work:
         for _ in range(TURNS):
-            ordered, labels = least(args.program, args.spec, args.events, ordered, work)
-            other, others = least(args.program, args.spec, args.other, other, work)
+            ordered, labels = least(args.program, ["ingest", args.spec, args.events], ordered, work)
+            other, others = least(args.program, ["ingest", args.spec, args.other], other, work)
     if entries_in(labels) != entries_in(others):
         yield "other entries"
-    for name, most in (("processor", args.seconds), ("peak", args.memory)):
-        times = other[name] / ordered[name]
-        if most and times > most:
-            yield f"{times:.2f} times the {name} of the same in order, more than {most}"
+    yield from too_much(args, ordered, other, "the same in order")
+
+
+def drill(args):
+    """What is wrong with `drill` beside `ingest`; nothing where it is as it should be."""
+    labelled, drilled = {}, {}
+    with tempfile.TemporaryDirectory() as work:
+        view, events = Path(work) / "view", Path(work) / "events"
+        view.write_text("{}")
+        _, lines, _ = run_for_use([args.program, "gen", args.spec, args.expansions, "1"], work)
+        events.write_bytes(lines)
+        for _ in range(TURNS):
+            labelled, _ = least(args.program, ["ingest", args.spec, str(events)], labelled, work)
+            drilled, text = least(args.program, ["drill", args.spec, str(view), args.expansions, "1"], drilled, work)
+    yield from too_much(args, labelled, drilled, "`ingest` over the same run")
 
 
 def main():
@@ -83,20 +103,22 @@ def main():
     calls = words.add_subparsers(dest="call", required=True)
     calls.add_parser("wide")
     calls.add_parser("order").add_argument("name", choices=ORDERS)
-    tried = calls.add_parser("beside")
-    for name in ("program", "spec", "events", "other"):
-        tried.add_argument(name, type=lambda path: str(Path(path).resolve()))
-    tried.add_argument("--seconds", type=float, help="how many times the seconds it may take; no limit where this is left out")
-    tried.add_argument("--memory", type=float, help="how many times the peak of memory it may take")
+    tried = {"beside": calls.add_parser("beside"), "drill": calls.add_parser("drill")}
+    for call, files in (("beside", ("program", "spec", "events", "other")), ("drill", ("program", "spec"))):
+        for name in files:
+            tried[call].add_argument(name, type=lambda path: str(Path(path).resolve()))
+        tried[call].add_argument("--seconds", type=float, help="how many times the seconds it may take; no limit where this is left out")
+        tried[call].add_argument("--memory", type=float, help="how many times the peak of memory it may take")
+    tried["drill"].add_argument("expansions")
     args = words.parse_args()
     if args.call == "wide":
         json.dump(wide(), sys.stdout)
     elif args.call == "order":
         sys.stdout.buffer.writelines(ORDERS[args.name](sys.stdin.buffer.readlines()))
     else:
-        wrong = list(beside(args))
+        wrong = list(beside(args) if args.call == "beside" else drill(args))
         if wrong:
-            sys.exit(f"burst.py: {args.other}: {'; '.join(wrong)}")
+            sys.exit(f"burst.py: {args.call}: {'; '.join(wrong)}")
 
 
 if __name__ == "__main__":

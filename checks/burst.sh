@@ -1,5 +1,5 @@
 #!/usr/bin/env bash
-# `ingest` puts the entries of the events that one late report sets free as it applies them: then it takes little more time and memory than for the same reports in order.
+# `ingest` puts the entries of the events that one late report sets free as it applies them: then it takes little more time and memory than for the same reports in order. And `drill` holds no list of the labels that it makes.
 set -euo pipefail
 
 cd "$(dirname "${BASH_SOURCE[0]}")/.."
@@ -27,5 +27,8 @@ for example in phylogeny twisting; do
             python3 checks/burst.py beside --memory 3 "$program" "examples/$example/spec" "$work/$example.events" "$work/$example.$order"
     done
 done
+
+check "wide, drilled: at most 3 times the time and 1.5 times the memory of \`ingest\` over the same run" \
+    python3 checks/burst.py drill --seconds 3 --memory 1.5 "$program" "$work/wide.spec" 30000
 
 finish
