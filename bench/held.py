@@ -18,8 +18,18 @@ from sizes import module, production
 
 PORTS = 64
 BODY = [[f"a{k}", "T"] for k in range(63)]
-# What a member of a specification costs: a number in a list, a member of an object, an empty list.
-MEMBERS = {"numbers in a list": ("[%s]", "0"), "members of an object": ("{%s}", '"%d":0'), "empty lists in a list": ("[%s]", "[]")}
+# A value of JSON is nested 127 levels deep at most.
+DEEPEST = 125
+# What a member of a specification costs, by the frame around all members and the text of each.
+MEMBERS = {
+    "numbers in a list": ("[%s]", "0"),
+    "members of an object": ("{%s}", '"%d":0'),
+    "empty lists in a list": ("[%s]", "[]"),
+    "lists of one number": ("[%s]", "[0]"),
+    "modules with a name alone": ('{"modules":[%s]}', '{"name":"a"}'),
+    "objects of one member": ("[%s]", '{"":0}'),
+    f"objects of one member, {DEEPEST} in each other": ("[%s]", '{"":' * DEEPEST + "0" + "}" * DEEPEST),
+}
 
 
 def write_wide_loop(folder, turns):
