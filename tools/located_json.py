@@ -22,11 +22,11 @@ CALLED = {"object": "an object", "list": "a list", "text": "a text", "number": "
 
 
 class NotJson(Exception):
-    """Why a text is no JSON, in words, and the place."""
+    """Why a text is no JSON, in words, and the place. `opened` has the places of the lists and objects that are not closed there."""
 
-    def __init__(self, what, at):
+    def __init__(self, what, at, opened=()):
         super().__init__(what)
-        self.what, self.at = what, at
+        self.what, self.at, self.opened = what, at, list(opened)
 
 
 class Node:
@@ -61,10 +61,10 @@ class Node:
 
 
 class Reader:
-    """The text, the place up to which it was read, and how many lists and objects are open there."""
+    """The text, the place up to which it was read, and where the lists and objects begin that are open there."""
 
     def __init__(self, text):
-        self.text, self.at, self.depth = text, 0, 0
+        self.text, self.at, self.open = text, 0, []
 
     def next_sign(self):
         """Passes over blanks and returns the next sign, or nothing at the end."""
@@ -75,8 +75,8 @@ class Reader:
         """Returns the fault that something is wanted where another sign stands."""
         sign = self.text[self.at : self.at + 1]
         if not sign:
-            return NotJson(f"the text ends where {wanted} is to stand", self.at)
-        return NotJson(f"{wanted} is to stand here, and here is `{sign}`{HINTS.get(sign, '')}", self.at)
+            return NotJson(f"the text ends where {wanted} is to stand", self.at, self.open)
+        return NotJson(f"{wanted} is to stand here, and here is `{sign}`{HINTS.get(sign, '')}", self.at, self.open)
 
     def value(self):
         """Reads a value."""
@@ -114,14 +114,14 @@ class Reader:
 
     def opened(self, sign):
         """Reads a list or an object, of which the first sign comes next."""
-        if self.depth == DEEPEST:
+        if len(self.open) == DEEPEST:
             raise NotJson(f"lists and objects are nested more than {DEEPEST} deep", self.at)
         begun = self.at
-        self.depth += 1
+        self.open.append(begun)
         self.at += 1
         kind, closing, part = OPENED[sign]
         value = self.parts(closing, part)
-        self.depth -= 1
+        self.open.pop()
         return Node(kind, value, begun, self.at)
 
     def parts(self, closing, part):
@@ -133,6 +133,8 @@ class Reader:
         while True:
             found.append(part(self))
             sign = self.next_sign()
+            if sign == ":" and closing == "]" and found[-1].kind == "text":
+                raise NotJson(f"`{found[-1].value}` is the name of a member, and stands in a list", found[-1].at, self.open)
             if sign not in (",", closing):
                 raise self.wrong(f"a comma or `{closing}`")
             comma = self.at
@@ -203,6 +205,7 @@ class Reader:
 OPENED = {"[": ("list", "]", Reader.value), "{": ("object", "}", Reader.named)}
 HINTS = {
     "'": "; texts stand between double quotes",
+    **dict.fromkeys("\u201c\u201d\u201e\u2018\u2019\u00ab\u00bb", "; texts stand between straight double quotes"),
     "/": "; JSON has no comments",
     "#": "; JSON has no comments",
     "\ufeff": ", a byte order mark; save the file without one",

@@ -107,6 +107,11 @@ def program():
     return path if os.path.isfile(path) and os.access(path, os.X_OK) else None
 
 
+def items_with(word, names):
+    """Returns the items of a label file that an instance makes, and those at a port, for a word that may be the name of either."""
+    return [item for item in names if item.startswith(f"{word}.")], [item for item in names if item.endswith(f".{word}")]
+
+
 class Finding:
     """What this package finds in the files of a call: the first fault or None, and what is accepted and surely not meant."""
 
@@ -136,12 +141,13 @@ class Finding:
             return
         if self.files.labels:
             names = read_labels(self.whole("labels", self.files.third)[1], grammar)
-            self.ask(lambda item: doubts.of_entry(names, item), lambda word: [item for item in names if item.startswith(f"{word}.")])
+            self.ask(lambda item: doubts.of_entry(names, item), lambda word: items_with(word, names))
         else:
             run = self.opened("events", self.files.third, lambda path, file: read_run(path, file, grammar))
             if not run.instances:
-                self.doubts.append(Doubt("the file of events has no report, so nothing is in the run, and each answer is `unknown`."))
-            self.ask(lambda item: doubts.of_item(run, item), lambda word: run.items_of(word, doubts.of_item))
+                empty = "the file of events has no report, so nothing is in the run, and each answer is `unknown`."
+                self.doubts.append(Doubt(f"{empty} If it is to be a label file, what made it has failed: make it again by `ingest`."))
+            self.ask(lambda item: doubts.of_item(run, item), lambda word: (run.items_of(word, doubts.of_item), run.items_with(word, doubts.of_item)))
 
     def ask(self, why, items):
         """Reads the queries, if they are given: `why` says of an item why it is none, and `items` lists those of an instance."""

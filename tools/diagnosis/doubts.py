@@ -10,8 +10,8 @@ from diagnosis.views import View
 from diagnosis.words import listed, quoted
 from located_json import read
 
-# How many questions are told that ask for no item.
-TOLD = 20
+# How many questions are told that ask for no item, and how many modules each by itself.
+TOLD, FEW = 20, 3
 
 
 def of_members(text, node, known, owner, effect=""):
@@ -45,17 +45,26 @@ def of_spec(text, parts):
 
 
 def of_unused(text, grammar):
-    """Yields the modules that stand nowhere."""
+    """Yields the modules that stand nowhere, each by itself where they are few."""
     used = {name for production in grammar.productions for name in production.body.values()}
-    for module in grammar.modules.values():
-        if module.name not in used and module.name != grammar.start:
-            what = f"module {quoted(module.name)} stands in no body, so no run has a step of it, and no view can show one."
-            yield Doubt(what, module.part.name, text)
+    unused = [module for module in grammar.modules.values() if module.name not in used and module.name != grammar.start]
+    if len(unused) > FEW:
+        names = listed([module.name for module in unused])
+        yield Doubt(f"the modules {names} stand in no body, so no run has a step of them, and no view can show one.", unused[0].part.name, text)
+        return
+    for module in unused:
+        what = f"module {quoted(module.name)} stands in no body, so no run has a step of it, and no view can show one."
+        yield Doubt(what, module.part.name, text)
 
 
 def of_view(text, parts):
     """Yields what is to be said of the members of a view, whether it is accepted or not."""
     effect = ", and the view expands every composite module" if parts.expand is None else ""
+    members = {key.value: key for key, _ in parts.node.value}
+    if "modules" in members and "expand" not in members:
+        what = "this is a specification, and a view belongs here. As a view it expands every composite module. The words are SPEC VIEW, in this order."
+        yield Doubt(what, members["modules"], text)
+        return
     yield from of_members(text, parts.node, forms.VIEW, "the view", effect)
     yield from of_deps(text, parts.deps)
 
@@ -123,7 +132,8 @@ def of_item(run, item):
     """Returns why a name is that of no item of a run, or nothing."""
     name, _, port = item.partition(".")
     if name not in run.instances:
-        return f"the run has no instance {quoted(name)}"
+        module = f": it is a module, and an item is named by an instance of it{of_module(run, name)}" if name in run.grammar.modules else ""
+        return f"the run has no instance {quoted(name)}{module}"
     module = run.grammar.modules[run.instances[name].module]
     inputs, outputs = sides_of(module.part)
     if port not in inputs + outputs:
@@ -133,6 +143,12 @@ def of_item(run, item):
         return ""
     side, way = ("output", "leads out of its body") if port in outputs else ("input", "is fed from elsewhere")
     return f"the {side} {quoted(port)} of {quoted(name)} {way}, and names no item of its own: the item there is {quoted(found)}"
+
+
+def of_module(run, module):
+    """Returns the first instances of a module in words, if there are some."""
+    held = [name for name, instance in run.instances.items() if instance.module == module][: FEW + 1]
+    return f", as {listed(held)}" if held else ""
 
 
 def of_entry(names, item):

@@ -5,6 +5,7 @@ the member of the table that it stands in.
 """
 import difflib
 import json
+import re
 
 from diagnosis.faults import Fault
 from diagnosis.files import Span
@@ -24,6 +25,10 @@ ITEMS = {
     "pairs": '[["INPUT","OUTPUT"],..]',
 }
 OBJECTS = {"modules": "name", "productions": "head", "deps": "module"}
+# The members that an object has which lacks a member, by its name.
+FORMS = {"name": MODULE, "head": PRODUCTION, "body": PRODUCTION, "module": DEPS, "pairs": DEPS, "start": SPEC, "modules": SPEC}
+# Two words that stand for a pair, with a sign between.
+TWO_WORDS = re.compile(r"\s*([^\s,;:=<>]+?)\s*(?:->|=>|[,;:=>]|\s)\s*([^\s,;:=<>]+)\s*")
 HOW = {
     "object": "Write an object there, with its members between `{` and `}`.",
     "list": "Write a list there, between `[` and `]`; a list of nothing is `[]`.",
@@ -51,15 +56,19 @@ class Shape:
         """Returns a member that has to be there."""
         found = node.member(name)
         if found is None:
-            owner = f"`{place}`" if place else "The file"
-            what = f"{owner} has no member `{name}`, which is {WRITTEN[kind]}.{like_member(node, name)}"
-            raise self.wrong(Span(node.at, node.at + 1), what, f"Add a member `{name}`. docs/FORMATS.md has an example of each.")
+            owner, like = f"`{place}`" if place else "The file", like_member(node, name)
+            what = f"{owner} has no member `{name}`, which is {WRITTEN[kind]}.{f' It has a member `{like}`: is that the one?' if like else ''}"
+            mend = f"Write `{name}` in the place of `{like}`, or add" if like else "Add"
+            raise self.wrong(Span(node.at, node.at + 1), what, f"{mend} a member `{name}`. docs/FORMATS.md has an example of each.")
         return self.take(found, kind, f"{place}.{name}" if place else name)
 
     def items(self, node, name, kind, place):
         """Returns the items of a member that is a list, with their places; there are none where the member is not there."""
         found, place = node.member(name), f"{place}.{name}" if place else name
         parts = [] if found is None else self.take(found, "list", place).value
+        if kind == "list" and len(parts) == 2 and all(part.kind in ("text", "number") and not TWO_WORDS.fullmatch(part.value) for part in parts):
+            what = f"`{place}` is a list of two {WRITTEN[parts[0].kind].split()[-1]}s, and a list of such lists belongs there."
+            raise self.wrong(parts[0], what, f"Put a list around it: `[{as_pair(parts)}]`.")
         return [(self.take(part, kind, f"{place}[{k}]"), f"{place}[{k}]") for k, part in enumerate(parts)]
 
     def texts(self, node, name, place):
@@ -87,18 +96,41 @@ class Shape:
         return End(node)
 
 
+def as_pair(parts):
+    """Returns the list of two texts or numbers, as it is written."""
+    return f"[{','.join(part.value if part.kind == 'number' else json.dumps(part.value) for part in parts)}]"
+
+
 def in_its_place(node, kind, place):
     """Returns what to write in place of a value of another form."""
-    member = place.rpartition(".")[2]
-    if kind == "list" and node.kind == "text" and member in ITEMS:
-        return f"Write a list there, of the form `{ITEMS[member]}`."
+    member, _, item = place.rpartition(".")[2].partition("[")
     if kind == "list" and node.kind == "text":
-        return f"Put it into a list: `[{json.dumps(node.value)}]`."
+        return text_as_list(node.value, member, item)
+    if kind == "list" and node.kind == "word" and place == "expand":
+        return "Take the member away, and every composite module is expanded; or list the names of those that are to be, as `[\"NAME\"]`."
+    if kind == "text" and node.value == "null":
+        names = place.startswith("the report.names")
+        return f"Write a {'name' if names else 'text'} there, between double quotes{': each position of the body has an instance' if names else ''}."
     if kind == "list" and node.kind == "object":
+        values = [part.value for _, part in node.value if part.kind == "text"]
+        if item and len(values) == len(node.value) == 2:
+            return f"Write a list of two texts there: `{json.dumps(values, separators=(',', ':'))}`."
         return f"Write a list there, of the form `{as_list(node, member)}`."
     if kind == "text" and node.kind in ("number", "word"):
         return f'Put it between double quotes: `"{node.value}"`.'
     return HOW[kind]
+
+
+def text_as_list(value, member, item):
+    """Returns what to write in place of a text, where a list belongs: a pair, in a list of pairs, or names."""
+    two, names = TWO_WORDS.fullmatch(value), re.split(r"[\s,;]+", value.strip())
+    if item and two:
+        return f"Write a list of two texts there: `{json.dumps(two.groups(), separators=(',', ':'))}`."
+    if item and member in ITEMS:
+        return f"Write a list of two there, as in `{ITEMS[member]}`."
+    if member in ITEMS:
+        return f"Write a list there, of the form `{ITEMS[member]}`."
+    return f"Put {'it' if len(names) == 1 else 'them'} into a list: `{json.dumps(names, separators=(',', ':'))}`."
 
 
 def as_list(node, member):
@@ -107,15 +139,20 @@ def as_list(node, member):
     if member in ("body", "edges", "in", "out", "pairs") and texts and len(texts) == len(node.value) and len(texts) <= 8:
         return f"[{','.join(texts)}]"
     known = [name.value for name, _ in node.value]
+    if member == "names" and 0 < len(texts) == len(known) <= 8:
+        return json.dumps([part.value for _, part in node.value], separators=(",", ":"))
+    if member == "expand" and 0 < len(known) <= 8:
+        return json.dumps([name.value for name, part in node.value if part.value not in ("false", "null")], separators=(",", ":"))
     if member in OBJECTS and OBJECTS[member] in known:
         return "[{..}]"
     return ITEMS.get(member, '["NAME",..]')
 
 
 def like_member(node, name):
-    """Returns a sentence on a member that may be meant as one that is missing."""
-    close = difflib.get_close_matches(name, [key.value[:64] for key, _ in node.value], 1, 0.5)
-    return f" It has a member `{close[0]}`: is that the one?" if close else ""
+    """Returns the name of a member that may be meant as one that is missing: one that no form knows there, or a near one; or nothing."""
+    unknown = [key.value[:64] for key, _ in node.value if name in FORMS and key.value not in FORMS[name]]
+    close = difflib.get_close_matches(name, unknown or [key.value[:64] for key, _ in node.value], 1, 0.5)
+    return close[0] if close else unknown[0] if len(unknown) == 1 else ""
 
 
 class End:
@@ -171,8 +208,16 @@ class VersionPart:
 def top(node, what):
     """Returns a node that is an object."""
     if node.kind != "object":
-        raise Fault("WrongShape top", f"the file holds {node.called()}, and {what} is an object.", "Put its members between `{` and `}`.", node)
+        mend = "Put its members between `{` and `}`."
+        if what == "a view" and node.kind == "list" and all(part.kind == "text" for part in node.value[:8]):
+            mend = f"Write the list as a member `expand`, if these modules are to be expanded: `{{\"expand\":{names_of(node.value)}}}`."
+        raise Fault("WrongShape top", f"the file holds {node.called()}, and {what} is an object.", mend, node)
     return node
+
+
+def names_of(nodes):
+    """Returns a list of texts as it is written, or its form where it is long."""
+    return json.dumps([node.value for node in nodes], separators=(",", ":")) if len(nodes) <= 8 else "[..]"
 
 
 class SpecParts:

@@ -21,7 +21,15 @@ BEGINNINGS = (
     (b"\xef\xbb\xbf", "a byte order mark, three bytes that are not seen, stands before the text", "Save the file as UTF-8 without a byte order mark."),
     (b"head 57464c31", "these are the lines of a label file, as tools/labels.py writes them", "Make the file of them: `python3 tools/labels.py file LINES > LABELS`."),
     (b"V0ZM", "this is a label file in base64", "Turn it back: `base64 -d FILE > LABELS`."),
+    (b"00000000: 5746 4c31", "this is a label file as lines of hexadecimal digits, as xxd writes it", "Turn it back: `xxd -r FILE > LABELS`."),
+    (b"57464c31", "this is a label file in hexadecimal digits", "Turn it back: `xxd -r -p FILE > LABELS`."),
+    (b"00000000  57 46 4c 31", "this is a label file as hexdump shows it, which is to be read and not to be kept", "Make it again by `ingest`."),
 )
+# How SPEC and VIEW begin, where they are written in another way than JSON.
+JSON = {
+    "spec": '`{"start":"S","modules":[{"name":"S","in":["a"],"out":["b"]}],"productions":[]}`, as docs/FORMATS.md says',
+    "view": '`{"expand":["A","B"]}`, with the names of the modules to be expanded',
+}
 QUERY = re.compile(rb"[\w-]{1,64}\.[\w-]{1,64} [\w-]{1,64}\.[\w-]{1,64}\r?(\n|$)")
 
 
@@ -76,6 +84,16 @@ def better(fault, path):
     kind = kind_of(data)
     if kind and kind != where:
         return said(fault, f"this is {CALLED[kind]}, and {CALLED[where]} belongs here", f"Give the file that belongs here. {CALL}")
+    return of_bytes(fault, data, where)
+
+
+def of_bytes(fault, data, where):
+    """Returns a fault, or the same one in other words where the file is no text, or SPEC or VIEW in another form than JSON."""
+    if b"\0" in data and where == "events":
+        what = "the file is no text, and it does not begin with the letters `WFL1`, as a label file does"
+        return said(fault, what, "If it is a label file, its first bytes were changed: make it again by `ingest`, and copy it as bytes.")
+    if where in JSON and fault.kind == "NotJson" and re.match(rb"\s*[A-Za-z_-]+\s*:", data):
+        return said(fault, "the file is no JSON: an object of JSON begins with `{`", f"Write it as JSON: {JSON[where]}.")
     return fault
 
 

@@ -1,6 +1,7 @@
 """The rules on a label file: its head, and each entry in turn."""
 import hashlib
 import json
+import re
 
 from diagnosis.faults import Fault
 from diagnosis.questions import ITEM, item_fault
@@ -145,6 +146,20 @@ def check_word(grammar, number, word):
         raise Fault("Malformed", f"`{word[:80]}` is no label of the specification: {why}.", mend).stands_in(f"label {number}", None)
 
 
+def before(offset):
+    """Returns a sentence on what stands before an entry that is refused."""
+    return f"The first {offset} bytes are whole entries, and are a label file: `head -c {offset} LABELS`."
+
+
+def own_writer(label):
+    """Returns a sentence on a label that a program of one's own may have written otherwise, or nothing."""
+    if re.fullmatch(rb"(?:[0-9A-Fa-f]{2})+", label):
+        return " Its bytes are hexadecimal digits: write the bytes that they stand for, as `tools/labels.py file` does."
+    if label and len(label) % 256 == 0:
+        return f" It has {len(label)} bytes, as where the lower byte of a length was written first: the higher one comes first."
+    return ""
+
+
 class Entries:
     """The entries of a label file that keep the rules so far."""
 
@@ -171,10 +186,13 @@ class Entries:
     def broken(self, offset):
         """Returns what is wrong with an entry that is not whole, and what mends it."""
         number, data = len(self.names), self.data
-        whole = f"The first {offset} bytes are whole entries, and are a label file: `head -c {offset} LABELS`."
+        whole = before(offset)
         if data[offset : offset + 4] == MAGIC:
             what = f"another label file begins at byte {offset}, behind {counted(number, 'item')}: two were put together."
             return what, f"Ask from each by itself. {whole}"
+        if re.match(rb"refused: |fault: |no memory\n", data[offset:]):
+            what = f"behind {counted(number, 'item')}, at byte {offset}, stands the message {quoted(data[offset:].decode('utf-8', 'replace').strip())}."
+            return what, f"Keep the standard error of `ingest` out of the file, as by `2> MESSAGES`, and mend what it refused. {whole}"
         if len(data) - offset > LONG:
             what = f"entry {number}, which begins at byte {offset}, is longer than the {len(data) - offset} bytes that are left, so bytes of it or before"
             return f"{what} it were changed, as by a transfer of text.", "Make the file again by `ingest`, and copy it as bytes."
@@ -185,14 +203,17 @@ class Entries:
         where = f"entry {number}, which begins at byte {offset},"
         if not ITEM.fullmatch(name):
             what = f"{where} has a name that is that of no item: {item_fault(name)}."
-            raise Fault(f"BadName entry {number}", what, "Make the file again by `ingest`; `tools/labels.py lines` shows what is in it.")
+            if not self.data[offset:].strip(b"\0"):
+                what = f"from byte {offset} on the file has zeros alone, as where room was kept for what was never written."
+            raise Fault(f"BadName entry {number}", what, f"Make the file again by `ingest`; `tools/labels.py lines` shows what is in it. {before(offset)}")
         earlier = self.names.setdefault(name, number)
         if earlier != number:
             what = f"{where} has the name {quoted(name)}, and so has entry {earlier}."
-            raise Fault(f"NameTwice entry {number}", what, "An item has one label. If two files were put together, ask from each by itself.")
+            mend = "An item has one label. If two files were put together, ask from each by itself."
+            raise Fault(f"NameTwice entry {number}", what, f"{mend} {before(offset)}")
         why = label_fault(self.grammar, label)
         if why:
-            what = f"{where} is named {quoted(name)}, and its label `{label.hex()[:80]}` is none of the specification: {why}."
+            what = f"{where} is named {quoted(name)}, and its label `{label.hex()[:80]}` is none of the specification: {why}.{own_writer(label)}"
             raise Fault(f"BadLabel entry {number}", what, "Make the file again by `ingest`; `tools/two_labels.py` draws what a label says.")
 
 

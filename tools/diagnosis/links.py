@@ -75,16 +75,27 @@ def find_end(body, end, side, exchanged=False):
         positions = list(body.modules)
         there = [position for position, module in body.modules.items() if module.name.value == end.position]
         hint = f" It is the module at the position {listed(there)}." if there else near(end.position, positions)
+        mend = f"The positions are: {listed(positions)}. Name one of them, or add one with this name to `body`."
         raise Fault(
             f"UnknownPort {place}",
             f"{quoted(end.node.value)} names the position {quoted(end.position)}, and {body.way} has none of this name.{hint}",
-            f"The positions are: {listed(positions)}. Name one of them, or add one with this name to `body`. A link names positions, as"
-            " `POSITION.PORT`, and not modules.",
+            link_of_head(body, end) or f"{mend} A link names positions, as `POSITION.PORT`, and not modules.",
             end.node,
         )
     module = body.modules[end.position]
     owner = f"the position {quoted(end.position)} (module {quoted(module.name.value)}) of {body.way[:-1]}"
     find_port(module, side, end.port, place, end.node, owner, exchanged)
+
+
+def link_of_head(body, end):
+    """Returns how a link is written that names the head as if it were a position, or nothing where it does not."""
+    inputs, outputs = sides_of(body.head)
+    if end.position != body.head.name.value or end.port not in inputs + outputs:
+        return ""
+    side, member, link = "input", "in", f'["{end.port}","POSITION.INPUT"]'
+    if end.port in outputs:
+        side, member, link = "output", "out", f'["POSITION.OUTPUT","{end.port}"]'
+    return f"{quoted(end.port)} is an {side} of the head. Take the link from `edges`, and write it in `{member}`, as `{link}`."
 
 
 def ports_are_known(parts):
@@ -205,8 +216,9 @@ def lead_onward(parts):
             raise Fault(
                 f"BodyCycle production {body.number}",
                 f"in {body.way} edges lead from a position back to it: {around}.",
-                "One of these edges begins or ends in the wrong place. Each port has one link, so where its end is changed, another edge changes"
-                " with it: look for the edge whose end belongs here. A step that repeats is written as a module that stands inside itself, as"
+                "One of these edges begins or ends in the wrong place. Each port has one link, so where its end is changed, another link of"
+                " `edges`, `in` or `out` changes with it: look for the one whose end belongs here. A step that repeats is written as a module"
+                " that stands inside itself, as"
                 " `Refine` in examples/phylogeny: each repetition is a new instance, and none feeds itself.",
                 circle[0],
                 steps,
@@ -264,21 +276,31 @@ def versions_are_versions(parts):
                 f"VersionBad version {number}",
                 f"version {number} is the first {counted(version.modules, 'module')} and the first {counted(version.productions, 'production')},"
                 f" and {why}.",
-                "Write how many modules and productions the specification had. New modules and productions stand behind the old ones, at the"
-                " end of their lists.",
+                f"Write how many modules and productions the specification had, in this order{exchanged_version(parts, version)}. New modules and"
+                " productions stand behind the old ones, at the end of their lists.",
                 version.node,
             )
 
 
+def exchanged_version(parts, version):
+    """Returns a version with its numbers exchanged, in words, if that is one, or nothing."""
+    is_one = not numbers_fault(parts, version.productions, version.modules)
+    return f", as `[{version.productions},{version.modules}]`" if is_one else ""
+
+
 def version_fault(parts, version):
+    return numbers_fault(parts, version.modules, version.productions)
+
+
+def numbers_fault(parts, modules, productions):
     """Returns why numbers of modules and productions are no version, or nothing."""
-    for wanted, held, what in ((version.modules, parts.modules, "module"), (version.productions, parts.productions, "production")):
+    for wanted, held, what in ((modules, parts.modules, "module"), (productions, parts.productions, "production")):
         if wanted > len(held):
             return f"there {'is' if len(held) == 1 else 'are'} {counted(len(held), what)}"
-    known = {module.name.value for module in parts.modules[: version.modules]}
+    known = {module.name.value for module in parts.modules[:modules]}
     if parts.start.value not in known:
         return f"the start {quoted(parts.start.value)} is not among these modules"
-    for number, production in enumerate(parts.productions[: version.productions]):
+    for number, production in enumerate(parts.productions[:productions]):
         for module in [production.head, *(module for _, module in production.body)]:
             if module.value not in known:
                 return f"production {number} names {quoted(module.value)}, which is not among these modules"

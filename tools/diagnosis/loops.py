@@ -15,10 +15,14 @@ def composite_are_reached(grammar):
         if module.name not in reached:
             users = sorted({production.head for production in grammar.productions if module.name in production.body.values()})
             where = f"It stands in bodies of {listed(users)} alone, which are not reached either." if users else "It stands in no body."
+            mend = f"Put {quoted(module.name)} at a position of a body that is reached, or take the module and its productions away."
+            if grammar.start in grammar.reached([module.name]):
+                whole = f"A way leads from {quoted(module.name)} to {quoted(grammar.start)}: if {quoted(module.name)} is the whole workflow,"
+                mend = f'{whole} write `"start":"{module.name}"`. Or {mend[0].lower()}{mend[1:]}'
             raise Fault(
                 f"Unreachable {module.name}",
                 f"{quoted(module.name)} has a production, and no way leads from the start {quoted(grammar.start)} to it. {where}",
-                f"Put {quoted(module.name)} at a position of a body that is reached, or take the module and its productions away.",
+                mend,
                 module.productions[0].part.head,
             )
 

@@ -95,21 +95,27 @@ def lists_are_short(parts):
 def modules_are_known(parts):
     names = [module.name.value for module in parts.modules]
     known = set(names)
+    positions = {}
+    for production in parts.productions:
+        for position, module in production.body:
+            positions.setdefault(position.value, module.value)
 
-    def find(node, place, what):
+    def find(node, place, what, position=None):
         if node.value not in known:
-            raise Fault(
-                f"UnknownModule {place}",
-                f"{what} {quoted(node.value)}, and there is no module of this name.{near(node.value, names)}",
-                f"Name one of the modules, which are {listed(names)}, or add one with this name to `modules`.",
-                node,
-            )
+            mend = f"Name one of the modules, which are {listed(names)}, or add one with this name to `modules`."
+            hint = near(node.value, names)
+            if position is not None and position.value in known and not hint:
+                mend = f'Exchange the two: `["{node.value}","{position.value}"]`. The position stands first, and its module second.'
+            elif position is None and positions.get(node.value) in known:
+                meant = positions[node.value]
+                hint, mend = f" It is a position, of the module {quoted(meant)}.", f"Name the module in the place of the position: {quoted(meant)}."
+            raise Fault(f"UnknownModule {place}", f"{what} {quoted(node.value)}, and there is no module of this name.{hint}", mend, node)
 
     find(parts.start, "start", "`start` names")
     for number, production in enumerate(parts.productions):
         find(production.head, f"production {number}", f"the head of production {number} is")
         for position, module in production.body:
-            find(module, f"production {number}", f"the position {quoted(position.value)} of {way(number, production.head.value)} holds")
+            find(module, f"production {number}", f"the position {quoted(position.value)} of {way(number, production.head.value)} holds", position)
     for number, part in enumerate(parts.deps):
         find(part.module, f"deps {number}", f"part {number} of `deps` gives pairs to")
 

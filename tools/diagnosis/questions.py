@@ -9,6 +9,9 @@ from diagnosis.words import counted, is_name, listed, quoted
 ITEM = re.compile(r"[A-Za-z0-9_-]{1,64}\.[A-Za-z0-9_-]{1,64}")
 WORDS = re.compile(r"[A-Za-z0-9_.-]+")
 MEND = "A line is two names of items with one space between, as `r.a i1.y`; the name of an item is that of an instance, a dot and that of a port."
+# Two labels, as `decide` takes them, and signs that stand for several names.
+LABELS = re.compile(r"(?:[0-9A-Fa-f]{2})+ (?:[0-9A-Fa-f]{2})+")
+STARS = re.compile(r"[*?\[\]{}]")
 
 
 def line_fault(text):
@@ -32,28 +35,53 @@ def line_fault(text):
 def mend_of(text):
     """Returns what mends a line that is no query."""
     line = text.text
-    found = [word for word in WORDS.findall(line) if ITEM.fullmatch(word)]
+    words = [word.strip(".") for word in WORDS.findall(line)]
+    found = [word for word in words if ITEM.fullmatch(word)]
     if re.match(r"\s*(#|//|--|;)", line):
         return f"Take the line away: a file of queries has no remarks. {MEND}"
-    if len(found) == 2 and len(WORDS.findall(line)) <= 4:
-        return f"Write `{found[0]} {found[1]}`. {MEND}"
+    if text.broken is not None or any(sign.isalpha() and not sign.isascii() for sign in line):
+        return f"Write the item as the run names it: a name has letters of ASCII, digits, `_` and `-`. `tools/labels.py lines` lists the items. {MEND}"
+    if "\r" in line:
+        return "The file has carriage returns in the place of newlines: `tr '\\r' '\\n' < QUERIES > MENDED`."
+    if STARS.search(line) and len(found) < 2:
+        return f"Write a line for each item that is meant: no sign stands for several. tools/impact.py lists what rests on one item. {MEND}"
+    if len(found) == 2:
+        other = "" if len(words) <= 4 else f", or `{found[1]} {found[0]}`: the line asks whether the second rests on the first"
+        return f"Write `{found[0]} {found[1]}`{other}. {MEND}"
     if len(line.split()) > 2 and len(found) > 2:
         return f"Write a line for each question, as `{found[0]} {found[1]}` and `{found[0]} {found[2]}`. {MEND}"
-    if "." not in line and text.first_line == 1:
+    return mend_of_words(line, found, text.first_line)
+
+
+def mend_of_words(line, found, number):
+    """Returns what mends a line that has not two names of items."""
+    dotted = re.sub(r"(\w)[:/](\w)", r"\1.\2", line)
+    if dotted != line and all(map(ITEM.fullmatch, dotted.split(" "))) and dotted.count(" ") == 1:
+        return f"Write `{dotted}`. {MEND}"
+    if len(found) == len(line.split()) == 1:
+        return f"Write the other item behind it, with a space between. What rests on one item, tools/impact.py lists. {MEND}"
+    if LABELS.fullmatch(line):
+        return f"Two labels are decided by `wfprov decide SPEC VIEW {line}`. {MEND}"
+    if "." not in line and number == 1:
         return f"Take the line away, if it is the head of a table. {MEND}"
-    if re.search(r"\w\.\w+\.\w|/", line):
-        return f"{MEND} For the names of files ask by tools/files.py, with the table that an importer wrote."
-    return MEND
+    deep = re.search(r"[\w-]+\.([\w-]+\.[\w-]+)(?![\w.-])", line)
+    files = "For the names of files ask by tools/files.py, with the table that an importer wrote."
+    if deep:
+        return f"{MEND} An instance is named without those around it, as in `{deep[1]}`. {files}"
+    return f"{MEND} {files}" if "/" in line else MEND
 
 
 def with_items(fault, items):
     """Returns the fault of a line of queries, with the items of an instance where a line names the instance alone."""
     word = fault.text.text[fault.node.at : fault.node.end] if fault.node and fault.text else ""
-    found = items(word) if fault.kind == "LineWrong" and is_name(word) else []
-    if not found:
-        return fault
-    what = f"{quoted(word)} is an instance, and a question names an item, which is an instance, a dot and a port."
-    return Fault(fault.kind, what, f"Write one of its items: {listed(found)}.", fault.node).stands_in(fault.where, fault.text)
+    found, ports = items(word) if fault.kind == "LineWrong" and is_name(word) else ([], [])
+    if found:
+        what = f"{quoted(word)} is an instance, and a question names an item, which is an instance, a dot and a port."
+        return Fault(fault.kind, what, f"Write one of its items: {listed(found)}.", fault.node).stands_in(fault.where, fault.text)
+    if ports:
+        what = f"{quoted(word)} is the name of a port, and a question names an item, which is an instance, a dot and a port."
+        return Fault(fault.kind, what, f"Write the item that is meant, as {listed(ports)}.", fault.node).stands_in(fault.where, fault.text)
+    return fault
 
 
 def item_fault(word):
@@ -62,7 +90,7 @@ def item_fault(word):
     if len(parts) != 2:
         return f"{quoted(word)} has {'no dot' if len(parts) == 1 else counted(len(parts) - 1, 'dot')}, and the name of an item has one"
     wrong = next(part for part in parts if not is_name(part))
-    return f"{quoted(wrong)} in {quoted(word)} is no name"
+    return f"{quoted(wrong)} in {quoted(word)} is no name{f': it has {len(wrong)} signs, and at most 64 are possible' if len(wrong) > 64 else ''}"
 
 
 def read_questions(path, file):

@@ -44,7 +44,7 @@ class Report:
         there = [name for name in ("start", "expand") if node.member(name) is not None]
         if len(there) != 1:
             have = "both `start` and `expand`" if there else "neither `start` nor `expand`"
-            raise Fault("WrongShape", f"the report has {have}, and it has exactly one of the two.", FORMS, node)
+            raise Fault("WrongShape", f"the report has {have}, and it has exactly one of the two.{inner(node)}", FORMS, node)
         subject = shape.member_of(node, there[0], "text", "the report")
         if there[0] == "start":
             return subject, None, []
@@ -65,13 +65,20 @@ class Report:
         return self.subject, self.production, self.names
 
 
+def inner(node):
+    """Returns a sentence on a member that holds the report, or nothing."""
+    held = [key.value for key, value in node.value if value.kind == "object" and any(value.member(name) is not None for name in ("start", "expand"))]
+    return f" The member {quoted(held[0])} holds a report: take away what stands around it." if held else ""
+
+
 def production_in(shape, node):
     found = node.member("production")
     if found is None or found.whole() is None:
         what = "the report has no member `production`"
         if found is not None:
             what = f"`production` is {f'`{found.value}`' if found.kind == 'number' else found.called()}"
-        meant = int(found.value) if found is not None and found.kind == "text" and re.fullmatch("[0-9]{1,4}", found.value) else 0
+        meant = re.fullmatch(r"([0-9]{1,4})(?:\.0+)?", found.value) if found is not None and found.kind in ("text", "number") else None
+        meant = int(meant[1]) if meant else 0
         mend = f"Write the number of a production, from 0, in the order of the specification, as `\"production\":{meant}`."
         raise shape.wrong(found or node, f"{what}, and a whole number without sign, fraction or exponent belongs there.", mend)
     return found
@@ -135,6 +142,11 @@ class Run:
         ports = [*module.inputs, *module.outputs] if name == self.root else module.outputs
         return [item for item in (f"{name}.{port}" for port in ports) if not why(self, item)]
 
+    def items_with(self, port, why):
+        """Returns the items whose port has this name, some of them where there are many instances."""
+        items = (f"{name}.{port}" for name, _ in zip(self.instances, range(SEARCHED)))
+        return [item for item in items if not why(self, item)]
+
     def finish(self):
         """Refuses a whole file of which reports are still held."""
         if self.held:
@@ -177,7 +189,7 @@ def new_names(run, report, names):
 
     for k, name in enumerate(names):
         if not is_name(name):
-            what = f"{quoted(name)} is no name of an instance."
+            what = f"{quoted(name)} is no name of an instance." if name else "the name of an instance is empty."
             mend = f"A name has 1 to 64 letters of ASCII, digits, `_` and `-`, as `{mended(name)}`. Write it so here, in the report that expands it"
             raise Fault("NameBad", what, f"{mend}, and in the questions.", node(k))
     known = set()
@@ -212,7 +224,11 @@ def orphan(run, report):
         return Fault("Orphan", what, 'Add the line that starts the run, as `{"start":"r"}`.', subject)
     known = list(run.instances) if len(run.instances) <= SEARCHED else []
     what = f"no report makes an instance {quoted(report.subject)}, and the file ends.{near(report.subject, known)}{more}"
-    return Fault("Orphan", what, "Look for the report whose `names` have this name: it is missing, or spells it otherwise.", subject)
+    mend = "Look for the report whose `names` have this name: it is missing, or spells it otherwise."
+    if run.instances[run.root].production is None and run.grammar.modules[run.grammar.start].productions:
+        began = f"Line {run.instances[run.root].line} starts the run as {quoted(run.root)}, and no report expands this"
+        mend = f"{began}: if {quoted(report.subject)} is meant, write one name in both lines. Otherwise {mend[0].lower()}{mend[1:]}"
+    return Fault("Orphan", what, mend, subject)
 
 
 def line_fault(fault, text):
@@ -231,6 +247,13 @@ def line_fault(fault, text):
         what = "the line begins a list, and each line of events is a report by itself, with no list around it."
         mend = "Take the brackets around the reports away, and the commas between them, so that each line is one object."
         return Fault(fault.kind, what, mend, Span(line.index("["), line.index("[") + 1))
+    if fault.kind == "NotJson" and text.broken is None and not line.lstrip(" \t\r\ufeff").startswith("{"):
+        what = "the line is no report: a report is an object, and begins with `{`."
+        return Fault(fault.kind, what, f"{FORMS} A line that reports nothing, as one of a log, is taken away.", fault.node)
+    if fault.kind == "NotJson" and not again and re.search("text ends where|no quote ends it", fault.what):
+        what = "the report does not end in this line."
+        mend = "Each report stands on one line, as `jq -c . EVENTS` writes it. The last line of a file that ends in the middle was cut, as its writer was"
+        return Fault(fault.kind, what, f"{mend} stopped: take it away, or write the whole report.", fault.node)
     if fault.kind == "NotJson" and REPORT.fullmatch(line):
         what = "a comma stands behind the report, and nothing belongs there: each line is a report by itself."
         return Fault(fault.kind, what, "Take the comma away, and so at the end of each line.", Span(line.rindex(","), line.rindex(",") + 1))
