@@ -199,6 +199,12 @@ mends_link() {
     sed "s/\"edges\":\[\[\"al.m\"/\"edges\":[$(proposed port-unlinked 'Add the link `\([^`]*\)`'),[\"al.m\"/" "$work/cases/port-unlinked/spec" >"$work/mended" && "$program" check "$work/mended" >/dev/null
 }
 check "the link that is proposed mends the case" mends_link
+# The version that is proposed for a label file of last year: with it the program takes the file.
+mends_versions() {
+    sed "s/]}\$/],$(proposed other-spec-earlier 'which is `\("versions"[^`]*\)`')}/" "$work/cases/other-spec-earlier/spec" >"$work/mended" &&
+        "$program" ask "$work/mended" "$work/cases/other-spec-earlier/view" "$work/cases/other-spec-earlier/labels" /dev/null >/dev/null
+}
+check "the version that is proposed mends the specification" mends_versions
 mends_view() {
     echo "{$(proposed "$1" '\("expand":[^`]*\)`'),\"deps\":[$2$(proposed "$1" '`\({"module[^`]*\)`')]}" >"$work/mended" && "$program" view "$work/cases/$1/spec" "$work/mended" >/dev/null
 }

@@ -6,7 +6,8 @@
 A block of the kind `console` has commands behind `$ `, each followed by what it prints. A block of another kind that has a word behind
 its kind, as `json spec`, is written to the file of this name, and prints nothing. With --write the page is given what the commands
 printed. The last line is `N passed, M failed`, where a command or a file is one case, and the status is 1 where one failed. After two
-minutes the commands are ended, and what was not run has failed.
+minutes the commands are ended, and what was not run has failed. With docs/TUTORIAL.md the calls of the quick start of README.md are run too, with the
+program in the place of both scripts.
 """
 import os
 import re
@@ -18,6 +19,7 @@ import tempfile
 TOP = os.path.dirname(os.path.dirname(os.path.abspath(__file__)))
 PAGE = os.path.join(TOP, "docs/TUTORIAL.md")
 BLOCK = re.compile(r"^```(console|\w+ [\w.-]+)\n(.*?)^```$", re.M | re.S)
+QUICK_START = re.compile(r"^```\n(git clone .*?)^```$.*?Both commands print (.*?), one a line\.", re.M | re.S)
 MARK = "-- end of a command --"
 SECONDS = 120
 
@@ -32,10 +34,19 @@ def commands_of(kind, block):
         yield command, printed
 
 
+def quick_start():
+    """Yields the calls of the quick start of README.md, each with what the page says that it prints."""
+    with open(os.path.join(TOP, "README.md"), encoding="utf-8") as file:
+        block, words = QUICK_START.search(file.read()).groups()
+    printed = "".join(f"{word}\n" for word in re.findall(r"`(\w+)`", words))
+    yield from ((line, printed) for line in block.splitlines() if line.startswith("./"))
+
+
 def run_all(commands, program):
     """Returns what each command prints, all of them in one shell and one folder."""
     with tempfile.TemporaryDirectory() as folder:
-        os.symlink(os.path.abspath(program), os.path.join(folder, "wfprov"))
+        for name in ("wfprov", "preview"):
+            os.symlink(os.path.abspath(program), os.path.join(folder, name))
         for name in ("examples", "tools"):
             os.symlink(os.path.join(TOP, name), os.path.join(folder, name))
         script = "".join(f"{command}\necho '{MARK}'\n" for command in commands)
@@ -60,7 +71,8 @@ def main(words):
     path = words[words.index("--page") + 1] if "--page" in words else PAGE
     with open(path, encoding="utf-8") as file:
         page = file.read()
-    cases = [case for kind, block in BLOCK.findall(page) for case in commands_of(kind, block)]
+    first = list(quick_start()) if path == PAGE and "--write" not in words else []
+    cases = first + [case for kind, block in BLOCK.findall(page) for case in commands_of(kind, block)]
     printed = run_all([command for command, _ in cases], words[0])
     failed = 0
     for (command, wanted), got in zip(cases, printed + [""] * (len(cases) - len(printed))):

@@ -237,6 +237,10 @@ RUN_CASES = {
 LABEL_CASES = {
     "not-labels": (labels(b"WFL1" + LABELS[4:35]), "refused: labels: NotLabels"),
     "other-spec": (labels(example("pair", "labels")), "refused: labels: OtherSpec"),
+    "other-spec-earlier": (
+        {"spec": edited(example("grown", "spec"), ',\n"versions":[[9,3]]', ""), "view": b"{}", "labels": example("grown", "labels")},
+        "refused: labels: OtherSpec",
+    ),
     "truncated": (labels(LABELS[:57]), "refused: labels: Truncated offset 50"),
     "bad-name": (labels(LABELS + entry("i2", "b0")), "refused: labels: BadName entry 3"),
     "label-name-twice": (labels(LABELS + entry("r.a", "20")), "refused: labels: NameTwice entry 3"),
@@ -270,11 +274,15 @@ WARNINGS = {
     "misspelt": (spec('"out":["y"]},{', '"outputs":["y"],"out":["y"]},{'), ""),
     "given-twice": (view('{"expand":[],"expand":["S"]}'), ""),
     "unused": (made(modules=lambda held: [*held, module("R")]), ""),
+    "unused-many": (made(modules=lambda held: held + [module(f"R{k}") for k in range(20)]), ""),
+    "specification-as-view": ({"spec": LINE, "view": LINE}, ""),
     "never-shown": (view('{"expand":["Refine"],"deps":[{"module":"Split","pairs":[]}]}', "phylogeny"), ""),
     "fewer-pairs": (view(json.dumps(CLOSED), "phylogeny"), ""),
     "fewer-pairs-atomic": (view('{"deps":[{"module":"P","pairs":[]}]}'), ""),
     "no-items": (asked(b"r.a i2.y\ni1.x i3.y\nr.a i1.z\n"), ""),
     "no-items-in-labels": (labels(LABELS, queries=b"r.a i2.y\n"), ""),
+    "module-for-instance": (asked(b"S.a r.b\n"), ""),
+    "no-reports": ({"spec": LINE, "view": b"{}", "events": b""}, ""),
 }
 CASES = {**SPEC_CASES, **VIEW_CASES, **RUN_CASES, **LABEL_CASES, **QUERY_CASES, **DECIDE_CASES, **WITH_WARNINGS, **WARNINGS}
 

@@ -439,7 +439,7 @@ LABELS = [
      "labels: BadLabel entry 9", "", "Make the file again",
      lambda data, made: made),
     ("phylogeny", "in base64", base64.encodebytes, "events line 1: NotJson", "1:1", "base64 -d", lambda data, made: base64.decodebytes(data)),
-    ("phylogeny", "in hexadecimal digits", lambda data: data.hex().encode(), "events line 1: NotJson", "1:1", "xxd -r -p", lambda data, made: bytes.fromhex(data.decode())),
+    ("phylogeny", "in hexadecimal digits", lambda data: data.hex().encode(), "events line 1: NotJson", "1:6", "xxd -r -p", lambda data, made: bytes.fromhex(data.decode())),
     ("phylogeny", "the first byte lost", lambda data: data[1:], "events line 1: NotJson", "1:4", "make it again by `ingest`", lambda data, made: made),
     ("phylogeny", "zeros behind the last entry", lambda data: data + bytes(100), "labels: BadName entry 124", "", "head -c 1578", lambda data, made: data[:1578]),
     ("phylogeny", "an instance in place of an item",
