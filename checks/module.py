@@ -21,7 +21,7 @@ import labels as label_file
 import wfprov
 from wfprov import Answer
 
-LONG = 100_000
+LONG, MANY = 100_000, 1_000_000
 
 
 def example(name, file):
@@ -80,11 +80,11 @@ class Stores(InFolder):
                 self.assertEqual([store.ask([pair])[0] for pair in pairs], answers, name)
 
     def test_many(self):
-        """a hundred thousand pairs of a generator are answered while both pipes are full"""
+        """a million pairs of a generator are answered while both pipes are full"""
         pairs, answers = asked("phylogeny")
         with store_of("phylogeny") as store:
-            found = store.ask(pairs[k % len(pairs)] for k in range(LONG))
-        self.assertEqual(found, [answers[k % len(pairs)] for k in range(LONG)])
+            found = store.ask(pairs[k % len(pairs)] for k in range(MANY))
+        self.assertEqual(found, [answers[k % len(pairs)] for k in range(MANY)])
 
     def test_none(self):
         """no pairs have no answers"""

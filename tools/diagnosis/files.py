@@ -10,7 +10,7 @@ KIND = {"[": "list", "{": "object"}
 # What mends a text that is no JSON, by words of what is wrong with it.
 MENDS = (
     ("nested", "No form of docs/FORMATS.md is nested so deep: take levels away."),
-    ("straight double quotes", "Write the straight double quote of the keyboard in the place of each such sign, in the whole file. An editor of plain text leaves it as it is."),
+    ("straight double quotes", "Write the straight double quote of the keyboard in the place of each such sign, in the whole file, with an editor of plain text."),
     ("JSON has no comments", "Take the comment away. A remark may stand in a member that no form knows, as `\"note\":\"..\"`."),
     ("here is `'`", "Write a double quote in the place of each single one, here and in the whole file."),
     ("a comma stands before", "Take this comma away, or write what is missing behind it."),

@@ -23,7 +23,7 @@ BEGINNINGS = (
     (b"V0ZM", "this is a label file in base64", "Turn it back: `base64 -d FILE > LABELS`."),
     (b"00000000: 5746 4c31", "this is a label file as lines of hexadecimal digits, as xxd writes it", "Turn it back: `xxd -r FILE > LABELS`."),
     (b"57464c31", "this is a label file in hexadecimal digits", "Turn it back: `xxd -r -p FILE > LABELS`."),
-    (b"00000000  57 46 4c 31", "this is a label file as hexdump shows it, which is to be read and not to be kept", "Make it again by `ingest`."),
+    (b"00000000  57 46 4c 31", "this is a label file as hexdump shows it to a reader", "Make it again by `ingest`."),
 )
 # How SPEC and VIEW begin, where they are written in another way than JSON.
 JSON = {

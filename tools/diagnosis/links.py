@@ -276,8 +276,8 @@ def versions_are_versions(parts):
                 f"VersionBad version {number}",
                 f"version {number} is the first {counted(version.modules, 'module')} and the first {counted(version.productions, 'production')},"
                 f" and {why}.",
-                f"Write how many modules and productions the specification had, in this order{exchanged_version(parts, version)}. New modules and"
-                " productions stand behind the old ones, at the end of their lists.",
+                f"Write how many modules and how many productions the specification had, the modules first{exchanged_version(parts, version)}."
+                " New modules and productions stand behind the old ones, at the end of their lists.",
                 version.node,
             )
 
