@@ -1,6 +1,6 @@
 #!/usr/bin/env bash
 # Checks of tools/diagnose.py: a case for each refusal and each warning with the text that is kept, mistakes with their mends, random mutations of the examples on which it and the program have to agree, its reader of JSON, and what it does at its edges.
-# The words are how many mutations are tried, and from which seed; 500 and 1 where they are not given.
+# The words are how many mutations are tried, and from which seed; 2,000 and 1 where they are not given.
 set -euo pipefail
 
 cd "$(dirname "${BASH_SOURCE[0]}")/.."
@@ -72,7 +72,7 @@ LIMITS
 check "files that are too long and runs with too many instances are told, by smaller limits" small_limits
 
 check "at the edges of files, lines, names and labels kind and place are those of the program" python3 checks/edges.py "$program"
-check "on random mutations of the examples kind and place are those of the program" python3 checks/mutations.py "$program" "${1:-500}" "${2:-1}"
+check "on random mutations of the examples kind and place are those of the program" python3 checks/mutations.py "$program" "${1:-2000}" "${2:-1}"
 
 # What JSON is, by RFC 8259 and docs/FORMATS.md, in a member that no form knows: the reader and the program take the first, and refuse the second.
 same_json() {

@@ -36,7 +36,7 @@ has_files() {
         [ "$(stat -c %a "$1/bin/wfprov" "$1/share/man/man1/wfprov.1" "$1/share/bash-completion/completions/wfprov" | paste -sd ' ')" = "755 644 644" ]
 }
 
-# The answers of the line are those that README.md says.
+# The answers of the line are those that examples/README.md says.
 answers() {
     [ "$("$1" trace "$line/spec" "$line/view" "$line/events" "$line/queries" | paste -sd ' ')" = "yes yes yes no no unknown" ]
 }
