@@ -1,12 +1,18 @@
 #!/usr/bin/env bash
 # Makes the pictures of docs/pictures: what `export` writes of examples, specifications, labels and crates, drawn by Graphviz.
-#   bash tools/pictures.sh [FOLDER]    writes them to FOLDER, and to docs/pictures where none is given
+#   bash tools/pictures.sh [FOLDER]           writes them to FOLDER, and to docs/pictures where none is given
+#   bash tools/pictures.sh --page [FOLDER]    writes page.png alone, by Chromium: a page for a reviewer, up to its answers
 set -euo pipefail
 
+page=
 case ${1:-} in
     --help)
-        sed -n '2,3s/^# \{0,1\}//p' "${BASH_SOURCE[0]}"
+        sed -n '2,4s/^# \{0,1\}//p' "${BASH_SOURCE[0]}"
         exit
+        ;;
+    --page)
+        page=yes
+        shift
         ;;
     -*)
         echo "pictures.sh: $1: no such option; --help says what there is" >&2
@@ -19,6 +25,17 @@ folder=${1:-docs/pictures}
 program=crates/wfprov/out/wfprov
 [ -x "$program" ] || program=./wfprov
 mkdir -p "$folder"
+
+# The page of the three questions of the README. Below its answers stand the digests of the files, which are others for each build.
+if [ -n "$page" ]; then
+    command -v chromium >/dev/null || { echo "pictures.sh: Chromium is not installed" >&2; exit 2; }
+    work=$(mktemp -d)
+    trap 'rm -rf "$work"' EXIT
+    phylogeny=examples/phylogeny
+    python3 tools/page.py $phylogeny/spec $phylogeny/outer $phylogeny/events $phylogeny/asked >"$work/page.html"
+    chromium --headless --no-sandbox --disable-gpu --hide-scrollbars --window-size=1000,1836 --screenshot="$folder/page.png" "file://$work/page.html" 2>/dev/null
+    exit
+fi
 
 # Draws a picture whose text for Graphviz has been written.
 draw() {
