@@ -116,7 +116,7 @@ class Cwltool:
 
     def keep(self, record, folder):
         """Keeps what the importer reads of the record."""
-        for path in [*(record / "metadata/provenance").glob("*.json"), record / "workflow/packed.cwl"]:
+        for path in [*(record / "metadata/provenance").glob("*.json"), record / "workflow/packed.cwl", record / "workflow/primary-job.json"]:
             kept = folder / path.relative_to(record)
             kept.parent.mkdir(parents=True, exist_ok=True)
             kept.write_text(json.dumps(stripped(json.loads(path.read_text())), separators=(",", ":")) + "\n")
@@ -148,11 +148,11 @@ class Snakemake:
             put(folder / "data" / name)
         (folder / "kept").mkdir()
         shutil.copy(HERE / "engines/snakemake" / self.name / "Snakefile", folder)
-        seconds = called(["snakemake", "-c1", "-q", "all", *self.case.get("words", [])], folder, self.case.get("ends", 0))
+        seconds = called(["snakemake", "-c1", *self.case.get("words", []), "-q", "all"], folder, self.case.get("ends", 0))
         for name in self.case.get("changed", []):
             put(folder / "data" / name)
         if "again" in self.case:
-            seconds += called(["snakemake", "-c1", "-q", "all", *self.case["again"]], folder)
+            seconds += called(["snakemake", "-c1", *self.case["again"], "-q", "all"], folder)
         return folder, seconds
 
     def shown(self, record):

@@ -4,9 +4,9 @@ doc: Steps that are taken and steps that are not, and what picks among their res
 requirements: {InlineJavascriptRequirement: {}, MultipleInputFeatureRequirement: {}}
 inputs: {a: File, b: File, yes: boolean, no: boolean}
 outputs:
-  first: {type: File, outputSource: [skipped/made, taken/made], pickValue: first_non_null}
+  one: {type: File, outputSource: [skipped/made, taken/made], pickValue: first_non_null}
   only: {type: File, outputSource: [skipped/made, other/made], pickValue: the_only_non_null}
-  all: {type: 'File[]', outputSource: [taken/made, skipped/made, other/made], pickValue: all_non_null}
+  all: {type: 'File[]', outputSource: [after/made, skipped/log, join/made], pickValue: all_non_null}
 steps:
   taken: {run: one.cwl, when: $(inputs.flag), in: {flag: yes, read: a}, out: [made, log]}
   skipped: {run: one.cwl, when: $(inputs.flag), in: {flag: no, read: b}, out: [made, log]}
