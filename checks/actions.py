@@ -3,6 +3,8 @@
 
   python3 checks/actions.py PROGRAM CASES SEED
   python3 checks/actions.py PROGRAM large           one run of 5,000 actions, in samples that wait for one another
+  python3 checks/actions.py PROGRAM irregular       one run of 2,500 actions, no two of which need be alike
+  python3 checks/actions.py PROGRAM samples         one run of 10,000 actions and 50,000 files, in 300 samples that are unlike; prints the time
   python3 checks/actions.py PROGRAM barriers        one run that cannot be cut exactly: it is refused, and with --coarse no answer is
                                                     `no` where there is a way
 
@@ -14,9 +16,11 @@ import json
 import os
 import random
 import re
+import resource
 import subprocess
 import sys
 import tempfile
+import time
 
 sys.path.insert(0, os.path.join(os.path.dirname(os.path.dirname(os.path.abspath(__file__))), "tools"))
 import actions as core
@@ -27,10 +31,15 @@ MOST_PAIRS = 1500
 
 
 class Run:
-    """A random run: `values` and `actions` as the list has them."""
+    """A random run: `values` and `actions`, those that make before those that read. The list has the actions in any order where it is shuffled."""
 
     def __init__(self, draw):
-        self.draw, self.values, self.actions, self.counts = draw, [], [], collections.Counter()
+        self.draw, self.values, self.actions, self.is_shuffled, self.counts = draw, [], [], False, collections.Counter()
+
+    def record(self):
+        """Returns the record of the list."""
+        listed = self.draw.sample(self.actions, len(self.actions)) if self.is_shuffled else self.actions
+        return from_actions.record_of({"values": self.values, "actions": listed}, "run")
 
     def outside(self, count=1):
         """Adds files from outside, and returns their names."""
@@ -115,6 +124,35 @@ def crossing(run, _):
         run.act("CHECK", [vcf, log], 1, group=[["flow", "call"]])
 
 
+def unlike(run, _):
+    """Samples of which hardly two are alike: with one lane or several, with steps that others lack, in any order of the list. Regions of all of them
+    are called together, and each sample reads the result."""
+    build(run, run.draw.randint(5, 40), run.draw.randint(2, 6), run.draw.random() < 0.4)
+    run.is_shuffled = run.draw.random() < 0.5
+
+
+def build(run, count, regions, grouped, more=1):
+    """The steps of so many samples that are unlike. Each makes more files than are read, if this is asked for."""
+    shared, logs, calls, lasts = run.outside(4), [], [[] for _ in range(regions)], []
+    index = run.act("INDEX", shared[:1])
+    for number in range(count):
+        group = {"group": [["sample", f"s{number}"]]} if grouped else {}
+        lanes = []
+        for _ in range(run.draw.choice([1, 1, 1, 2, 2, 3, 4])):
+            trimmed = run.act("TRIM", run.outside(2) + shared[1:2], 2 + more, **group)
+            lanes += run.act("ALIGN", trimmed[:2] + index, more, **group)[:1]
+            logs += trimmed[2:3] + (run.act("QUALITY", trimmed[:1], more, **group)[:1] if run.draw.random() < 0.3 else [])
+        bam = run.act("MERGE", lanes, more, **group)[:1] if len(lanes) > 1 else lanes
+        bam = run.act("CORRECT", bam + shared[2:4], more, **group)[:1] if run.draw.random() < 0.5 else bam
+        for region in calls:
+            region += run.act("CALL", bam + shared[:1], more, **group)[:1]
+        logs += run.act("COUNT", bam, 1 + more, **group)[:1]
+        lasts.append((bam, group))
+    table = run.act("CONCAT", [run.act("JOINT", region)[0] for region in calls])
+    run.act("COLLECT", [run.act("FILTER", table + bam, more, **group)[0] for bam, group in lasts])
+    run.act("REPORT", logs, 2)
+
+
 def failing(run, _):
     """A run in which actions failed, never ran, or came from a cache."""
     irregular(run, 20, 8)
@@ -132,7 +170,7 @@ FORMS = [
     ("medium", lambda run, draw: irregular(run, draw.randint(30, 150), 12)),
     ("samples", lambda run, draw: samples(run, draw.randint(2, 40), draw.random() < 0.5, False, draw.random() < 0.5)),
     ("joint", lambda run, draw: samples(run, draw.randint(2, 40), draw.random() < 0.5, True, draw.random() < 0.5)),
-    ("wide", wide), ("nested", nested), ("failing", failing), ("crossing", crossing),
+    ("wide", wide), ("nested", nested), ("failing", failing), ("crossing", crossing), ("unlike", unlike), ("unlike", unlike),
 ]
 
 
@@ -163,9 +201,9 @@ def items_of(table):
     return {row[1]: row[6] for row in rows if row[0] == "value"}
 
 
-def compare(program, folder, run, draw, counts, coarse=False, most=MOST_PAIRS):
-    """Imports a run, and compares answers with what can be reached. Where it is coarse, `yes` may stand for `no`."""
-    made = core.imported(from_actions.record_of({"values": run.values, "actions": run.actions}, "run"), coarse)
+def compare(program, folder, run, draw, counts, coarse=False, most=MOST_PAIRS, made=None):
+    """Imports a run, if it is not yet, and compares answers with what can be reached. Where it is coarse, `yes` may stand for `no`."""
+    made = made or core.imported(run.record(), coarse)
     rests, number = reached(run)
     items = items_of(made.table)
     if items.keys() != rests.keys():
@@ -195,16 +233,44 @@ def compare(program, folder, run, draw, counts, coarse=False, most=MOST_PAIRS):
     counts["loops"] += made.spec.count('["each') > 0
 
 
-def large(program):
-    """Tries a run of 5,000 actions."""
-    run, counts = Run(random.Random(5)), collections.Counter()
-    samples(run, 1000, False, True, False)
-    if len(run.actions) < 5000 - 20:
-        raise AssertionError(f"the run has {len(run.actions)} actions")
+def tried(program, run, seed, actions, files, made=None):
+    """Tries one run of at least so many actions and files, and tells its size."""
+    counts = collections.Counter()
+    if len(run.actions) < actions or len(run.values) < files:
+        raise AssertionError(f"the run has {len(run.actions)} actions and {len(run.values)} files")
     with tempfile.TemporaryDirectory() as folder:
-        compare(program, folder, run, random.Random(6), counts)
+        compare(program, folder, run, random.Random(seed), counts, made=made)
     print(f"  {len(run.actions)} actions, {len(run.values)} files, {counts['bodies']} bodies")
     return 0
+
+
+def large(program):
+    """Tries a run of 5,000 actions."""
+    run = Run(random.Random(5))
+    samples(run, 1000, False, True, False)
+    return tried(program, run, 6, 4980, 8000)
+
+
+def irregular_large(program):
+    """Tries a run of 2,500 actions, each of which reads some files that were made shortly before."""
+    run = Run(random.Random(9))
+    there = run.outside(3)
+    for _ in range(2500):
+        there += run.act(f"T{run.draw.randint(0, 9)}", run.some(there[-8:], 4), run.draw.choice([1, 1, 2, 3]))
+    return tried(program, run, 10, 2500, 4300)
+
+
+def samples_large(program):
+    """Tries a run of 10,000 actions and 50,000 files, and tells the time of its import and the most memory of this process."""
+    run = Run(random.Random(11))
+    build(run, 310, 25, False, 5)
+    start = time.process_time()
+    made = core.imported(run.record())
+    seconds, memory = time.process_time() - start, resource.getrusage(resource.RUSAGE_SELF).ru_maxrss // 1024
+    print(f"  imported in {seconds:.1f} seconds of processor time and {memory} MB")
+    if seconds > 30 or memory > 1024:
+        raise AssertionError("that is more than 30 seconds or 1 GB")
+    return tried(program, run, 12, 10000, 50000, made)
 
 
 def barriers(program):
@@ -230,9 +296,12 @@ def barriers(program):
     return 0
 
 
+LARGE = {"large": large, "irregular": irregular_large, "samples": samples_large, "barriers": barriers}
+
+
 def main(words):
-    if words[1] in ("large", "barriers"):
-        return {"large": large, "barriers": barriers}[words[1]](words[0])
+    if words[1] in LARGE:
+        return LARGE[words[1]](words[0])
     program, cases, seed = words[0], int(words[1]), int(words[2])
     counts = collections.Counter()
     with tempfile.TemporaryDirectory() as folder:

@@ -110,6 +110,8 @@ check "where the table cannot be written nothing is" keeps_its_table_apart
 
 check "${1:-80} random runs answer as a search in them does" python3 checks/actions.py "$program" "${1:-80}" "${2:-1}"
 check "5,000 actions in samples that wait for one another are cut exactly" python3 checks/actions.py "$program" large
+check "2,500 actions that are unlike are cut exactly" python3 checks/actions.py "$program" irregular
+check "10,000 actions and 50,000 files, in samples that are unlike, are cut exactly in 30 seconds and 1 GB" python3 checks/actions.py "$program" samples
 check "what cannot be cut exactly is refused, and coarse if asked for" python3 checks/actions.py "$program" barriers
 
 finish

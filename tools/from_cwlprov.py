@@ -6,7 +6,7 @@
 
 FOLDER is what cwltool writes: its metadata/provenance/primary.cwlprov.json, the files that this names beside it, and its
 workflow/packed.cwl, in place of which --workflow names another packed document. In place of FOLDER the primary file may be given, and
-then --workflow must be.
+then --workflow must be. Where the record says of an input of the run nothing, workflow/primary-job.json does, if it is there.
 
 The record says which execution used and made which file. The document says from where each input of a step may come. The two are
 compared. A file that an execution used is
@@ -17,11 +17,12 @@ So scattered steps stay apart, in whatever form they are scattered, also where t
 record may mean is said on standard error, step by step.
   - The record does not say what an ExpressionTool read and made. One is taken to have read all that the document lets come to it, and
     to have made what comes from it. Where it is scattered, its executions are one.
-  - A value that a step reads for `when` or for `valueFrom` alone counts as one that its executions read.
+  - What a step reads for `when` or for `valueFrom` alone counts as what its executions read: all that may come there.
   - A step that was skipped, or did not come to be run, has no execution, and is not there. But where what it makes was used, as after
     --cachedir and --parallel, of which cwltool records no executions, it is taken to have read all that the document lets come to it.
   - An execution that has no end and made nothing failed. cwltool does not record that one failed which made what it should.
-  - An array is its members. A folder is a value, and so is each file in it.
+  - An array is its members, and an empty one is nothing, as is an input to which nothing came. A folder is a value, and so is each file in
+    it.
 
 TABLE is as tools/from_actions.py describes it. The name of an action is the path of its step, with the number that the record gives it, as
 `each_2/sort_2`; ID is the name of the entity, PATH the name of the file without folders, CHECKSUM its SHA-1 as `sha1$HEX`. SOFTWARE is what
@@ -45,6 +46,8 @@ import outputs
 import terminal
 
 HEAD = ""
+# What cwltool writes where nothing came to an input.
+NOTHING = "cwlprov:None"
 
 
 def refuse(place, what):
@@ -193,7 +196,7 @@ class Entities:
     """What the files of a record say of entities: members, contents, names; and what executions used and made, in which role."""
 
     def __init__(self):
-        self.members, self.content, self.names, self.used, self.made, self.ended, self.folders = {}, {}, {}, {}, {}, set(), set()
+        self.members, self.content, self.names, self.used, self.made, self.ended, self.folders, self.empty = {}, {}, {}, {}, {}, set(), set(), {NOTHING}
 
     def take(self, value):
         """Takes what a file says. Files of nested workflows repeat what others say."""
@@ -205,8 +208,11 @@ class Entities:
                 self.content[special] = general
         for name, entry in entries_of(value, "entity"):
             self.names.update({name: text for text in texts(entry, "cwlprov:basename")})
-            if any(kind.endswith((":Folder", ":Dictionary")) for kind in texts(entry, "prov:type")):
+            kinds = texts(entry, "prov:type")
+            if any(kind.endswith((":Folder", ":Dictionary", ":EmptyDictionary")) for kind in kinds):
                 self.folders.add(name)
+            elif "prov:EmptyCollection" in kinds:
+                self.empty.add(name)
             if "prov:value" in entry and not name.startswith("data:"):
                 self.content.setdefault(name, "value " + json.dumps(entry["prov:value"], sort_keys=True))
         for member, table in (("used", self.used), ("wasGeneratedBy", self.made)):
@@ -217,14 +223,15 @@ class Entities:
         self.ended.update(name for _, entry in entries_of(value, "wasEndedBy") for name in texts(entry, "prov:activity"))
 
     def parts(self, entity):
-        """Returns the members of an array, of arrays in it too; what is no array is its own only part. A folder is a part, and its files are."""
+        """Returns the members of an array, of arrays in it too; what is no array is its own only part. A folder is a part, and its files are. An
+        empty array has none, and so has nothing."""
         found, waiting, seen = [], [entity], set()
         while waiting:
             name = waiting.pop()
             if name in seen:
                 continue
             seen.add(name)
-            if name not in self.members or name in self.folders:
+            if name not in self.members and name not in self.empty or name in self.folders:
                 found.append(name)
             waiting += reversed(list(self.members.get(name, ())))
         return found
@@ -232,6 +239,18 @@ class Entities:
     def same(self, entity):
         """Returns what tells the content of an entity."""
         return self.content.get(entity, entity if entity.startswith("data:") else None)
+
+
+def files_in(given):
+    """Yields the name and the checksum of each file in an input of a run: of arrays, of folders, and of files beside files too."""
+    waiting = [given]
+    while waiting:
+        here = waiting.pop()
+        if isinstance(here, dict):
+            if here.get("class") == "File":
+                yield tuple(word if isinstance(word, str) else "" for word in (here.get("basename"), here.get("checksum")))
+            here = [here[part] for part in ("secondaryFiles", "listing") if part in here] if "class" in here else list(here.values())
+        waiting += reversed(here) if isinstance(here, list) else []
 
 
 class Execution:
@@ -243,10 +262,10 @@ class Execution:
 
 
 class Reading:
-    """Reads the executions of a record from its files."""
+    """Reads the executions of a record from its files, beside which may stand a list of the inputs of the run."""
 
-    def __init__(self, path, document, read):
-        self.document, self.read, self.path, self.folder = document, read, path, os.path.dirname(path)
+    def __init__(self, path, document, read, job=None):
+        self.document, self.read, self.path, self.folder, self.job = document, read, path, os.path.dirname(path), job or {}
         self.entities, self.seen, self.start = Entities(), set(), None
         self.top = Execution(document.processes[document.start], "", ())
         self.waiting = [(path, self.top)]
@@ -371,8 +390,16 @@ class Import:
             found = self.by_port.setdefault((top, HEAD, role), [])
             found += [self.value(part, role, True) for part in self.entities.parts(entity)]
         for port in sorted(top.process.inputs):
-            if not self.by_port.get((top, HEAD, port)):
-                self.by_port[top, HEAD, port] = [self.value(f"input {port}", f"input {port}", True)]
+            if (top, HEAD, port) not in self.by_port:
+                self.by_port[top, HEAD, port] = self.given_files(port) or [self.value(f"input {port}", f"input {port}", True)]
+
+    def given_files(self, port):
+        """Returns the files that the run was given at an input, by its list of inputs. They are told there where no execution is recorded."""
+        files = list(files_in(self.reading.job.get(port)))
+        names = [f"input {port}" if len(files) == 1 else f"input {port} {number}" for number in range(1, len(files) + 1)]
+        for name, (path, checksum) in zip(names, files):
+            self.record.add_value(actions.Value(name, path, checksum, True))
+        return names
 
     def origin(self, execution, end):
         """Returns the values that a source may give, by the document."""
@@ -447,7 +474,9 @@ class Import:
     def unrecorded(self, step, port, values):
         """Returns what came to an input of which the record says nothing. A step that may have been skipped gave nothing there."""
         values = [value for value in values if value not in self.lazy or self.lazy[value][2] or not self.lazy[value][1].is_conditional]
-        if len(values) > 1 and step.is_scattered:
+        if values and port not in self.document.run_of(step).inputs:
+            self.note(step, f"`{port}` is read for `when` or `valueFrom` alone: its executions are taken to have read all that may come there")
+        elif len(values) > 1 and step.is_scattered:
             self.note(step, f"the record does not say what came to `{port}`: all that may come there is taken")
         return self.taken(values)
 
@@ -497,8 +526,16 @@ class Import:
             for part in self.entities.parts(entity):
                 content = self.entities.same(part)
                 there = [value for value in allowed if value not in self.lazy and content is not None and self.entities.same(value) == content]
-                known = part in self.record.values or there or part == "cwlprov:None"
+                known = part in self.record.values or there
                 self.revived([value for value in allowed if value in self.lazy and (self.lazy[value][2] or not known)])
+            if len(allowed) == 1 == len(self.entities.parts(entity)) and allowed[0] in self.lazy:
+                self.name_result(self.record.values[allowed[0]], *self.entities.parts(entity))
+
+    def name_result(self, value, entity):
+        """Gives the name and the checksum of what the run gave out to the only value that it can be."""
+        content = self.entities.same(entity) or ""
+        value.path = self.entities.names.get(entity, value.path)
+        value.checksum = "sha1$" + content.partition(":")[2] if content.startswith("data:") else ""
 
 
 def tool_of(step):
@@ -532,13 +569,15 @@ def complain(line):
 def work(words):
     """Imports what the words name."""
     coarse, document, (record, *places) = words_of(words)
-    read = []
+    read, job = [], None
     if os.path.isdir(record):
         document = document or os.path.join(record, "workflow", "packed.cwl")
+        job = os.path.join(record, "workflow", "primary-job.json")
         record = os.path.join(record, "metadata", "provenance", "primary.cwlprov.json")
     if document is None:
         refuse("call", "a file of CWLProv alone does not say what its steps may read: --workflow must name the packed document")
-    made = Import(Reading(record, Document(load(document, read), document), read))
+    job = load(job, read) if job and os.path.exists(job) else None
+    made = Import(Reading(record, Document(load(document, read), document), read, job))
     imported = actions.imported(made.record, coarse)
     outputs.write_all(list(zip(places, (imported.spec, imported.events, imported.table))), read)
     for place, what in made.notes:

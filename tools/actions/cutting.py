@@ -9,7 +9,7 @@ from actions.parts import Builder, MOST_POSITIONS, Part, TooWide, leaf_part
 import terminal
 
 LEAST = 3
-DEGREES = (48, 16, 6, 3)
+DEGREES = (1000, 400, 150, 64, 48, 36, 27, 20, 15, 11, 8, 6, 3)
 SIZES = (40, 24, 12, 6, 3, 2)
 CLASSES = 32
 
@@ -77,7 +77,7 @@ class Cutter:
                     return self.builder.body(parts, title)
                 except TooWide as wide:
                     self.note(wide, parts)
-            parts = self.looped(parts, title) or self.chunked(parts, title)
+            parts = self.looped(parts) or self.chunked(parts)
         return parts[0]
 
     def note(self, wide, parts):
@@ -86,30 +86,32 @@ class Cutter:
             names = [self.graph.names[min(part.leaves)] for part in parts[:2]]
             self.smallest = wide.count, names
 
-    def looped(self, parts, title):
-        """Returns fewer parts, of which alike ones became loops, or None."""
-        net = Net(self.graph, parts)
+    def looped(self, parts):
+        """Returns fewer parts, of which alike ones became loops, or None: those that are alike inside, or else those that have the same
+        neighbours, each of which becomes a part of its own first."""
+        net, before = Net(self.graph, parts), None
         for most in DEGREES:
-            found = []
-            for component in net.components(most):
-                found.append((net.rough(component), component))
-            classes = {}
-            for key, component in found:
-                classes.setdefault(key, []).append(component)
-            alike = sorted((components for components in classes.values() if len(components) >= LEAST), key=len, reverse=True)
-            fewer = self.contracted(net, alike[:CLASSES], title)
-            if fewer:
-                return fewer
+            components = net.components(most)
+            if components == before:
+                continue
+            before = components
+            alike = classes_of(components, net.rough)
+            facing = classes_of([component for component in components if len(component) > 1 or not net.parts[component[0]].is_leaf()], net.facing)
+            orders = [(alike, False), (facing, True)]
+            for classes, is_faced in orders if 2 * covered(alike) > covered(facing) else orders[::-1]:
+                fewer = self.contracted(net, classes[:CLASSES], is_faced)
+                if fewer:
+                    return fewer
         return None
 
-    def contracted(self, net, classes, title):
+    def contracted(self, net, classes, is_faced):
         """Returns the parts of a net with loops for classes of alike components, or None where no class becomes one."""
         gone, new = set(), []
         for components in classes:
             between = net.between({place for component in components for place in component})
             if gone and (between or any(gone.intersection(component) for component in components)):
                 continue
-            taken, parts = self.loop(net, components, between, title)
+            taken, parts = self.loop(net, components, between, is_faced)
             if len(parts) < len(taken):
                 gone |= taken
                 new += parts
@@ -117,37 +119,50 @@ class Cutter:
                 break
         return [part for place, part in enumerate(net.parts) if place not in gone] + new if new else None
 
-    def loop(self, net, components, between, title):
-        """Returns the places that became other parts, and these parts: a loop, and the elements that are not alike after all."""
+    def loop(self, net, components, between, is_faced):
+        """Returns the places that became other parts, and these parts: loops, and the elements that are not alike after all."""
         later = net.reached(between)
         if any(place in between for component in components for member in component if member in later for place in net.after[member]):
             return set(), [None]
         splits = [[[place for place in component if place not in later], [place for place in component if place in later]]
                   for component in components]
         try:
-            elements = [[self.one([net.parts[place] for place in side], "part") for side in split if side] for split in splits]
+            elements = [[self.side([net.parts[place] for place in side], is_faced) for side in split if side] for split in splits]
             centre = self.one([net.parts[place] for place in sorted(between)], "centre") if between else None
-            shapes = [Shape(self.graph, element, centre) for element in elements]
-            shape, alike = self.most_alike(shapes)
-            if len(alike) < LEAST:
-                return set(), [None]
-            made = Loop(self.builder, [elements[number] for number in alike], shape, centre, "each").part()
+            made, others = self.loops_of(elements, centre)
         except TooWide as wide:
             self.note(wide, net.parts)
             return set(), [None]
-        kept = set(alike)
-        others = [part for number, element in enumerate(elements) if number not in kept for part in element]
-        return set(between).union(*components), [made] + others
+        if not made:
+            return set(), [None]
+        return set(between).union(*components), made + [part for element in others for part in element]
 
-    def most_alike(self, shapes):
-        """Returns a shape, and the numbers of the elements that have it, which are the most."""
+    def side(self, parts, is_faced):
+        """Returns one part for the parts of an element. Faced, its ports stand in an order that does not depend on what is inside."""
+        if not is_faced:
+            return self.one(parts, "part")
+        if len(parts) <= self.builder.most:
+            try:
+                return self.builder.body(parts, "part", True)
+            except TooWide as wide:
+                self.note(wide, parts)
+        return self.builder.body([self.one(parts, "part")], "part", True)
+
+    def loops_of(self, elements, centre):
+        """Returns a loop for each shape that enough elements have, and the other elements. With a centre, one shape alone becomes a loop."""
         found = {}
-        for number, shape in enumerate(shapes):
-            found.setdefault(shape.key(self.graph), []).append(number)
-        numbers = max(found.values(), key=len)
-        return shapes[numbers[0]], numbers
+        for element in elements:
+            shape = Shape(self.graph, element, centre)
+            found.setdefault(shape.key(self.graph), (shape, []))[1].append(element)
+        made, others = [], []
+        for shape, alike in sorted(found.values(), key=lambda entry: -len(entry[1])):
+            if len(alike) < LEAST or made and centre:
+                others += alike
+            else:
+                made.append(Loop(self.builder, alike, shape, centre, "each").part())
+        return made, others
 
-    def chunked(self, parts, title):
+    def chunked(self, parts):
         """Returns fewer parts: those that follow one another are put together, as many as the borders allow."""
         order, found, start = Net(self.graph, parts).order(), [], 0
         while start < len(order):
@@ -173,48 +188,78 @@ class Cutter:
         return parts[0], 1
 
 
+def classes_of(components, key):
+    """Returns lists of components that have the same key, the longest first, if they are long enough for a loop."""
+    classes = {}
+    for component in components:
+        classes.setdefault(key(component), []).append(component)
+    return sorted((members for members in classes.values() if len(members) >= LEAST), key=len, reverse=True)
+
+
+def covered(classes):
+    """Returns how many parts stand in classes of components."""
+    return sum(len(component) for members in classes for component in members)
+
+
 class Net:
     """Parts as a graph: which feeds which."""
 
     def __init__(self, graph, parts):
         self.graph, self.parts = graph, parts
-        where = {leaf: place for place, part in enumerate(parts) for leaf in part.leaves}
+        self.where = {leaf: place for place, part in enumerate(parts) for leaf in part.leaves}
         self.before, self.after = [set() for _ in parts], [set() for _ in parts]
         for place, part in enumerate(parts):
             for value in part.entering:
-                giver = where.get(graph.maker[value])
+                giver = self.where.get(graph.maker[value])
                 if giver is not None:
                     self.before[place].add(giver)
                     self.after[giver].add(place)
 
     def components(self, most):
-        """Returns lists of parts that hang together without those that have more than so many neighbours."""
-        small = [len(self.before[place]) + len(self.after[place]) <= most for place in range(len(self.parts))]
-        seen, found = set(), []
-        for start, is_small in enumerate(small):
-            if not is_small or start in seen:
-                continue
-            seen.add(start)
-            component = [start]
-            for place in component:
-                for other in sorted(self.before[place] | self.after[place]):
-                    if small[other] and other not in seen:
-                        seen.add(other)
-                        component.append(other)
-            found.append(sorted(component))
-        return found
+        """Returns lists of parts that hang together without those that have more than so many neighbours. What reads nothing, and what nothing
+        reads, joins no two of them: it belongs to one if it hangs together with no other."""
+        ends = {place for place in range(len(self.parts)) if not self.before[place] or not self.after[place]}
+        small = {place for place in range(len(self.parts)) if place not in ends and len(self.before[place]) + len(self.after[place]) <= most}
+        number, found = {}, []
+        for start in sorted(small):
+            if start not in number:
+                number[start] = len(found)
+                found.append([start])
+                for place in found[-1]:
+                    for other in self.before[place] | self.after[place]:
+                        if other in small and other not in number:
+                            number[other] = len(found) - 1
+                            found[-1].append(other)
+        for place in sorted(ends):
+            near = {number[other] for other in self.before[place] | self.after[place] if other in small}
+            if len(near) == 1:
+                found[near.pop()].append(place)
+            elif not near and len(self.before[place]) + len(self.after[place]) <= most:
+                found.append([place])
+        return [sorted(component) for component in found]
 
     def rough(self, component):
         """Returns what components have in common that may be alike."""
         inside = set(component)
-        return tuple(sorted(repr((self.kind(place), len(self.before[place]), len(self.after[place]),
-                                  sorted(self.before[place] - inside), sorted(self.after[place] - inside))) for place in component))
+        return tuple(sorted((self.kind(place), len(self.before[place]), len(self.after[place]), tuple(sorted(self.before[place] - inside)),
+                             self.beyond(place, inside)) for place in component))
+
+    def beyond(self, place, inside):
+        """Returns the leaves outside that read what a part makes, for each of its ports."""
+        part = self.parts[place]
+        return tuple(tuple(reader for reader in self.graph.readers[values[0]] if self.where.get(reader) not in inside)
+                     for _, values in sorted(part.ports.items()))
+
+    def facing(self, component):
+        """Returns what components have in common that may become loops of parts: what stands before them, and behind."""
+        inside = set(component)
+        return tuple(tuple(sorted(set().union(*(table[place] for place in component)) - inside)) for table in (self.before, self.after))
 
     def kind(self, place):
         """Returns what a part is."""
         part = self.parts[place]
         number = min(part.leaves)
-        return (self.graph.tools[number], self.graph.roles[number]) if part.is_leaf() else part.module.number
+        return (self.graph.tools[number], *self.graph.roles[number]) if part.is_leaf() else ("", str(part.module.number))
 
     def reached(self, places, back=False):
         """Returns what can be reached from places, without these where no way leads back to them."""

@@ -94,11 +94,13 @@ class Loop:
         if is_new:
             modules = [module if other is following else other for other in turn.modules]
             module.productions += [Production(module, modules, turn.links), Production(module, last.modules, last.links)]
+            module.joined = last.joined()
         turns = [(module.productions[0], element + turn.positions[len(first):]) for element in self.elements[:-1]]
         turns.append((module.productions[1], self.elements[-1] + last.positions[len(first):]))
         leaves = frozenset().union(*(part.leaves for element in self.elements for part in element), self.shape.core)
         entering = {value: port for port, (_, _, values) in enumerate(self.entries) for value in values}
-        return Part(leaves, entering, self.leaving(), module, turns)
+        height = 1 + max(part.height for part in first + [self.centre] * (self.centre is not None))
+        return Part(leaves, entering, self.leaving(), module, turns, height=height)
 
     def wired(self, children, wires):
         """Returns the wiring of a turn."""

@@ -67,17 +67,19 @@ class Names:
 
 
 class Module:
-    """A module: its number, its name, its ports, its productions, and the pairs of an input and an output, or None for all."""
+    """A module: its number, its name, its ports, its productions, the pairs of an input and an output, or None for all, and for each input the
+    outputs that it joins, as bits."""
 
     def __init__(self, number, name, inputs, outputs):
         self.number, self.name, self.inputs, self.outputs, self.productions, self.pairs = number, name, inputs, outputs, [], None
+        self.joined = ((1 << len(outputs)) - 1,) * len(inputs)
 
 
 class Library:
     """The modules and productions that parts share."""
 
     def __init__(self):
-        self.modules, self.known, self.names, self.coarse = [], {}, Names(), {}
+        self.modules, self.known, self.productions, self.names, self.coarse = [], {}, {}, Names(), {}
 
     def shared(self, key, title, inputs, outputs):
         """Returns the module of a key, and whether it is new. The ports are names, or how many there are."""
@@ -95,10 +97,27 @@ class Library:
         """Returns the module that copies, gathers, ends or gives nothing. It has a narrow port for each width, and as many wide ones."""
         wide, narrow = sum(widths), len(widths)
         inputs, outputs = {"copy": (narrow, wide), "gather": (wide, narrow), "end": (wide, 0), "nothing": (0, wide)}[kind]
-        module, is_new = self.shared((kind, widths), kind if kind == "nothing" else f"{kind}-{wide}", inputs, outputs)
-        if is_new and narrow > 1:
+        module, is_new = self.shared((kind, widths), f"{kind}-{wide}", inputs, outputs)
+        if is_new and narrow > 1 and wide:
             module.pairs = paired(kind, widths, module)
+            module.joined = bits_of(module)
         return module
+
+    def face(self, title, height, joined, outputs):
+        """Returns the module of all bodies of a title and a height that join the same inputs to the same outputs. The height keeps a body from
+        standing in itself."""
+        module, is_new = self.shared(("face", title, height, joined, outputs), title, len(joined), outputs)
+        if is_new:
+            module.joined = joined
+        return module
+
+    def production(self, module, wiring):
+        """Returns the production of a module by a body, which is that of an earlier body where the two are wired alike."""
+        key = (module.number, wiring.key())
+        if key not in self.productions:
+            self.productions[key] = Production(module, wiring.modules, wiring.links)
+            module.productions.append(self.productions[key])
+        return self.productions[key]
 
     def leaf(self, tool, inputs, roles):
         """Returns the module of a tool with so many inputs, and with outputs of these roles."""
@@ -118,12 +137,17 @@ def paired(kind, widths, module):
     return pairs
 
 
+def bits_of(module):
+    """Returns for each input of a module the outputs that its pairs join to it, as bits."""
+    return tuple(sum(1 << module.outputs.index(end) for start, end in module.pairs if start == port) for port in module.inputs)
+
+
 class Part:
     """A part of a run. Its leaves, for each value that enters or leaves it the number of its port, and how many ports there are. A leaf
     has one port for all that it reads. `turns` are what its expansions make, from the outermost: each a production and what stands in it."""
 
-    def __init__(self, leaves, entering, leaving, module=None, turns=(), merged=frozenset()):
-        self.leaves, self.entering, self.leaving = leaves, entering, leaving
+    def __init__(self, leaves, entering, leaving, module=None, turns=(), merged=frozenset(), height=0):
+        self.leaves, self.entering, self.leaving, self.height = leaves, entering, leaving, height
         self.module, self.turns, self.merged = module, list(turns), merged
         self.ports = {}
         for value, port in leaving.items():
@@ -142,18 +166,21 @@ def leaf_part(graph, number):
 
 class Wiring:
     """A body: what stands at its positions, and its links. It is made of children and of wires, each a source and where it goes. An end
-    of a link is a pair of a position, or HEAD, and a port. A child is a part, or a module for the next turn of a loop."""
+    of a link is a pair of a position, or HEAD, and a port. A child is a part, or a module for the next turn of a loop.
+
+    One module gathers for all children of a depth, and one copies what all children of a depth give, each for itself. The depth of a child is
+    the length of the longest way to it, so no way leads from such a module back to it."""
 
     def __init__(self, library, graph, children, wires, outputs, most):
         self.library, self.graph, self.outputs = library, graph, outputs
         self.positions, self.links, self.leaf_arrivals = list(children), [], {}
         self.going = {source: [] for source, _ in wires}
+        self.depths = depths_in(len(self.positions), wires)
         arrivals = {}
         for source, goals in wires:
             for goal in goals:
                 arrivals.setdefault(goal[0], {}).setdefault(goal[1], []).append(source)
-        for place in sorted(arrivals):
-            self.arrive(place, arrivals[place])
+        self.arrive(arrivals)
         self.feed_nothing(arrivals)
         self.modules = [self.module_of(place) for place in range(len(self.positions))]
         self.leave()
@@ -164,27 +191,33 @@ class Wiring:
         """Returns whether a leaf stands at a position."""
         return place != HEAD and isinstance(self.positions[place], Part) and self.positions[place].is_leaf()
 
-    def arrive(self, place, ports):
-        """Leads sources to the ports of a position. A leaf has a port for each of up to 64 sources. Any other port is fed by a module that
-        gathers, where it has several sources; one module gathers for several ports, each for itself."""
-        several = []
-        for port, sources in sorted(ports.items()):
-            sources = self.gathered(sources)
-            if self.is_leaf(place):
-                self.leaf_arrivals[place] = len(sources)
-                for number, source in enumerate(sources):
-                    self.going[source].append((place, number))
-            elif len(sources) == 1:
-                self.going[sources[0]].append((place, port))
-            else:
-                several.append((len(sources), port, sources))
-        for piece in pieces_of(sorted(several)):
-            gather = self.add("gather", tuple(count for count, _, _ in piece))
-            feeds = [source for _, _, sources in piece for source in sources]
-            for number, source in enumerate(feeds):
-                self.going[source].append((gather, number))
-            for number, (_, port, _) in enumerate(piece):
-                self.going[gather, number] = [(place, port)]
+    def arrive(self, arrivals):
+        """Leads sources to the ports of positions. A leaf has a port for each of up to 64 sources. Any other port is fed by a module that
+        gathers, where it has several sources."""
+        several = {}
+        for place, ports in sorted(arrivals.items()):
+            for port, sources in sorted(ports.items()):
+                sources = self.gathered(sources)
+                if self.is_leaf(place):
+                    self.leaf_arrivals[place] = len(sources)
+                    for number, source in enumerate(sources):
+                        self.going[source].append((place, number))
+                elif len(sources) == 1:
+                    self.going[sources[0]].append((place, port))
+                else:
+                    depth = len(self.depths) if place == HEAD else self.depths[place]
+                    several.setdefault(depth, []).append((len(sources), place, port, sources))
+        for depth in sorted(several):
+            for piece in pieces_of(sorted(several[depth])):
+                self.gather(piece)
+
+    def gather(self, piece):
+        """Gathers sources for several ports, each for itself."""
+        gather = self.add("gather", tuple(count for count, *_ in piece))
+        for number, source in enumerate(source for *_, sources in piece for source in sources):
+            self.going[source].append((gather, number))
+        for number, (_, place, port, _) in enumerate(piece):
+            self.going[gather, number] = [(place, port)]
 
     def gathered(self, sources):
         """Returns at most 64 sources for a port, by a tree of gathering modules."""
@@ -211,11 +244,12 @@ class Wiring:
 
     def feed_nothing(self, arrivals):
         """Feeds the ports of children to which nothing goes. They are those for what outer turns of a loop hand on."""
-        for place, child in enumerate(list(self.positions)):
-            if isinstance(child, Part) and not child.is_leaf():
-                for port in range(len(child.module.inputs)):
-                    if port not in arrivals.get(place, {}):
-                        self.links.append(((self.add("nothing", (1,)), 0), (place, port)))
+        unfed = [(place, port) for place, child in enumerate(self.positions) if isinstance(child, Part) and not child.is_leaf()
+                 for port in range(len(child.module.inputs)) if port not in arrivals.get(place, {})]
+        for start in range(0, len(unfed), MOST_PORTS):
+            piece = unfed[start:start + MOST_PORTS]
+            nothing = self.add("nothing", (len(piece),))
+            self.links += [((nothing, number), goal) for number, goal in enumerate(piece)]
 
     def module_of(self, place):
         """Returns the module at a position."""
@@ -228,24 +262,29 @@ class Wiring:
         return child.module
 
     def leave(self):
-        """Leads each source to where it goes, by a copying module where there are several ends, and by an ending one where there is none.
-        What would go from a leaf straight out of the body goes through a module first, so that it is an item."""
+        """Leads each source to where it goes, by a copying module where there are several ends. What has none ends in one of these modules that
+        stands behind it, or in one that ends. What would go from a leaf straight out of the body goes through a module first, so that it is
+        an item."""
         unread, several = [], {}
         for source, goals in self.going.items():
+            depth = -1 if source[0] == HEAD else self.depths.get(source[0], len(self.depths))
             if not goals:
-                unread.append(source)
+                unread.append((depth, source))
             elif len(goals) > 1 or goals[0][0] == HEAD and (source[0] == HEAD or self.is_leaf(source[0])):
                 goals = self.spread(goals)
-                several.setdefault(source[0], []).append((len(goals), source, goals))
+                several.setdefault(depth, []).append((len(goals), source, goals))
             else:
                 self.links.append((source, goals[0]))
-        for place in sorted(several):
-            for piece in pieces_of(sorted(several[place])):
+        ends = []
+        for depth, source in unread:
+            behind = [other for other in several if other >= depth]
+            (several[min(behind)] if behind else ends).append((0, source, []))
+        for depth in sorted(several):
+            for piece in pieces_of(sorted(several[depth])):
                 self.copy(piece)
-        for start in range(0, len(unread), MOST_PORTS):
-            piece = unread[start:start + MOST_PORTS]
+        for piece in pieces_of(ends):
             place = self.append("end", (len(piece),))
-            self.links += [(source, (place, port)) for port, source in enumerate(piece)]
+            self.links += [(source, (place, port)) for port, (_, source, _) in enumerate(piece)]
 
     def spread(self, goals):
         """Returns at most 64 ends for a value, by a tree of copying modules. More there are in coarse parts alone."""
@@ -268,17 +307,54 @@ class Wiring:
         """Returns what two bodies that are one production have in common."""
         return tuple(module.number for module in self.modules), tuple(sorted(self.links)), self.outputs
 
+    def joined(self):
+        """Returns for each input of the body the outputs that are reached from it, as bits."""
+        going, known = dict(self.links), {}
+
+        def reached(source):
+            if source not in known:
+                place, port = going[source]
+                known[source] = 1 << port if place == HEAD else 0
+                if place != HEAD:
+                    bits, module = 0, self.modules[place]
+                    for number in range(len(module.outputs)):
+                        if module.joined[port] >> number & 1:
+                            bits |= reached((place, number))
+                    known[source] = bits
+            return known[source]
+        return tuple(reached(source) for source in sorted(source for source in going if source[0] == HEAD))
+
 
 def pieces_of(entries):
-    """Returns lists of entries, whose counts come to at most 64 in each."""
+    """Returns lists of entries, whose counts come to at most 64 in each, where an entry counts for one at least."""
     pieces, room = [], 0
     for entry in entries:
-        if entry[0] > room:
+        count = max(entry[0], 1)
+        if count > room:
             pieces.append([])
             room = MOST_PORTS
         pieces[-1].append(entry)
-        room -= entry[0]
+        room -= count
     return pieces
+
+
+def depths_in(count, wires):
+    """Returns for each of so many children the length of the longest way to it over wires."""
+    after, before = [set() for _ in range(count)], [0] * count
+    for (place, _), goals in wires:
+        if place != HEAD:
+            after[place].update(goal for goal, _ in goals if goal != HEAD)
+    for goals in after:
+        for goal in goals:
+            before[goal] += 1
+    depths, ready = dict.fromkeys(range(count), 0), [place for place in range(count) if not before[place]]
+    for place in ready:
+        for goal in after[place]:
+            depths[goal] = max(depths[goal], depths[place] + 1)
+            before[goal] -= 1
+            if not before[goal]:
+                ready.append(goal)
+    return depths
 
 
 class Builder:
@@ -287,8 +363,9 @@ class Builder:
     def __init__(self, graph, most=MOST_POSITIONS, coarse=False):
         self.graph, self.library, self.most, self.coarse = graph, Library(), most, coarse
 
-    def body(self, children, title):
-        """Returns the part that has these parts in its body, or raises TooWide."""
+    def body(self, children, title, is_faced=False):
+        """Returns the part that has these parts in its body, or raises TooWide. Faced, its ports stand in the order of what is outside: of the
+        makers of what enters, and of the readers of what leaves."""
         inside = frozenset().union(*(child.leaves for child in children))
         self.refuse_wide(children, inside)
         children = ordered(self.graph, children, inside)
@@ -296,7 +373,7 @@ class Builder:
         bundles = {}
         for value, goals in entering.items():
             bundles.setdefault(tuple(goals), []).append(value)
-        ports_in = self.narrow(sorted(bundles.items()), title)
+        ports_in = self.narrow(sorted(bundles.items(), key=self.maker_key if is_faced else None), title)
         wires = [((HEAD, port), goals) for port, (goals, _) in enumerate(ports_in)]
         leaving = {}
         for place, child in enumerate(children):
@@ -305,12 +382,24 @@ class Builder:
                 wires.append(((place, port), goals))
                 if beyond:
                     leaving.setdefault(beyond, []).append(len(wires) - 1)
-        ports_out = self.narrow([(tuple(wires[number][0] for number in numbers), numbers) for numbers in leaving.values()], title)
-        ports_out.sort()
+        numbered_out = sorted(leaving.items(), key=self.reader_key) if is_faced else leaving.items()
+        ports_out = self.narrow([(tuple(wires[number][0] for number in numbers), numbers) for _, numbers in numbered_out], title)
+        if not is_faced:
+            ports_out.sort()
         for port, (_, numbers) in enumerate(ports_out):
             for number in numbers:
                 wires[number] = wires[number][0], wires[number][1] + [(HEAD, port)]
         return self.finish(children, wires, inside, ports_in, ports_out, title)
+
+    def maker_key(self, bundle):
+        """Returns by what the values that enter are ordered: by the tools that made them and their roles, and then by their numbers."""
+        makers = [(self.graph.tools[leaf], self.graph.roles[leaf][self.graph.makes[leaf].index(value)], value)
+                  for value in bundle[1] for leaf in [self.graph.maker[value]]]
+        return sorted(makers)
+
+    def reader_key(self, bundle):
+        """Returns by what the values that leave are ordered: by the tools that read them, and then by the numbers of these readers."""
+        return sorted((self.graph.tools[leaf], leaf) for leaf in bundle[0])
 
     def refuse_wide(self, children, inside):
         """Raises TooWide where too much would cross the border, before anything else is done."""
@@ -329,13 +418,14 @@ class Builder:
     def finish(self, children, wires, inside, ports_in, ports_out, title):
         """Returns the part of a body whose wires are known."""
         wiring = Wiring(self.library, self.graph, children, wires, len(ports_out), self.most)
-        production = self.production(wiring, title, len(ports_in), len(ports_out))
+        height = 1 + max(child.height for child in children)
+        production = self.library.production(self.library.face(title, height, wiring.joined(), len(ports_out)), wiring)
         entering = {value: port for port, (_, values) in enumerate(ports_in) for value in values}
         sources = {source: port for port, (given, _) in enumerate(ports_out) for source in given}
         leaving = {value: sources[place, port] for place, child in enumerate(children)
                    for value, port in child.leaving.items() if (place, port) in sources}
         merged = frozenset(port for port, (given, _) in enumerate(ports_out) if self.is_merged(given, children, inside))
-        return Part(inside, entering, leaving, production.module, [(production, wiring.positions)], merged)
+        return Part(inside, entering, leaving, production.module, [(production, wiring.positions)], merged, height)
 
     def is_merged(self, given, children, inside):
         """Returns whether the values of a port are read by different leaves outside, as only coarse parts have it."""
@@ -371,13 +461,6 @@ class Builder:
         goals = tuple(sorted({goal for given, _ in rest for goal in given}))
         self.library.coarse.setdefault(title, []).append(len(rest))
         return kept + [(goals, [value for _, values in rest for value in values])]
-
-    def production(self, wiring, title, inputs, outputs):
-        """Returns the production of a body, which is that of an earlier body where the two are wired alike."""
-        module, is_new = self.library.shared(("body", wiring.key()), title, inputs, outputs)
-        if is_new:
-            module.productions.append(Production(module, wiring.modules, wiring.links))
-        return module.productions[0]
 
 
 class Production:

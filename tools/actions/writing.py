@@ -9,7 +9,8 @@ from actions.parts import Graph, MOST_POSITIONS, Names, Part
 MOST_MODULES = MOST_PRODUCTIONS = 1024
 MOST_SQUARES, MOST_BYTES, MOST_INSTANCES = 65536, 16777216, 16777216
 MOST_MADE = 60
-SIZES = (MOST_POSITIONS, 32, 20, 14, 10, 8)
+SIZES = (MOST_POSITIONS, 32, 20, 14, 12, 10, 9, 8)
+SHRINKS = 0.75
 
 
 class Imported:
@@ -91,20 +92,24 @@ def fitting(graph, coarse):
 
 
 def exact(graph, coarse):
-    """Returns the specification of a graph, by the largest bodies that are within the limits."""
-    excess = ""
-    for most in SIZES:
+    """Returns the specification of a graph, by the largest bodies that are within the limits. Smaller bodies have a smaller sum of squares, by
+    about the power of SHRINKS, and are more."""
+    most, excess = SIZES[0], (0, 0, "")
+    while most:
         cutter = Cutter(graph, most, coarse)
         try:
             text = Specification(cutter.whole(), cutter.builder.library)
         except terminal.Wrong:
-            if not excess:
+            if not excess[2]:
                 raise
             break
-        if not text.excess():
+        least, squares, words = text.excess()
+        if not words:
             return text
-        excess = excess or text.excess()
-    raise terminal.Wrong(f"cutting: the run is too large to be cut exactly: {excess}")
+        excess = min(excess, (least, squares, words)) if excess[2] else (least, squares, words)
+        wanted = most * (1 / squares) ** (1 / SHRINKS) if squares > 1 else 0
+        most = next((size for size in SIZES if size < most and size <= max(wanted, SIZES[-1])), 0) if wanted > SIZES[-1] / 2 else 0
+    raise terminal.Wrong(f"cutting: the run is too large to be cut exactly: {excess[2]}")
 
 
 class Specification:
@@ -113,10 +118,13 @@ class Specification:
     def __init__(self, root, library):
         self.root, self.coarse, self.ungrouped = root, library.coarse, False
         self.modules, self.productions, self.numbers = [], [], {}
+        used = used_by(root)
         seen, waiting = {root.module.number}, [root.module]
         for module in waiting:
             self.modules.append(module)
             for production in module.productions:
+                if id(production) not in used:
+                    continue
                 self.numbers[id(production)] = len(self.productions)
                 self.productions.append(production)
                 for other in production.modules:
@@ -125,13 +133,12 @@ class Specification:
                         waiting.append(other)
 
     def excess(self):
-        """Returns what is more than wfprov takes, in words, or an empty text."""
+        """Returns how many times as much it is as wfprov takes, at most, how many times of the squares, and what is too much, in words."""
         squares = sum(len(production.modules) ** 2 for production in self.productions)
-        for count, most, what in ((len(self.modules), MOST_MODULES, "modules"), (len(self.productions), MOST_PRODUCTIONS, "productions"),
-                                  (squares, MOST_SQUARES, "as the sum of the squares of the bodies' lengths")):
-            if count > most:
-                return f"it needs {count} {what}, and at most {most} are allowed"
-        return ""
+        found = [(count / most, f"it needs {count} {what}, and at most {most} are allowed")
+                 for count, most, what in ((len(self.modules), MOST_MODULES, "modules"), (len(self.productions), MOST_PRODUCTIONS, "productions"),
+                                           (squares, MOST_SQUARES, "as the sum of the squares of the bodies' lengths")) if count > most]
+        return (*max(found, default=(0, ""))[:1], squares / MOST_SQUARES, max(found, default=(0, ""))[1])
 
     def notes(self):
         """Returns what became coarse, and whether groups were left aside."""
@@ -148,6 +155,16 @@ class Specification:
         if len(text) > MOST_BYTES:
             raise terminal.Wrong(f"cutting: SPEC would have {len(text)} bytes, and at most {MOST_BYTES} are allowed")
         return text
+
+
+def used_by(root):
+    """Returns the productions by which a part and all parts in it are expanded. Others were made on the way to them, and left aside."""
+    used, waiting = set(), [root]
+    for part in waiting:
+        for production, positions in part.turns:
+            used.add(id(production))
+            waiting += [child for child in positions if isinstance(child, Part) and not child.is_leaf()]
+    return used
 
 
 def compact(value):
