@@ -8,8 +8,8 @@ themselves show on which others they rest: that is one search. The other is, of 
 and networkx searches; and of Snakemake, file by file over .snakemake/metadata.
 
 Wanted of each pair is `yes` where a search finds a way, and `no` where neither may have one, unless the import said on standard error that it is
-coarse. checks/records.py has the comparison. --keep writes the records for checks/records.sh: without times and what belongs to the machine, with
-what the files showed, and with the counts.
+coarse. checks/records.py has the comparison. Some records of cwltool become crates too (bench/engines/crate.py), which are read and compared.
+--keep writes the records for checks/records.sh: without times and what belongs to the machine, with what the files showed, and with the counts.
 
 It needs Debian's packages cwltool, snakemake, python3-prov, python3-networkx and nodejs, and the built program.
 """
@@ -29,8 +29,9 @@ from prov import model
 
 HERE = Path(__file__).resolve().parent
 TOP = HERE.parent
-sys.path.insert(0, str(TOP / "checks"))
+sys.path[:0] = [str(TOP / "checks"), str(HERE / "engines")]
 import records
+from crate import Writer
 
 RANDOM = "/proc/sys/kernel/random/uuid"
 # Members of a record that say when and where it was written, or that are the source of a rule.
@@ -136,8 +137,28 @@ class Searched:
         return found | ({start} if start in graph and any(start in graph[other] for other in found | {start}) else set())
 
 
+class Crate(Cwltool):
+    """A run of cwltool whose record becomes a crate in the form of runcrate."""
+
+    def run(self, folder):
+        """Runs the workflow, makes a crate of its record, and returns the folder of the crate and the seconds."""
+        record, seconds = super().run(folder)
+        (record / "ro-crate-metadata.json").write_text(json.dumps(Writer(record).crate()))
+        shutil.move(record / "metadata", record / "other")
+        return record, seconds
+
+    def search(self, record, rows):
+        """Returns the graph of the actions of the crate, and the name of each row in it."""
+        graph, names = records.Crate().read(record).names(rows)
+        return Searched(graph), names
+
+    def keep(self, record, folder):
+        """Keeps the crate."""
+        shutil.copy(record / "ro-crate-metadata.json", folder)
+
+
 class Snakemake:
-    """A run of Snakemake. A script `more` beside the Snakefile says what is done behind the first run."""
+    """A run of Snakemake. Some sources may change behind it, and some files be made again then."""
 
     def __init__(self, name, case):
         self.name, self.case = name, case
@@ -209,6 +230,7 @@ def main():
     logging.disable(logging.WARNING)
     cases = json.loads((HERE / "engines/cases.json").read_text())
     engines = [kind(name, case) for kind in (Cwltool, Snakemake) for name, case in cases[kind.__name__.lower()].items()]
+    engines += [Crate(name, cases["cwltool"][name]) for name in cases["crate"]]
     failed, total = 0, dict.fromkeys(("yes", "no", "coarse"), 0)
     for engine in engines:
         if given.cases and engine.name not in given.cases:

@@ -108,6 +108,9 @@ keeps_its_table_apart() {
 }
 check "where the table cannot be written nothing is" keeps_its_table_apart
 
+given=(list) kept=list more=(new/table)
+. checks/outputs.sh
+
 check "${1:-80} random runs answer as a search in them does" python3 checks/actions.py "$program" "${1:-80}" "${2:-1}"
 check "5,000 actions in samples that wait for one another are cut exactly" python3 checks/actions.py "$program" large
 check "2,500 actions that are unlike are cut exactly" python3 checks/actions.py "$program" irregular

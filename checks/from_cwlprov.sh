@@ -45,9 +45,10 @@ is_not_there() {
 check "a step that was skipped is not there" is_not_there opt
 check "other forms of scatter, an empty one, a folder and computed inputs are imported" imports forms
 check "what is coarse of them is told" said '#main/mkdir: what came to `name` was computed: all that may come there is taken' \
-    '#main/use: several values that may come to `n` have one content: each of them is taken' \
-    "#main/empty: it is used, and has no execution: $all"
+    '#main/use: several values that may come to `n` have one content: each of them is taken'
 check "they answer as by hand" answers forms
+check "an empty array is nothing" is_not_there none
+check "what a scatter over it made is nothing" is_not_there empty
 check "a failed run with a scatter in a scatter is imported" imports failed
 check "it answers as by hand" answers failed
 check "a step that did not come to be run is not there" is_not_there third
@@ -123,6 +124,10 @@ keeps_the_record() {
         cmp -s "$work/run/$document" "$golden/chained/$document"
 }
 check "the record is not written over" keeps_the_record
+
+rm -rf "$work/run" && cp -r "$golden/chained" "$work/run"
+given=(run) kept=run/$document more=(new/table)
+. checks/outputs.sh
 
 cases=${1:-100}
 check "$cases random runs answer as what was noted when their files were made" python3 checks/from_cwlprov.py "$program" "$cases" "${2:-1}"

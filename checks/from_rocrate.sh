@@ -117,6 +117,10 @@ check "the record is not written over" keeps_the_record
 check "signs that a terminal obeys are escaped" refuses process 's/"object": \[{"@id": "thumbs\/"}\]/"object": {"@id": "\\u001b[2J"}/' \
     '#page: `object` leads to `\x1b[2J`, which is no entity of the record'
 
+cp "$golden/process/ro-crate-metadata.json" "$work/crate.json"
+given=(crate.json) kept=crate.json more=(new/table)
+. checks/outputs.sh
+
 cases=${1:-60}
 check "$cases random runs answer as what was noted when their files were made" python3 checks/from_rocrate.py "$program" "$cases" "${2:-1}"
 

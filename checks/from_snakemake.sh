@@ -96,6 +96,10 @@ keeps_the_record() {
 }
 check "the record is not written over" keeps_the_record
 
+rm -rf "$work/run" && cp -r "$golden/samples" "$work/run"
+given=(run) kept=$bam more=(new/table)
+. checks/outputs.sh
+
 cases=${1:-100}
 check "$cases random runs answer as what was noted when their files were made" python3 checks/from_snakemake.py "$program" "$cases" "${2:-1}"
 

@@ -7,11 +7,12 @@ cd "$(dirname "${BASH_SOURCE[0]}")/.."
 . checks/built.sh
 export WFPROV=$program PYTHONDONTWRITEBYTECODE=1
 
-# Whether a command ends with status 2 and this line on standard error alone, and writes nothing.
+# Whether a command ends with status 2 and this line on standard error alone, and writes nothing. It has 20 seconds of processor time: how long
+# that takes by the clock rests on what else the machine does.
 complains() {
     local message=$1 ended=0
     shift
-    timeout 20 "$@" >"$work/out" 2>"$work/err" </dev/null || ended=$?
+    (ulimit -t 20 && exec timeout 600 "$@") >"$work/out" 2>"$work/err" </dev/null || ended=$?
     [ "$ended" = 2 ] && [ ! -s "$work/out" ] && [ "$(cat "$work/err")" = "$message" ]
 }
 
@@ -36,6 +37,8 @@ works() {
         page_of_files) python3 tools/page.py --table "$work/table" $line/spec $line/view $line/events "$work/names" ;;
         page) python3 tools/page.py $line/spec $line/view $line/events $line/queries ;;
         crates) python3 tools/crates.py ;;
+        files) python3 tools/files.py ask $line/spec $line/view $line/labels "$work/table" a b ;;
+        to_rocrate) python3 tools/to_rocrate.py "$work/export" ;;
     esac
 }
 
@@ -52,6 +55,8 @@ fails() {
         page_of_files) python3 tools/page.py --table "$work/absent" $line/spec $line/view $line/events "$work/names" ;;
         page) python3 tools/page.py $line/spec $line/view $line/events "$work/absent" ;;
         crates) python3 tools/crates.py "$work/absent" ;;
+        files) python3 tools/files.py ask $line/spec $line/view $line/labels "$work/absent" a b ;;
+        to_rocrate) python3 tools/to_rocrate.py "$work/absent" ;;
     esac
 }
 
@@ -88,7 +93,7 @@ at_no_error() {
     fails "$1" >>"$work/out" 2>/dev/full || full=$?
     [ "$ended" = 2 ] && [ "$full" = 2 ] && [ ! -s "$work/out" ]
 }
-for tool in dot export labels file two_labels impact impact_of_file page page_of_files crates; do
+for tool in dot export labels file two_labels impact impact_of_file page page_of_files crates files to_rocrate; do
     check "$tool: a full device is told" at_full "$tool"
     check "$tool: closed standard output is told" at_closed_output "$tool"
     check "$tool: closed standard input changes nothing" at_closed_input "$tool"
@@ -101,6 +106,7 @@ no_input() {
 }
 check "labels.py: standard input that is asked for and closed is told" no_input labels.py file
 check "dot.py: standard input that is asked for and closed is told" no_input dot.py
+check "to_rocrate.py: standard input that is asked for and closed is told" no_input to_rocrate.py
 check "labels.py: a pipe that nobody reads is told" test "$({ python3 tools/labels.py lines examples/phylogeny/labels 2>&3 | true; } 3>&1 | sed 's/.*: writing: Broken pipe/broken/')" = broken
 
 # Label files whose names no workflow has.

@@ -140,6 +140,8 @@ def entries_of(value, place, short):
     found = []
     for number, given in enumerate(value or []):
         given = {"id": given} if isinstance(given, str) else given
+        if isinstance(given, dict) and isinstance(given.get("$import"), str):
+            raise Wrong(f"{place} entry {number}", f"`{given['$import']}` is not in it: cwltool leaves out a step that has the name of an input or an output")
         if not isinstance(given, dict) or not isinstance(given.get("id"), str):
             raise Wrong(f"{place} entry {number}", "has no `id`")
         found.append((given["id"], given))

@@ -79,6 +79,8 @@ def named(value, place):
     found = []
     for entry in listed(value):
         entry = {"id": entry} if isinstance(entry, str) else entry
+        if isinstance(entry, dict) and isinstance(entry.get("$import"), str):
+            refuse(place, f"the step `{last(entry['$import'])}` is not in it: cwltool leaves out a step that has the name of an input or an output")
         if not isinstance(entry, dict) or not isinstance(entry.get("id"), str):
             refuse(place, "an entry has no `id`")
         found.append((entry["id"], entry))
