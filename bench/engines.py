@@ -9,7 +9,7 @@ and networkx searches; and of Snakemake, file by file over .snakemake/metadata.
 
 Wanted of each pair is `yes` where a search finds a way, and `no` where neither may have one, unless the import said on standard error that it is
 coarse. checks/records.py has the comparison. Some records of cwltool become crates too (bench/engines/crate.py), which are read and compared.
---keep writes the records for checks/records.sh: without times and what belongs to the machine, with what the files showed, and with the counts.
+--keep writes the records, without times and what belongs to the machine, with what the files showed, and with the counts.
 
 It needs Debian's packages cwltool, snakemake, python3-prov, python3-networkx and nodejs, and the built program.
 """
