@@ -384,6 +384,16 @@ faults_full() {
 }
 check "a full device is a fault of writing of each command" faults_full
 
+# Whether a call that has nothing to write ends well there: no question is asked, so nothing is put.
+idles_full() {
+    : >"$work/out"
+    run trace $line/spec $line/view $line/events "$nothing" >/dev/full 2>"$work/err" </dev/null
+    ended 0 "$nothing" '' || return 1
+    run ask $line/spec $line/view $line/labels "$nothing" >/dev/full 2>"$work/err" </dev/null
+    ended 0 "$nothing" ''
+}
+check "a call with nothing to write ends well on a full device" idles_full
+
 # Whether a pipe is a fault whose reader has gone: this program is not ended by the signal of it.
 faults_unread() {
     (

@@ -1,6 +1,6 @@
 #!/usr/bin/env bash
-# Checks of tools/from_nextflow.py: pipelines of which the answers were worked out by hand, pairs that are refused, and random pipelines.
-# The words are how many random pipelines are tried, and from which seed; 500 and 1 where they are not given.
+# Checks of tools/from_nextflow.py: pipelines and manifests of which the answers were worked out by hand, records that are refused, and random ones.
+# The words are how many random pipelines are tried, and from which seed; 500 and 1 where they are not given. A fifth as many manifests are tried.
 set -euo pipefail
 
 cd "$(dirname "${BASH_SOURCE[0]}")/.."
@@ -37,6 +37,13 @@ for pair in mapping/mapping.dot mapping/mapping.mmd mapping/mapping.html mapping
     check "it is imported by tags" imports "${pair%/*}" "${pair#*/}" --assume tags-pair
     check "it answers as by hand where tags pair" answers "${pair%/*}" 4
 done
+is_the_example() {
+    imports mapping mapping.dot --assume tags-pair || return 1
+    for file in spec events table labels; do
+        cmp -s "$work/$file" "examples/mapping-nextflow/$file" || return 1
+    done
+}
+check "examples/mapping-nextflow is what the tool writes" is_the_example
 all='each of its tasks is taken to have read all that the tasks of'
 says_what_is_coarse() {
     imports mapping mapping.dot && said "ALIGN: $all \`TRIM\` gave" "SORT: $all \`ALIGN\` gave" &&
@@ -54,6 +61,67 @@ check "the table has cached, failed and unfinished tasks" has_states \
 made() { python3 tools/files.py made "$work/table" "$1" | cmp -s - <(printf '%s\n' "${@:2}"); }
 check "results are found by a container" made trimmer:0.39 'A:TRIM (s1)/trimmed' 'A:TRIM (s1)/log' 'A:TRIM (s2)/trimmed' 'A:TRIM (s2)/log'
 check "workflows around processes are modules" grep -q '"A"' "$work/spec"
+
+# The manifest of nf-prov, which says which task read and made which file.
+imports_manifest() {
+    rm -f "$work/spec" "$work/events" "$work/table"
+    python3 "$tool" "${@:2}" "$1" "$work/spec" "$work/events" "$work/table" >"$work/out" 2>"$work/err" && [ ! -s "$work/out" ] &&
+        "$program" view "$work/spec" "$work/view" >"$work/shown" && "$program" ingest "$work/spec" "$work/events" >"$work/labels"
+}
+before='it is taken to rest on all that earlier tasks read and made'
+made_it="NF:MULTIQC: an operator made \`/home/lab/work/tmp/1f/00c0ffee/versions.yml\`: $before"
+check "a manifest of nf-prov is imported" imports_manifest "$golden/manifest.json"
+check "what is coarse of it is told" said "NF:TRIM: what it got is no file: $before" "NF:ALIGN: what it got is no file: $before" "$made_it" \
+    "NF:PLOT: what it got is no file: $before"
+check "it answers as by hand where nothing is assumed" answers manifest 3
+check "it is imported with equal values" imports_manifest "$golden/manifest.json" --assume values-equal
+check "what is coarse of it is told" said "$made_it"
+check "it answers as by hand where values are equal" answers manifest 4
+check "a cached task of it is one" has_states 'NF:PREPARE:INDEX (ref.fa)=cached;'
+check "its files are found by a process" made NF:ALIGN /home/lab/results/bam/liver.bam /home/lab/work/c0/030000000000000000000000000000/qc \
+    /home/lab/work/c0/030000000000000000000000000000/qc/depth.txt /home/lab/results/bam/brain.bam /home/lab/work/c1/030000000000000000000000000000/qc \
+    /home/lab/work/c2/030000000000000000000000000000/heart.bam /home/lab/work/c2/030000000000000000000000000000/qc
+check "one with paths in maps and texts, and a file of an operator beside the results, is imported" imports_manifest "$golden/operators.json"
+check "it answers as by hand where nothing is assumed" answers operators 3
+check "it is imported with equal values" imports_manifest "$golden/operators.json" --assume values-equal
+check "what is coarse of it is told" said "REPORT: an operator made \`/home/lab/out/info/versions.yml\`: $before" \
+    'NOTE: several earlier tasks gave what it got: it is taken to rest on each of them'
+check "it answers as by hand where values are equal" answers operators 4
+takes_a_crate() {
+    imports_manifest tools/golden/rocrate/process && cp "$work/table" "$work/before" &&
+        python3 tools/from_rocrate.py tools/golden/rocrate/process "$work/spec" "$work/events" "$work/table" && cmp -s "$work/table" "$work/before"
+}
+check "a crate is read as tools/from_rocrate.py reads it" takes_a_crate
+
+# Changes the manifest by a script of sed, or writes another text, and tries whether it is refused with this message.
+manifest_is() {
+    local ended=0
+    rm -f "$work/spec" && (cd "$work" && python3 "$tool" manifest spec events table >out 2>err) || ended=$?
+    [ "$ended" = 2 ] && [ ! -s "$work/out" ] && [ ! -e "$work/spec" ] && [ "$(cat "$work/err")" = "from_nextflow.py: manifest: $1" ]
+}
+manifest_with() { sed -e "$1" "$golden/manifest.json" >"$work/manifest" && manifest_is "$2"; }
+manifest_of() { printf '%s' "$1" >"$work/manifest" && manifest_is "$2"; }
+check "a manifest that is no JSON is refused" manifest_with '1s/{/[/' "line 2: no JSON: Expecting ',' delimiter"
+check "a manifest that is no object is refused" manifest_of '[7]' 'no JSON object'
+check "what is no manifest is refused" manifest_with 's/"tasks"/"tusks"/' \
+    'this is neither a manifest of nf-prov, which has `tasks`, nor an RO-Crate, which has `@graph`'
+check "a manifest without a task is refused" manifest_of '{"tasks":{}}' '`tasks` is neither a map nor a list of tasks, or there is none'
+check "a task that is no object is refused" manifest_of '{"tasks":{"1":7}}' 'task 1: no object'
+check "a task without a process is refused" manifest_of '{"tasks":{"2":{"id":"2","name":"A (x)","inputs":[],"outputs":[]}}}' 'task 2: it has no `process`'
+check "a task whose number is none is refused" manifest_with 's/"3": {/"three": {/' 'task three: the id of a task is no number'
+check "inputs that are no list are refused" manifest_with '0,/"inputs": \[/s/"inputs": \[/"inputs": {}, "other": [/' 'task 1: `inputs` is no list'
+check "an output that is no object is refused" manifest_of '{"tasks":{"2":{"name":"A (x)","process":"A","inputs":[],"outputs":["/a"]}}}' \
+    'task 2: `outputs` has an entry that is no object'
+check "a file of two tasks is refused" manifest_with 's|c1/030000000000000000000000000000/brain.bam|c0/030000000000000000000000000000/liver.bam|' \
+    'task 6: it made `/home/lab/work/c0/030000000000000000000000000000/liver.bam`, and so did task 5'
+check "a published file without its place is refused" manifest_with '0,/"target"/s/"target"/"goal"/' '`published` has an entry without a `source` and a `target`'
+check "published files that are no list are refused" manifest_of '{"tasks":{"1":{}},"published":{"a":1}}' '`published` is no list'
+check "a published place of several files is refused where it is read" manifest_with 's|results/bam/brain.bam|results/bam/liver.bam|; s|"/conf/multiqc.yml"|"/home/lab/results/bam/liver.bam"|' \
+    'task 8: it read `/home/lab/results/bam/liver.bam`, and several files were published there: `/home/lab/work/c0/030000000000000000000000000000/liver.bam`, `/home/lab/work/c1/030000000000000000000000000000/brain.bam`'
+check "two tasks of one id are refused" manifest_of '{"tasks":[{"id":"2","name":"A","process":"A","inputs":[],"outputs":[]},{"id":2,"name":"B","process":"B","inputs":[],"outputs":[]}]}' \
+    'task 2: another task has its id'
+check "tasks in a circle are refused" manifest_of '{"tasks":{"1":{"name":"A","process":"A","inputs":[{"value":"/b"}],"outputs":[{"value":"/a"}]},"2":{"name":"B","process":"B","inputs":[{"value":"/a"}],"outputs":[{"value":"/b"}]}}}' \
+    'task 1: it uses what comes of what it makes: `B`, `A`'
 
 # Begins a pair that is to be refused: the files of the mapping pipeline, with the DAG in this form.
 begin() {
@@ -142,8 +210,18 @@ says() {
 }
 check "a file that is not there is told" says "$work/absent: No such file or directory" "$work/absent" "$golden/mapping.dot" "$work/spec" "$work/events" "$work/table"
 check "a file that cannot be written is told" says "$work/no/spec: No such file or directory" "$golden/mapping.trace" "$golden/mapping.dot" "$work/no/spec" "$work/events" "$work/table"
-check "other words are told" says 'call: the words are [--assume tags-pair] [--coarse] TRACE DAG SPEC EVENTS TABLE; see --help' "$golden/mapping.trace"
-check "another assumption is told" says 'call: `names-pair` is no assumption; `tags-pair` is one' --assume names-pair
+usage='call: the words are [--assume tags-pair] [--coarse] TRACE DAG SPEC EVENTS TABLE, or [--assume values-equal] [--coarse] MANIFEST SPEC EVENTS TABLE; see --help'
+check "other words are told" says "$usage" "$golden/mapping.trace"
+check "another assumption is told" says 'call: `names-pair` is no assumption; `tags-pair` and `values-equal` are' --assume names-pair
+check "an assumption on a manifest is none on a trace" says "$usage" --assume values-equal "$golden/mapping.trace" "$golden/mapping.dot" "$work/spec" "$work/events" "$work/table"
+check "an assumption on a manifest is none on a crate" says 'call: `values-equal` is an assumption on a manifest, and this is an RO-Crate' \
+    --assume values-equal tools/golden/rocrate/process "$work/spec" "$work/events" "$work/table"
+keeps_the_manifest() {
+    cp "$golden/manifest.json" "$work/manifest"
+    says "$work/manifest: it is a file that is read, and is not written over" "$work/manifest" "$work/spec" "$work/manifest" "$work/table" &&
+        cmp -s "$work/manifest" "$golden/manifest.json"
+}
+check "the manifest is not written over" keeps_the_manifest
 check "HTML without Mermaid is told" says "$work/page: the HTML has no Mermaid in it, as newer releases of Nextflow write it" \
     "$golden/mapping.trace" "$work/page" "$work/spec" "$work/events" "$work/table"
 check "the tool tells how coarse an answer is" grep -q 'How coarse an answer is' <(python3 "$tool" --help)
@@ -153,5 +231,7 @@ importer=$tool given=(--assume tags-pair trace dag) kept=dag more=(new/table)
 . checks/outputs.sh
 
 check "random pipelines are answered as a search in their tasks answers" python3 checks/from_nextflow.py "$program" "${1:-500}" "${2:-1}"
+cases=$((${1:-500} / 5))
+check "$cases random manifests answer as what was noted when their files were made" python3 checks/nextflow_manifest.py "$program" "$cases" "${2:-1}"
 
 finish

@@ -113,8 +113,8 @@ class Run:
         for name in self.made:
             runs[draw.choice(list(runs))].append(name)
         runs["#main"] += inner
-        is_told, is_organized = draw.random() < 0.8, draw.random() < 0.7
-        for run, members in runs.items():
+        is_told, is_organized, notes = draw.random() < 0.8, draw.random() < 0.7, []
+        for run, members in reversed(list(runs.items())):
             flow = "#flow" if run == "#main" else draw.choice(["#sub1", "#sub2"])
             steps = [f"{flow}/{number}" for number in range(3)]
             tools = [f"#t{number}" for number in range(4)] + (["#sub1", "#sub2"] if run == "#main" else [])
@@ -126,22 +126,29 @@ class Run:
                         for step in of_step if is_told]
             if is_organized and is_told:
                 self.entity(f"{run}/organize", "OrganizeAction", instrument={"@id": "#engine"}, object=referring(controls), result={"@id": run})
-            own = [member for member in members if member in self.made]
+            own, own_notes = [member for member in members if member in self.made], []
             made = [file for member in own for file in self.made[member] if member in self.done]
             used = list(dict.fromkeys(file for member in (self.made if run == "#main" else own) for file in self.used[member]))
             outer = [file for file in used if file in self.sources] if run == "#main" else [file for file in used if file not in made]
-            result = made + self.note(outer) if run == "#main" else made
-            self.entity(run, "CreateAction", instrument={"@id": flow}, object=self.collected(outer), result=referring(result))
+            parts = [part for file in made for part in (file, *self.folders.get(file, ()))]
+            steps_made = [value for part in parts for value in self.values[part] if " of " not in value or value.split(" of ")[1] in own]
+            if run == "#main":
+                steps_made = [value for value in self.rests if value not in notes]
+            if run == "#main" or is_told and is_organized:
+                read = [value for file in outer for part in (file, *self.folders.get(file, ())) for value in self.values[part]]
+                own_notes = self.note(f"#note-{run[1:]}", read + steps_made)
+                notes += own_notes
+            self.entity(run, "CreateAction", instrument={"@id": flow}, object=self.collected(outer),
+                        result=referring(made + (notes if run == "#main" else own_notes)))
 
-    def note(self, outer):
-        """Returns what the run gives out and no step made, or nothing."""
-        if self.draw.random() < 0.6:
-            return []
-        name = self.entity("#note", "PropertyValue")
-        everything = outer + list(self.rests)
-        self.values[name], self.rests[name] = [name], frozenset(everything).union(*(self.rests.get(value, ()) for value in everything))
-        self.counts["values that no step made"] += 1
-        return [name]
+    def note(self, name, everything):
+        """Returns what a run of a workflow gives out, and no step made, or nothing. It rests on what the run read and its steps made."""
+        names = [name, f"{name}-2"][:self.draw.choice([0, 0, 0, 1, 2])]
+        for given in names:
+            self.entity(given, "PropertyValue")
+            self.values[given], self.rests[given] = [given], frozenset(everything).union(*(self.rests.get(value, ()) for value in everything))
+        self.counts["values that no step made"] += len(names)
+        return names
 
     def wanted(self):
         """Returns the values that the table must have."""

@@ -27,7 +27,7 @@ PARTS = [
     ("What the other commands write", ["cmd_describe/specs/Does", "wf_export/specs/ExportText", "cmd_make/specs/Does"]),
     ("The program", ["wf_top/specs/Outcome", "wf_top/specs/Meets", "wf_top/specs/Counts"]),
 ]
-LAWS = ["wf_laws", "label_model", "decode_model", "verdict_model", "version_model", "report_model", "outcome_laws"]
+LAWS = ["wf_laws", "label_model", "decode_model", "verdict_model", "version_model", "report_model", "chain_model", "outcome_laws"]
 TABLES = re.compile(r"^\*\*" + PARTS[0][0] + r"\*\*.*?^Together \d+ files .*?$.*?(?=^## )", re.M | re.S)
 
 

@@ -3,6 +3,8 @@
 
   python3 checks/records.py PROGRAM FOLDER ...
 
+All pairs are asked three times: of items by `ask` and by `trace`, and by the names of files, by tools/files.py. The three must agree.
+
 Each FOLDER has the record of a run of a real program: of cwltool (metadata, workflow), of Snakemake (.snakemake), or a crate. Beside it may stand
   shown    what the files of the run showed themselves, since each tool wrote all lines that it read, and one of its own: a line for each file, its
            name, and behind tabs the names of the files whose own lines are in it
@@ -18,6 +20,10 @@ import sys
 import tempfile
 
 TOP = os.path.dirname(os.path.dirname(os.path.abspath(__file__)))
+sys.path.insert(0, os.path.join(TOP, "tools"))
+import file_table
+import terminal
+
 IMPORTERS = {"metadata": "from_cwlprov.py", ".snakemake": "from_snakemake.py", "ro-crate-metadata.json": "from_rocrate.py"}
 
 
@@ -202,16 +208,26 @@ def shown_by(folder):
     return {row[0]: set(row[1:]) for row in rows}
 
 
-def ran(*words):
+def ran(*words, **settings):
     """Returns what a call writes, and what it says."""
-    done = subprocess.run(words, stdout=subprocess.PIPE, stderr=subprocess.PIPE, check=False, text=True)
+    done = subprocess.run(words, stdout=subprocess.PIPE, stderr=subprocess.PIPE, check=False, text=True, env={**os.environ, **settings})
     if done.returncode:
         raise AssertionError(f"{' '.join(words[:3])}: {done.stderr.strip()}")
     return done.stdout, done.stderr
 
 
+def spelled(rows):
+    """Returns for each row of the table the names that mean its file alone, paths first, and all names that mean several files."""
+    own = [list(dict.fromkeys(filter(None, [path, checksum, identity]))) for identity, path, checksum in rows]
+    exact = [{row[0], row[1]} for row in rows]
+    counts = {name: sum(name in names for names in own) for names in own for name in names}
+    means_one = {name for name in counts if counts[name] == 1 or sum(name in names for names in exact) == 1}
+    plain = [[name for name in names if name in means_one and (counts[name] == 1 or name in exact[number])] for number, names in enumerate(own)]
+    return plain, sorted(counts.keys() - means_one)
+
+
 class Answers:
-    """What the program answers of all pairs of the values of a record, by labels and by the run, and what the import said."""
+    """What is answered of all pairs of the values of a record, by labels, by the run and by names of files, and what the import said."""
 
     def __init__(self, program, folder, work, words=()):
         path = {name: os.path.join(work, name) for name in ("spec", "events", "table", "view", "labels", "queries")}
@@ -230,7 +246,26 @@ class Answers:
                 for command, run in (("ask", "labels"), ("trace", "events"))]
         if told[0] != told[1]:
             raise AssertionError("`ask` and `trace` differ")
+        if told[0] != self.by_name(program, path):
+            raise AssertionError("the answers of files differ from those of items")
         self.told = [told[0][start:start + len(items)] for start in range(0, len(told[0]), len(items))]
+
+
+    def by_name(self, program, path):
+        """Returns what tools/files.py answers of all pairs of files, and sees that each name means its file, and none that means several is taken."""
+        table, (own, shared) = file_table.Table(path["table"]), spelled(self.rows)
+        for row, names in zip(self.rows, own):
+            if not names or {table.file(name).identity for name in names} != {row[0]}:
+                raise AssertionError(f"the names {names} do not mean {row}")
+        for name in shared:
+            try:
+                raise AssertionError(f"`{name}` means several files, and is taken for `{table.file(name).identity}`")
+            except terminal.Wrong:
+                pass
+        with open(path["queries"], "w", encoding="utf-8") as text:
+            text.writelines(f"{first[0]}\t{second[0]}\n" for first in own for second in own)
+        words = [sys.executable, os.path.join(TOP, "tools/files.py"), "ask", *(path[word] for word in ("spec", "view", "labels", "table", "queries"))]
+        return ran(*words, WFPROV=program)[0].split()
 
 
 def compare(answers, graph, names, shown):

@@ -16,7 +16,6 @@ import sys
 # What stands twice for a reason: the names of the places, sorted, as `crate/path:name`, and why. At most ten.
 EXPLAINED = {
     "wf_model/specs/Grammar:Position, wf_model/specs/Run:Instance": "a position of a body and an instance of a run are two things, though both are a name and a module",
-    "wf_names/specs/Names:bytes_of, wf_spec/specs/GivenRows:table_of": "the names of a table and the rows of pairs are two readings of a list of lists",
     "wf_laws/proofs/Parts:child, wf_spec/specs/GivenRows:rows_in": "the name of a child and a row of pairs are two readings of a list of lists",
     "wf_body/specs/Body:at_port, wf_laws/specs/Examples:port": "the examples have a short form of their own, which no other definition is to rest on",
     "wf_form/specs/Assembling:origin, wf_json/specs/Writing:first_port": "each says what its own reader gets where a list has no element",

@@ -1,8 +1,12 @@
 #!/usr/bin/env python3
-"""Turns the trace and the DAG of a Nextflow pipeline into SPEC and EVENTS of wfprov, and a table that says which item is which result.
+"""Turns the trace and the DAG of a Nextflow pipeline, or its manifest by nf-prov, into SPEC and EVENTS of wfprov, and a table of its results.
 
   nextflow run PIPELINE -with-trace TRACE -with-dag DAG
   python3 tools/from_nextflow.py [--assume tags-pair] [--coarse] TRACE DAG SPEC EVENTS TABLE
+  python3 tools/from_nextflow.py [--assume values-equal] [--coarse] MANIFEST SPEC EVENTS TABLE
+
+MANIFEST is what the plugin nf-prov writes: its manifest (the format `legacy`), which tells which task read and made which file, or its
+RO-Crate (`wrroc`), which tools/from_rocrate.py reads. With it nothing that is said of TRACE and DAG below holds.
 
 TRACE is the trace file: tab separated, with its header, with the columns `name` and `status`; the columns `process`, `tag` and
 `container` are used where they are there. DAG is the graph as DOT, as Mermaid in the older or the newer form, or as HTML with Mermaid in
@@ -29,11 +33,29 @@ tasks are taken to have read. What a process with several tasks gave is gathered
   - A channel with no maker, as of Channel.fromPath, came from outside: the value `ID-LABEL`, by its ID and label in the DAG.
   - Without the column `tag`, a number in the parentheses of a task's name may be its index, so it is no tag.
 
+What becomes of a manifest
+  a task         an action, under its name; a second task of a name is `NAME #2`. One with `cached` is a cached one; nf-prov leaves out those that
+                 failed. The workflows A and B of a process A:B:C are groups.
+  a file         what begins with `/` or a scheme, as `s3:`. It is a value, named by its path in the work folder; PATH is that at which it was
+                 published, if it was. A file that was read or published, in a folder that a task made or in the folder of a task, is of that
+                 task. Who read a folder read each file in it that is in the manifest. A task did not make what it also read.
+  from outside   a file that no task made, unless an operator may have made it
+  another value  that a task gave and did not get is a value, `TASK/ROLE VALUE`. So is a path outside the work folder that several tasks gave.
+
+The manifest does not tell what operators, as `map` and `collectFile`, made. What is taken as coarsely as it allows is said on standard error,
+by process: it is taken to rest on all that the tasks before its first reader read and made, by the numbers of the tasks.
+  - A value that is no file and that a task got. With `--assume values-equal` the operators hand on values as they are: it is what each
+    earlier task gave that is equal, and if none did, it came from outside. A pipeline with a `meta` in all its tasks has it all over, so
+    samples stay apart with the assumption alone.
+  - A file that no task made and that stands in the work folder, or in the folder around all that was published. If the work folder stands
+    in that one too, the folders are meant in which something was published.
+It is assumed that operators make files nowhere else.
+
 TABLE is as tools/from_actions.py describes it.
 
 Refused, with the file and the line: a process that the DAG lacks or has twice; another status; a cycle; a line that Nextflow does not
-write; HTML without Mermaid; an operator without an input; an end with two edges; and what tools/from_actions.py refuses. Nothing is
-written then.
+write; HTML without Mermaid; an operator without an input; an end with two edges. Of a manifest, with the task: a file that two tasks made, one
+that is named by a place at which several were published, and what is no manifest. And what tools/from_actions.py refuses. Nothing is written then.
 
 This tool is no part of what is proved. It needs Python's standard library alone.
 """
@@ -44,11 +66,17 @@ import sys
 
 sys.path.insert(0, os.path.dirname(os.path.abspath(__file__)))
 import actions
+import from_rocrate
+import nextflow_manifest
 import outputs
 import terminal
 
 STATES = {"COMPLETED": "done", "CACHED": "cached", "FAILED": "failed", "ABORTED": "failed",
           "NEW": "never", "PENDING": "never", "SUBMITTED": "never", "RUNNING": "never"}
+# The assumption that may be made, by how many paths there are.
+ASSUMPTIONS = {5: "tags-pair", 4: "values-equal"}
+USAGE = ("the words are [--assume tags-pair] [--coarse] TRACE DAG SPEC EVENTS TABLE, or [--assume values-equal] [--coarse] MANIFEST SPEC EVENTS TABLE;"
+         " see --help")
 # Operators of Nextflow, by which the newer form of Mermaid tells them from processes.
 OPERATORS = frozenset(
     "map flatMap flatten filter transpose view dump set tap branch multiMap"
@@ -459,25 +487,49 @@ def complain(line):
     terminal.complain("from_nextflow.py", line)
 
 
-def work(words):
-    """Imports what the words name."""
-    pairs, coarse, paths, given = False, False, [], iter(words)
+def by_manifest(path, equal):
+    """Returns the record and the notes of a manifest of nf-prov, or of its crate, and the file that was read."""
+    path = os.path.join(path, from_rocrate.FILE) if os.path.isdir(path) else path
+    value = nextflow_manifest.load(path)
+    if "@graph" in value and equal:
+        refuse("call", "`values-equal` is an assumption on a manifest, and this is an RO-Crate")
+    if "@graph" in value:
+        made = from_rocrate.Import(from_rocrate.Crate(path))
+    elif "tasks" in value:
+        made = nextflow_manifest.Manifest(value, path, equal)
+    else:
+        refuse(path, "this is neither a manifest of nf-prov, which has `tasks`, nor an RO-Crate, which has `@graph`")
+    return made.record, made.notes, path
+
+
+def parsed(words):
+    """Returns the assumption, whether what cannot be cut is to be coarse, and the paths."""
+    assumed, coarse, paths, given = "", False, [], iter(words)
     for word in given:
         if word == "--assume":
-            name = next(given, "")
-            if name != "tags-pair":
-                refuse("call", f"`{name}` is no assumption; `tags-pair` is one")
-            pairs = True
+            assumed = next(given, "")
+            if assumed not in ASSUMPTIONS.values():
+                refuse("call", f"`{assumed}` is no assumption; `tags-pair` and `values-equal` are")
         elif word == "--coarse":
             coarse = True
         else:
             paths.append(word)
-    if len(paths) != 5 or any(path.startswith("--") for path in paths):
-        refuse("call", "the words are [--assume tags-pair] [--coarse] TRACE DAG SPEC EVENTS TABLE; see --help")
-    converter = Converter(Trace(paths[0]), Dag(paths[1]), paths[1], pairs)
-    made = actions.imported(converter.record, coarse)
-    outputs.write_all(list(zip(paths[2:], (made.spec, made.events, made.table))), paths[:2])
-    for note in [*converter.notes, *made.notes]:
+    if assumed not in ("", ASSUMPTIONS.get(len(paths))) or len(paths) not in ASSUMPTIONS or any(path.startswith("--") for path in paths):
+        refuse("call", USAGE)
+    return assumed, coarse, paths
+
+
+def work(words):
+    """Imports what the words name."""
+    assumed, coarse, paths = parsed(words)
+    if len(paths) == 4:
+        record, notes, read = by_manifest(paths[0], bool(assumed))
+    else:
+        converter = Converter(Trace(paths[0]), Dag(paths[1]), paths[1], bool(assumed))
+        record, notes, read = converter.record, converter.notes, None
+    made = actions.imported(record, coarse)
+    outputs.write_all(list(zip(paths[-3:], (made.spec, made.events, made.table))), paths[:2] if read is None else [read])
+    for note in [*notes, *made.notes]:
         complain(note)
 
 

@@ -278,7 +278,7 @@ class Import:
         self.late = self.unmade()
         self.take_values()
         for run in self.leaves:
-            self.add(run, self.used[run], self.made[run])
+            self.add(run, self.reads(run), self.made[run])
         for run in dict.fromkeys(self.late.values()):
             self.add_whole(run)
 
@@ -410,10 +410,13 @@ class Import:
                 found.append((registry + "/" if registry else "") + (self.crate.text(name, "name") or name) + (":" + tag if tag else ""))
         return "; ".join(filter(None, found))
 
-    def add(self, run, used, made):
+    def reads(self, run):
+        """Returns what an action used, with the roles."""
+        return [(self.role(run, value, "input"), name) for value in self.used[run] for name in self.identities(value)]
+
+    def add(self, run, reads, made):
         """Takes an action."""
         tool = ", ".join(map(self.crate.title, self.steps.tools_of(run)))
-        reads = [(self.role(run, value, "input"), name) for value in used for name in self.identities(value)]
         makes = [(self.role(run, value, "output"), self.identity(value, run)) for value in made]
         self.record.add_action(actions.Action(self.names[run], tool, reads, makes, self.steps.group(run), self.states[run], self.software(run),
                                               self.crate.place(run)))
@@ -433,8 +436,8 @@ class Import:
     def add_whole(self, run):
         """Takes the run of a workflow as an action that made what no step of it made."""
         inner = [other for other in self.leaves if self.states[other] == "done" and run in self.steps.above(other)]
-        used = self.used[run] + [value for other in inner for value in self.made[other]]
-        self.add(run, list(dict.fromkeys(used)), [value for value, other in self.late.items() if other == run])
+        reads = self.reads(run) + [(self.role(run, value, "input"), self.identity(value, other)) for other in inner for value in self.made[other]]
+        self.add(run, list(dict.fromkeys(reads)), [value for value, other in self.late.items() if other == run])
 
 
 def work(words):

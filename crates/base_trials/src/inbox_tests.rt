@@ -56,7 +56,9 @@ fn offer(
 }
 
 fn next_line(inbox: &mut Inbox) -> Result<Option<u64>, AllocError> {
-    match inbox.next()? {
+    let first = inbox.first()?;
+    inbox.let_go_first();
+    match first {
         Some(held) => Ok(Some(held.line)),
         None => Ok(None),
     }
@@ -215,7 +217,7 @@ fn its_event(rt: HostRuntime) -> Result<(), Fail> {
     let arena = Bump::new(rt.alloc());
     let mut inbox = Inbox::with_key(rt.alloc(), 0, &arena);
     offer(rt.alloc(), &mut inbox, 5, Given::Expand("a", 2, "x"), true)?;
-    if let Some(held) = inbox.next()? {
+    if let Some(held) = inbox.first()? {
         is_expansion_of_a(&rt, &held);
         return Ok(());
     }

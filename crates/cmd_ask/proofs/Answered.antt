@@ -16,15 +16,15 @@ use Rattle.wf_model.proofs.ItemNames.{item_of_name}
 use Rattle.wf_flat.specs.declared.item.Item.{Item as ItemHeld}
 use Rattle.wf_flat.specs.Table.{Table, events_of, names_in}
 use Rattle.wf_flat.specs.Graph.{named_links}
-use Rattle.wf_flat.specs.Item.{named_item, IsItemWithin}
+use Rattle.wf_flat.specs.Item.{item_named, named_item, IsItemWithin}
 use Rattle.wf_flat.specs.Flat.{FlatSeen, is_item_shown}
-use Rattle.wf_flat.specs.Shown.{is_made_open}
+use Rattle.wf_flat.specs.Shown.{is_made_open, are_visible}
 use Rattle.wf_flat.proofs.Shown.{shown_visible}
-use Rattle.cmd_ask.specs.Answers.{item_named, are_visible, IsVerdictOfRun, IsShown, IsAnswerFor, IsAnswerOfRun}
+use Rattle.cmd_ask.specs.Answers.{IsVerdictOfRun, IsShown, IsAnswerFor, IsAnswerOfRun}
 use Rattle.wf_query.specs.declared.answers.Answer.{Answer}
 use Rattle.wf_query.specs.Answers.{answer_text}
 use Rattle.cmd_ask.specs.Prepared.{IsPrepared, PathIn, TellsPath}
-use Rattle.cmd_ask.proofs.NamedItems.{named_found, named_none}
+use Rattle.wf_flat.proofs.NamedItems.{named_found, named_none}
 use Rattle.cmd_ask.proofs.PendingItems.{pending_depends}
 
 -- what the test tells is made open

@@ -1,11 +1,10 @@
 pub mod Answered
-pub mod AnsweredLines
 pub mod LabelsHeld
-pub mod NamedItems
-pub mod NoMemoryOfLines
 pub mod OneWord
 pub mod PathAnswers
 pub mod PendingItems
 pub mod RunAnswered
 pub mod SomeAnswering
 pub mod SomeWord
+pub mod OneAnswering
+pub mod GoodAnswering

@@ -9,7 +9,8 @@ use Rattle.wf_model.specs.Items.{Item}
 use Rattle.wf_model.specs.Finishing.{ExpandsComposites}
 use Rattle.wf_laws.proofs.Growth.{finishing_law}
 use Rattle.wf_query.specs.Lines.{IsOneWord}
-use Rattle.cmd_ask.specs.Answers.{are_visible, IsShown, IsAnswerFor, IsAnswerOfRun}
+use Rattle.wf_flat.specs.Shown.{are_visible}
+use Rattle.cmd_ask.specs.Answers.{IsShown, IsAnswerFor, IsAnswerOfRun}
 use Rattle.cmd_ask.specs.Prepared.{PreparedSeen}
 use Rattle.cmd_ask.specs.Told.{IsReady, IsToldBy}
 

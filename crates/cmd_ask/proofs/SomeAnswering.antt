@@ -1,11 +1,10 @@
 -- `trace` and `ask` have an outcome.
-use Rattle.std.proofs.Common.{ℕ, List, [], refl}
+use Rattle.std.proofs.Common.{ℕ, List, []}
 use Rattle.wf_io.specs.Told.{File}
 use Rattle.wf_io.specs.Lines.{lines_in}
 use Rattle.wf_query.specs.Answers.{IsAnswerText}
-use Rattle.wf_query.proofs.SomeAnswers.{some_answers}
 use Rattle.wf_query.proofs.SomeWord.{some_word}
-use Rattle.wf_stage.proofs.SomeStages.{HasOutcome}
+use Rattle.wf_stage.specs.Outcomes.{HasOutcome}
 use Rattle.wf_inputs.specs.Inputs.{instance_most}
 use Rattle.wf_inputs.proofs.SomeInputs.{some_spec_stage, some_view_stage, some_labels_stage, told_labels}
 use Rattle.wf_inputs.proofs.SomeRun.{some_events}
@@ -14,12 +13,9 @@ use Rattle.wf_inputs.proofs.ToldGrammars.{told_formed, told_proper}
 use Rattle.wf_inputs.proofs.ViewComposites.{told_composites}
 use Rattle.cmd_ask.specs.Answers.{IsAnswerOfRun}
 use Rattle.cmd_ask.specs.Words.{Command, Trace, Ask}
-use Rattle.cmd_ask.specs.Does.{end_of_lines, QueriesStage, Traces, Asks, Does}
+use Rattle.wf_asking.proofs.SomeQueries.{some_queries_stage}
+use Rattle.cmd_ask.specs.Does.{Traces, Asks, Does}
 use Rattle.cmd_ask.proofs.SomeWord.{some_run_word}
-
--- the stage of QUERIES has an outcome where each query has an answer
-some_queries_stage : (Answers : List ℕ → List ℕ → List ℕ → Type 0) → ((first second : List ℕ) → (word : List ℕ) × Answers first second word) → (queries : File) → HasOutcome (QueriesStage Answers queries)
-some_queries_stage Answers some queries = let r = some_answers Answers some (lines_in queries) in (end_of_lines r.0, r.1, (r.0, r.2, refl))
 
 some_trace : (spec view events queries : File) → HasOutcome (Traces spec view events queries)
 some_trace spec view events queries =

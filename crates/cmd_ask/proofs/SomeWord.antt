@@ -15,10 +15,11 @@ use Rattle.wf_model.proofs.Deciding.{Either, bytes_either}
 use Rattle.wf_laws.proofs.Full.{full_law, safe_full_law}
 use Rattle.wf_laws.proofs.PathTests.{path_either}
 use Rattle.wf_flat.specs.Shown.{is_made_open}
-use Rattle.cmd_ask.specs.Answers.{item_named, IsShown, IsAnswerFor, IsAnswerOfRun}
+use Rattle.wf_flat.specs.Item.{item_named}
+use Rattle.cmd_ask.specs.Answers.{IsShown, IsAnswerFor, IsAnswerOfRun}
 use Rattle.cmd_ask.specs.Prepared.{PathIn}
 use Rattle.cmd_ask.proofs.Answered.{made_open}
-use Rattle.cmd_ask.proofs.NamedItems.{IsFoundBy, found_by}
+use Rattle.wf_flat.proofs.NamedItems.{IsFoundBy, found_by}
 use Rattle.cmd_ask.proofs.PendingItems.{pending_depends}
 
 -- a path of links leads from a port to a port, either of which may not be there; or none does

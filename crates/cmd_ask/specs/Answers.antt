@@ -1,20 +1,12 @@
 -- The answers to queries on a run under a view.
-use Rattle.std.specs.Prelude.{◌≡◌, ◌⊎◌, ℕ, Bool, true, false, cond, List, [], ◌∷◌, ◌++◌, Option, Some, None, bytes_eq, codes}
+use Rattle.std.specs.Prelude.{◌≡◌, ◌⊎◌, ℕ, Bool, true, false, List, ◌++◌, Option, Some, None, codes}
 use Rattle.wf_model.specs.declared.event.Event.{Event}
 use Rattle.wf_model.specs.Grammar.{Grammar}
 use Rattle.wf_model.specs.View.{View}
 use Rattle.wf_model.specs.Items.{Item, items, Depends}
 use Rattle.wf_model.specs.Finishing.{IsFinishing}
-use Rattle.wf_flat.specs.Shown.{is_made_open}
-
--- the first item of this name
-abbrev pub item_named : List Item → List ℕ → Option Item
-item_named [] n = None
-item_named (t ∷ ts) n = cond (bytes_eq t.name n) (Some t) (item_named ts n)
-
--- both items are visible in the run e
-abbrev pub are_visible : Grammar → View → List Event → Item → Item → Bool
-are_visible g u e a b = cond (is_made_open g u e a.maker) (is_made_open g u e b.maker) false
+use Rattle.wf_flat.specs.Item.{item_named}
+use Rattle.wf_flat.specs.Shown.{are_visible}
 
 -- the answer for two visible items: whether the second depends on the first in the finished run f
 abbrev pub IsVerdictOfRun : Grammar → View → List Event → Item → Item → List ℕ → Type 0

@@ -1,33 +1,21 @@
 -- What `trace` and `ask` do.
-use Rattle.std.specs.Prelude.{◌≡◌, ℕ, List, [], Some, codes}
+use Rattle.std.specs.Prelude.{ℕ, List, []}
 use Rattle.wf_model.specs.Grammar.{Grammar}
 use Rattle.wf_model.specs.View.{View}
 use Rattle.wf_spec.specs.Held.{HeldGrammar}
 use Rattle.wf_io.specs.Told.{File}
 use Rattle.wf_io.specs.Lines.{lines_in}
 use Rattle.wf_query.specs.Answers.{IsAnswerText}
-use Rattle.wf_query.specs.Lines.{Ended, All, WrongAt, TooLongAt, LongFileAt, BrokenFile, AreAnswered}
-use Rattle.wf_message.specs.Endings.{End, Done, Refused, ReadFault}
+use Rattle.wf_message.specs.Endings.{End}
 use Rattle.wf_stage.specs.Stages.{Stage, OfWhole}
 use Rattle.wf_inputs.specs.Inputs.{labels_kind, instance_most, SpecStage, ViewStage}
 use Rattle.wf_inputs.specs.RunTold.{EventsStage}
 use Rattle.wf_inputs.specs.LabelsTold.{TellsEntries, RefusesLabels}
 use Rattle.cmd_ask.specs.declared.command.Command.{Command as CommandHeld}
 use Rattle.cmd_ask.specs.declared.command.Command.TheVariants.{Trace as TracesHeld, Ask as AsksHeld}
+use Rattle.wf_asking.specs.Queries.{QueriesStage}
 use Rattle.cmd_ask.specs.Answers.{IsAnswerOfRun}
 use Rattle.cmd_ask.specs.Words.{Command, Trace, Ask}
-
--- how a command ends where lines of queries ended so
-abbrev pub end_of_lines : Ended → End
-end_of_lines All = Done
-end_of_lines (WrongAt n) = Refused (codes "queries") (Some n) (codes "LineWrong")
-end_of_lines (TooLongAt n) = Refused (codes "queries") (Some n) (codes "LineTooLong")
-end_of_lines (LongFileAt n) = Refused (codes "queries") (Some n) (codes "FileTooLong")
-end_of_lines BrokenFile = ReadFault (codes "queries")
-
--- QUERIES, answered line by line by a relation of two names and a word
-abbrev pub QueriesStage : (List ℕ → List ℕ → List ℕ → Type 0) → File → End → List ℕ → Type 0
-QueriesStage Answers queries ending text = (e : Ended) × AreAnswered Answers (lines_in queries) e text × (ending ≡ end_of_lines e)
 
 -- EVENTS and QUERIES under a view
 abbrev pub AnswersRun : Grammar → View → File → File → End → List ℕ → Type 0

@@ -1,6 +1,6 @@
 pub mod Answers
-pub mod Batched
 pub mod Does
 pub mod Prepared
 pub mod Told
 pub mod Words
+pub mod Family

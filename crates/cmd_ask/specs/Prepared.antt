@@ -11,13 +11,13 @@ use Rattle.wf_model.specs.Links.{Port, Link, Path, links_with}
 use Rattle.wf_flat.specs.Table.{Table, IsTableOf, events_of, names_in}
 use Rattle.wf_flat.specs.Graph.{named_links}
 use Rattle.wf_flat.specs.Flat.{FlatSeen, AreWithin}
-use Rattle.wf_inputs.specs.Viewed.{ViewedSeen}
+use Rattle.wf_safe.specs.SafeViews.{SafeViewValue}
 use Rattle.wf_query.specs.declared.answers.Answer.{Answer}
 use Rattle.wf_query.specs.declared.answers.Answer.TheVariants.{Yes, No}
 
 -- a run, with its links and the flags of its instances, under a view
 pub record PreparedSeen : Type 0 where
-  pub viewed : ViewedSeen
+  pub viewed : SafeViewValue
   pub run : Table
   pub flat : FlatSeen
 

@@ -17,6 +17,11 @@ command_of (c ∷ s ∷ v ∷ t ∷ q ∷ []) =
     cond (bytes_eq c (codes "trace")) (Some (Trace s v t q)) (cond (bytes_eq c (codes "ask")) (Some (Ask s v t q)) None)
 command_of (c ∷ s ∷ v ∷ t ∷ q ∷ w ∷ ws) = None
 
+-- the names of the files that a command reads, in their order
+abbrev pub files_of : Command → List (List ℕ)
+files_of (Trace s v e q) = s ∷ v ∷ e ∷ q ∷ []
+files_of (Ask s v l q) = s ∷ v ∷ l ∷ q ∷ []
+
 -- the command is `ask`
 abbrev pub IsAsk : Command → Type 0
 IsAsk (Trace s v e q) = ⊥

@@ -1,20 +1,22 @@
 // `ask`: SPEC, VIEW and LABELS, and then the answers to QUERIES from the labels alone.
-ghost use Rattle.std.specs.Prelude.{◌≡◌, [], List};
+ghost use Rattle.std.specs.Prelude.{◌∷◌, ◌≡◌, [], List};
 ghost use Rattle.label_model.specs.Files.{Entry};
 ghost use Rattle.label_file.specs.Stored.{AreHeldOf, IsStoreFor};
 ghost use Rattle.wf_query.specs.Answers.{IsAnswerText};
 ghost use Rattle.wf_message.specs.Endings.{end_after, NoMemory};
 ghost use Rattle.wf_stage.specs.Promises.{Obeys};
-ghost use Rattle.cmd_ask.specs.Does.{AnswersLabels, Asks, QueriesStage};
+ghost use Rattle.wf_asking.specs.Queries.{QueriesStage};
+ghost use Rattle.cmd_ask.specs.Does.{AnswersLabels, Asks};
 
-use crate::stop::stop_at;
 use label_file::Store;
 use std::alloc::Global;
+use wf_asking::queries_end;
 use wf_decode::Scratch;
-use wf_inputs::{LABELS, Viewed, spec_stage, store_of, view_stage};
+use wf_inputs::{LABELS, spec_stage, store_of, view_stage};
 use wf_io::{Shelf, Sink};
 use wf_message::Stop;
 use wf_query::batch;
+use wf_safe::SafeView;
 use wf_stage::read_file;
 use wf_vlabel::ViewLabel;
 
@@ -30,47 +32,44 @@ pub struct AskWords<'w> {
 /// Answers the queries of a file from the entries of a label file. All that needs memory comes before the first answer.
 fn answer_queries<H: Shelf, O: Sink>(
     alloc: Global,
-    v: &Viewed,
+    v: &SafeView<'_>,
     store: &Store<'_>,
     name: &str,
     shelf: &mut H,
     out: &mut O,
 ) -> Result<(), Stop>
-    requires store { IsStoreFor v.now.spec.grammar.core store.now }
-    ensures obeys { (entries : List Entry) → AreHeldOf v.now.spec.grammar.core entries store.now →
-        Obeys H.files H.faults H.at_last O.put_bytes O.faults O.at_last []
-        (λ f. QueriesStage (IsAnswerText v.now.spec.grammar.core v.now.view.core entries) (f name.now))
+    requires store { IsStoreFor v.now.accepted.grammar.core store.now }
+    ensures obeys { (entries : List Entry) → AreHeldOf v.now.accepted.grammar.core entries store.now →
+        Obeys H.files H.readings H.faults H.at_last O.put_bytes O.faults O.at_last (name.now ∷ []) []
+        (λ f. QueriesStage (IsAnswerText v.now.accepted.grammar.core v.now.view.core entries) (f name.now))
         shelf.old shelf.new out.old out.new (end_after result) }
     ensures untouched { end_after result ≡ NoMemory → (O.put_bytes out.new ≡ O.put_bytes out.old) × (O.faults out.new ≡ O.faults out.old) }
 {
-    let Ok(label) = ViewLabel::build(alloc, v.linear(), v.view(), v.full()) else {
+    let Ok(label) = ViewLabel::build(alloc, v) else {
         return Err(Stop::NoMemory);
     };
     let Ok(mut scratch) = Scratch::for_view(alloc, &label) else {
         return Err(Stop::NoMemory);
     };
-    match batch(alloc, shelf, name, store, &label, &mut scratch, out) {
-        Ok(_) => Ok(()),
-        Err(fault) => Err(stop_at(fault)),
-    }
+    queries_end(batch(alloc, shelf, name, store, &label, &mut scratch, out))
 }
 
 /// Takes LABELS and QUERIES under a view.
 fn answer_labels<H: Shelf, O: Sink>(
     alloc: Global,
-    v: &Viewed,
+    v: &SafeView<'_>,
     words: &AskWords<'_>,
     shelf: &mut H,
     out: &mut O,
 ) -> Result<(), Stop>
-    ensures obeys { Obeys H.files H.faults H.at_last O.put_bytes O.faults O.at_last []
-        (λ f. AnswersLabels v.now.spec.grammar v.now.view.core (f words.now.labels.now) (f words.now.queries.now))
+    ensures obeys { Obeys H.files H.readings H.faults H.at_last O.put_bytes O.faults O.at_last (words.now.labels.now ∷ words.now.queries.now ∷ []) []
+        (λ f. AnswersLabels v.now.accepted.grammar v.now.view.core (f words.now.labels.now) (f words.now.queries.now))
         shelf.old shelf.new out.old out.new (end_after result) }
     ensures untouched { end_after result ≡ NoMemory → (O.put_bytes out.new ≡ O.put_bytes out.old) × (O.faults out.new ≡ O.faults out.old) }
 {
     let bytes = read_file(alloc, shelf, words.labels, LABELS)?;
     let key = shelf.hash_key();
-    let store = store_of(alloc, key, v.spec(), &bytes)?;
+    let store = store_of(alloc, key, v.accepted(), &bytes)?;
     answer_queries(alloc, v, &store, words.queries, shelf, out)
 }
 
@@ -83,12 +82,13 @@ pub fn ask<H: Shelf, O: Sink>(
     shelf: &mut H,
     out: &mut O,
 ) -> Result<(), Stop>
-    ensures obeys { Obeys H.files H.faults H.at_last O.put_bytes O.faults O.at_last []
+    ensures obeys { Obeys H.files H.readings H.faults H.at_last O.put_bytes O.faults O.at_last
+        (words.now.spec.now ∷ words.now.view.now ∷ words.now.labels.now ∷ words.now.queries.now ∷ []) []
         (λ f. Asks (f words.now.spec.now) (f words.now.view.now) (f words.now.labels.now) (f words.now.queries.now))
         shelf.old shelf.new out.old out.new (end_after result) }
     ensures untouched { end_after result ≡ NoMemory → (O.put_bytes out.new ≡ O.put_bytes out.old) × (O.faults out.new ≡ O.faults out.old) }
 {
-    let spec = spec_stage(alloc, shelf, words.spec)?;
-    let viewed = view_stage(alloc, shelf, words.view, spec)?;
-    answer_labels(alloc, &viewed, words, shelf, out)
+    let accepted = spec_stage(alloc, shelf, words.spec)?;
+    let safe = view_stage(alloc, shelf, words.view, &accepted)?;
+    answer_labels(alloc, &safe, words, shelf, out)
 }

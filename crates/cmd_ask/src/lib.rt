@@ -4,10 +4,8 @@
 mod answer;
 mod ask;
 mod command;
+mod family;
 mod prepared;
-mod stop;
 mod trace;
 
-pub use ask::AskWords;
-pub use command::{Command, command_of, obey};
-pub use trace::TraceWords;
+pub use family::Family;

@@ -1,12 +1,12 @@
 // What queries on a run are answered from.
 use std::marker::Model;
 use wf_flat::{Flat, PlainRun};
-use wf_inputs::Viewed;
+use wf_safe::SafeView;
 
 /// A run of a grammar, and its links under a safe view.
 #[derive(Drop)]
 pub struct Prepared<'p> {
-    pub(crate) viewed: &'p Viewed,
+    pub(crate) viewed: &'p SafeView<'p>,
     pub(crate) run: &'p PlainRun,
     pub(crate) flat: Flat,
 }

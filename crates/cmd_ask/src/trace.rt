@@ -1,20 +1,21 @@
 // `trace`: SPEC, VIEW and EVENTS, and then the answers to QUERIES from the run.
-ghost use Rattle.std.specs.Prelude.{◌≡◌, [], IfOk};
+ghost use Rattle.std.specs.Prelude.{◌∷◌, ◌≡◌, [], IfOk};
 ghost use Rattle.wf_flat.specs.Table.{IsTableOf, events_of};
 ghost use Rattle.wf_message.specs.Endings.{end_after};
 ghost use Rattle.wf_stage.specs.Promises.{Obeys};
 ghost use Rattle.cmd_ask.specs.Answers.{IsAnswerOfRun};
 ghost use Rattle.cmd_ask.specs.Told.{IsToldBy};
-ghost use Rattle.cmd_ask.specs.Does.{QueriesStage, AnswersRun, Traces};
+ghost use Rattle.wf_asking.specs.Queries.{QueriesStage};
+ghost use Rattle.cmd_ask.specs.Does.{AnswersRun, Traces};
 
 use crate::prepared::Prepared;
-use crate::stop::stop_at;
 use std::alloc::{AllocError, Global};
+use wf_asking::queries_stage;
 use wf_flat::{Flat, PlainRun};
-use wf_inputs::{Viewed, events_stage, spec_stage, view_stage};
+use wf_inputs::{events_stage, spec_stage, view_stage};
 use wf_io::{Shelf, Sink};
 use wf_message::Stop;
-use wf_query::answer_lines;
+use wf_safe::SafeView;
 
 /// The names of the files that `trace` reads, in this order.
 #[derive(Clone, Copy)]
@@ -26,8 +27,12 @@ pub struct TraceWords<'w> {
 }
 
 /// A run with its links, as queries need it. Fails only for want of memory.
-fn prepare<'p>(alloc: Global, v: &'p Viewed, run: &'p PlainRun) -> Result<Prepared<'p>, AllocError>
-    requires run { IsTableOf v.now.spec.grammar.core run.now }
+fn prepare<'p>(
+    alloc: Global,
+    v: &'p SafeView<'p>,
+    run: &'p PlainRun,
+) -> Result<Prepared<'p>, AllocError>
+    requires run { IsTableOf v.now.accepted.grammar.core run.now }
     ensures viewed { IfOk result (λ p. p.viewed ≡ v.now) }
     ensures run { IfOk result (λ p. p.run ≡ run.now) }
 {
@@ -47,30 +52,27 @@ fn answer_prepared<H: Shelf, O: Sink>(
     shelf: &mut H,
     out: &mut O,
 ) -> Result<(), Stop>
-    ensures obeys { Obeys H.files H.faults H.at_last O.put_bytes O.faults O.at_last []
+    ensures obeys { Obeys H.files H.readings H.faults H.at_last O.put_bytes O.faults O.at_last (name.now ∷ []) []
         (λ f. QueriesStage (IsToldBy p.old) (f name.now))
         shelf.old shelf.new out.old out.new (end_after result) }
 {
     // A query on a run of a proper grammar has one answer.
     let _run = p.run;
-    match answer_lines(alloc, p, shelf, name, out) {
-        Ok(_) => Ok(()),
-        Err(fault) => Err(stop_at(fault)),
-    }
+    queries_stage(alloc, p, shelf, name, out)
 }
 
 /// Answers the queries of a file on a run, under a view.
 fn answer_run<H: Shelf, O: Sink>(
     alloc: Global,
-    v: &Viewed,
+    v: &SafeView<'_>,
     run: &PlainRun,
     name: &str,
     shelf: &mut H,
     out: &mut O,
 ) -> Result<(), Stop>
-    requires run { IsTableOf v.now.spec.grammar.core run.now }
-    ensures obeys { Obeys H.files H.faults H.at_last O.put_bytes O.faults O.at_last []
-        (λ f. QueriesStage (IsAnswerOfRun v.now.spec.grammar.core v.now.view.core (events_of run.now)) (f name.now))
+    requires run { IsTableOf v.now.accepted.grammar.core run.now }
+    ensures obeys { Obeys H.files H.readings H.faults H.at_last O.put_bytes O.faults O.at_last (name.now ∷ []) []
+        (λ f. QueriesStage (IsAnswerOfRun v.now.accepted.grammar.core v.now.view.core (events_of run.now)) (f name.now))
         shelf.old shelf.new out.old out.new (end_after result) }
 {
     let Ok(mut p) = prepare(alloc, v, run) else {
@@ -82,13 +84,13 @@ fn answer_run<H: Shelf, O: Sink>(
 /// Takes EVENTS and QUERIES under a view.
 fn answer_events<H: Shelf, O: Sink>(
     alloc: Global,
-    v: &Viewed,
+    v: &SafeView<'_>,
     words: &TraceWords<'_>,
     shelf: &mut H,
     out: &mut O,
 ) -> Result<(), Stop>
-    ensures obeys { Obeys H.files H.faults H.at_last O.put_bytes O.faults O.at_last []
-        (λ f. AnswersRun v.now.spec.grammar.core v.now.view.core (f words.now.events.now) (f words.now.queries.now))
+    ensures obeys { Obeys H.files H.readings H.faults H.at_last O.put_bytes O.faults O.at_last (words.now.events.now ∷ words.now.queries.now ∷ []) []
+        (λ f. AnswersRun v.now.accepted.grammar.core v.now.view.core (f words.now.events.now) (f words.now.queries.now))
         shelf.old shelf.new out.old out.new (end_after result) }
 {
     let run = events_stage(alloc, shelf, words.events, v.grammar())?;
@@ -102,11 +104,12 @@ pub fn trace<H: Shelf, O: Sink>(
     shelf: &mut H,
     out: &mut O,
 ) -> Result<(), Stop>
-    ensures obeys { Obeys H.files H.faults H.at_last O.put_bytes O.faults O.at_last []
+    ensures obeys { Obeys H.files H.readings H.faults H.at_last O.put_bytes O.faults O.at_last
+        (words.now.spec.now ∷ words.now.view.now ∷ words.now.events.now ∷ words.now.queries.now ∷ []) []
         (λ f. Traces (f words.now.spec.now) (f words.now.view.now) (f words.now.events.now) (f words.now.queries.now))
         shelf.old shelf.new out.old out.new (end_after result) }
 {
-    let spec = spec_stage(alloc, shelf, words.spec)?;
-    let viewed = view_stage(alloc, shelf, words.view, spec)?;
-    answer_events(alloc, &viewed, words, shelf, out)
+    let accepted = spec_stage(alloc, shelf, words.spec)?;
+    let safe = view_stage(alloc, shelf, words.view, &accepted)?;
+    answer_events(alloc, &safe, words, shelf, out)
 }

@@ -1,4 +1,5 @@
-pub mod Digits
 pub mod OneDecision
 pub mod TwoLabels
 pub mod SomeDecision
+pub mod OneDeciding
+pub mod GoodDeciding

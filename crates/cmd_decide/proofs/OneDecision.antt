@@ -9,7 +9,8 @@ use Rattle.label_model.proofs.LabelBits.{whole_law}
 use Rattle.verdict_model.specs.Verdicts.{IsVerdict}
 use Rattle.verdict_model.proofs.OneVerdict.{one_verdict}
 use Rattle.wf_message.specs.Endings.{End}
-use Rattle.cmd_decide.specs.Decided.{AreOfLabel, verdict_text, DecidesLabels, first_malformed, second_malformed, decided}
+use Rattle.label_words.specs.Verdicts.{verdict_text}
+use Rattle.cmd_decide.specs.Decided.{AreOfLabel, DecidesLabels, first_malformed, second_malformed, decided}
 
 -- bytes are those of one label
 pub one_label : (g : Grammar) (bytes : List ℕ) (l k : Label) → AreOfLabel g bytes l → AreOfLabel g bytes k → l ≡ k

@@ -13,12 +13,13 @@ use Rattle.label_model.proofs.LabelOrNot.{label_either}
 use Rattle.verdict_model.proofs.SomeVerdict.{some_verdict}
 use Rattle.wf_io.specs.Told.{File}
 use Rattle.wf_message.specs.Endings.{Done, Refused}
-use Rattle.wf_stage.proofs.SomeStages.{HasOutcome}
+use Rattle.wf_stage.specs.Outcomes.{HasOutcome}
 use Rattle.wf_inputs.proofs.SomeInputs.{some_spec_stage, some_view_stage}
 use Rattle.wf_inputs.proofs.ToldGrammars.{told_formed, told_proper}
 use Rattle.wf_inputs.proofs.ViewComposites.{told_composites}
 use Rattle.cmd_decide.specs.Words.{Command, Decide}
-use Rattle.cmd_decide.specs.Decided.{verdict_text, DecidesLabels, first_malformed, second_malformed, decided}
+use Rattle.label_words.specs.Verdicts.{verdict_text}
+use Rattle.cmd_decide.specs.Decided.{DecidesLabels, first_malformed, second_malformed, decided}
 use Rattle.cmd_decide.specs.Does.{Decides, Does}
 
 -- two texts have an outcome under a safe view

@@ -14,7 +14,8 @@ use Rattle.wf_stage.specs.Ends.{IsWritten}
 use Rattle.wf_stage.specs.Promises.{Writes}
 use Rattle.wf_stage.proofs.Ends.{begins_nothing, nothing_put}
 use Rattle.wf_stage.proofs.Writing.{writes_wanting, writes_text, writes_alike}
-use Rattle.cmd_decide.specs.Decided.{AreOfLabel, verdict_text, DecidesLabels, first_malformed, second_malformed, decided}
+use Rattle.label_words.specs.Verdicts.{verdict_text}
+use Rattle.cmd_decide.specs.Decided.{AreOfLabel, DecidesLabels, first_malformed, second_malformed, decided}
 use Rattle.cmd_decide.proofs.OneDecision.{one_decision}
 
 -- bits that the bytes hold are of a label whose bytes they are
@@ -29,7 +30,7 @@ module _ {T : Type 0} {out : T → Option (List ℕ)} {faults : T → ℕ} {last
   -- a label is refused, with nothing put
   refused_at : (o : T) (place : List ℕ) (e : End) → e ≡ Refused place None (codes "Malformed") → (DecidesLabels g u first second) (Refused place None (codes "Malformed")) [] → Writes out faults last [] (DecidesLabels g u first second) o o e
   refused_at o place e is h = subst (Writes out faults last [] (DecidesLabels g u first second) o o) (sym is) (record {
-    ends = nothing_put [] (DecidesLabels g u first second) (begins_nothing (DecidesLabels g u first second)) (Refused place None (codes "Malformed")) (out o) (out o) refl (λ w. h);
+    ends = nothing_put [] (DecidesLabels g u first second) (begins_nothing (DecidesLabels g u first second)) (Refused place None (codes "Malformed")) (out o) (out o) (λ w. (cc)) refl (λ w. h);
     cause = refl;
     later = omega arith;
   })

@@ -6,17 +6,9 @@ use Rattle.wf_model.specs.View.{View as ViewOf}
 use Rattle.label_model.specs.Labels.{Label, label_bits, IsLabel}
 use Rattle.label_model.specs.Reading.{IsLabelBytes}
 use Rattle.verdict_model.specs.declared.verdict.Verdict.{Verdict}
-use Rattle.verdict_model.specs.declared.verdict.Verdict.TheVariants.{Hidden1, Hidden2, Clash, Yes, No}
 use Rattle.verdict_model.specs.Verdicts.{IsVerdict}
+use Rattle.label_words.specs.Verdicts.{verdict_text}
 use Rattle.wf_message.specs.Endings.{End, Done, Refused}
-
--- the words of a verdict
-abbrev pub verdict_text : Verdict → List ℕ
-verdict_text Hidden1 = codes "hidden 1"
-verdict_text Hidden2 = codes "hidden 2"
-verdict_text Clash = codes "clash"
-verdict_text Yes = codes "yes"
-verdict_text No = codes "no"
 
 -- the bytes are those of this label of the grammar
 abbrev pub AreOfLabel : Grammar → List ℕ → Label → Type 0

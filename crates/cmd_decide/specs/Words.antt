@@ -3,15 +3,6 @@ use Rattle.std.specs.Prelude.{◌≡◌, ℕ, cond, List, [], ◌∷◌, Option,
 use Rattle.hex.specs.declared.error.FromHexError.{FromHexError}
 use Rattle.hex.specs.Hex.{decode_of}
 
--- the bytes that hexadecimal digits tell
-abbrev pub bytes_in : Result (List ℕ) FromHexError → List ℕ
-bytes_in (Ok bytes) = bytes
-bytes_in (Err e) = []
-
--- a word is hexadecimal digits of either case, two for each byte
-abbrev pub AreDigits : List ℕ → Type 0
-AreDigits word = decode_of word ≡ Ok (bytes_in (decode_of word))
-
 -- a command, by the names of the files that it reads, and the bytes of the labels that it is given
 pub data Command : Type 0 where
   Decide : List ℕ → List ℕ → List ℕ → List ℕ → Command
@@ -31,3 +22,7 @@ command_of (c ∷ s ∷ v ∷ []) = None
 command_of (c ∷ s ∷ v ∷ x ∷ []) = None
 command_of (c ∷ s ∷ v ∷ x ∷ y ∷ []) = cond (bytes_eq c (codes "decide")) (decide_of s v (decode_of x) (decode_of y)) None
 command_of (c ∷ s ∷ v ∷ x ∷ y ∷ w ∷ ws) = None
+
+-- the names of the files that a command reads, in their order
+abbrev pub files_of : Command → List (List ℕ)
+files_of (Decide s v x y) = s ∷ v ∷ []

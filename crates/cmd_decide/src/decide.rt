@@ -1,23 +1,24 @@
 // `decide`: SPEC and VIEW, and then what two labels tell under the view.
-ghost use Rattle.std.specs.Prelude.{◌≡◌, ◌++◌, [], None, IfOk, IfErr, codes};
+ghost use Rattle.std.specs.Prelude.{◌∷◌, ◌≡◌, ◌++◌, [], None, IfOk, IfErr, codes};
 ghost use Rattle.bit_pack.specs.Bits.{Holds};
 ghost use Rattle.hex.specs.Hex.{decode_of};
 ghost use Rattle.label_model.specs.Reading.{IsLabelBytes};
 ghost use Rattle.wf_label.specs.Values.{AreLabelBits};
 ghost use Rattle.wf_message.specs.Endings.{end_of, end_after, Refused, NoMemory};
 ghost use Rattle.wf_stage.specs.Promises.{Writes, Obeys};
-ghost use Rattle.cmd_decide.specs.Words.{AreDigits, bytes_in};
-ghost use Rattle.cmd_decide.specs.Decided.{DecidesLabels, verdict_text};
+ghost use Rattle.label_words.specs.Digits.{bytes_in};
+ghost use Rattle.cmd_decide.specs.Decided.{DecidesLabels};
 ghost use Rattle.cmd_decide.specs.Does.{Decides};
 
 use crate::verdict::verdict_of;
 use crate::words::DecideWords;
+use label_words::{HexWord, verdict_line};
 use std::alloc::Global;
-use verdict_model::Verdict;
-use wf_inputs::{Viewed, named, spec_stage, view_stage};
+use wf_inputs::{named, spec_stage, view_stage};
 use wf_io::{Shelf, Sink};
 use wf_label::LabelRef;
 use wf_message::{Place, Stop, refused_whole};
+use wf_safe::SafeView;
 use wf_stage::put_text;
 
 /// The two labels among the words.
@@ -25,35 +26,21 @@ const FIRST: Place = Place { word: b"label 1" };
 
 const SECOND: Place = Place { word: b"label 2" };
 
-/// The words of a verdict, and a newline.
-fn verdict_line(verdict: Verdict) -> &'static [u8]
-    ensures { result.now ≡ verdict_text verdict ++ codes "\n" }
-{
-    match verdict {
-        Verdict::Hidden1 => b"hidden 1\n",
-        Verdict::Hidden2 => b"hidden 2\n",
-        Verdict::Clash => b"clash\n",
-        Verdict::Yes => b"yes\n",
-        Verdict::No => b"no\n",
-    }
-}
-
 /// The bytes of hexadecimal digits. Fails only for want of memory.
-fn bytes_of(alloc: Global, word: &str) -> Result<Vec<u8>, Stop>
-    requires { AreDigits word.now }
-    ensures bytes { IfOk result (λ bytes. bytes.items ≡ bytes_in (decode_of word.now)) }
+fn bytes_of(alloc: Global, word: HexWord<'_>) -> Result<Vec<u8>, Stop>
+    ensures bytes { IfOk result (λ bytes. bytes.items ≡ bytes_in (decode_of word.entry.word.now)) }
     ensures memory { IfErr result (λ e. end_of e ≡ NoMemory) }
 {
-    match hex::decode(alloc, word) {
+    match word.bytes(alloc) {
         Ok(bytes) => Ok(bytes),
         Err(_) => Err(Stop::NoMemory),
     }
 }
 
 /// The label that bytes are, of the grammar of a view, refused as Malformed at its place among the words.
-fn label_of<'a>(v: &Viewed, place: Place, bytes: &'a [u8]) -> Result<LabelRef<'a>, Stop>
-    ensures label { IfOk result (λ r. AreLabelBits v.now.spec.grammar.core r × Holds bytes.now r) }
-    ensures malformed { IfErr result (λ e. (IsLabelBytes v.now.spec.grammar.core bytes.now → ⊥) ×
+fn label_of<'a>(v: &SafeView<'_>, place: Place, bytes: &'a [u8]) -> Result<LabelRef<'a>, Stop>
+    ensures label { IfOk result (λ r. AreLabelBits v.now.accepted.grammar.core r × Holds bytes.now r) }
+    ensures malformed { IfErr result (λ e. (IsLabelBytes v.now.accepted.grammar.core bytes.now → ⊥) ×
         (end_of e ≡ Refused place.word.now None (codes "Malformed"))) }
 {
     match LabelRef::check(v.linear(), bytes) {
@@ -65,12 +52,12 @@ fn label_of<'a>(v: &Viewed, place: Place, bytes: &'a [u8]) -> Result<LabelRef<'a
 /// Puts the verdict on two labels, which are tried in order.
 fn put_verdict<O: Sink>(
     alloc: Global,
-    v: &Viewed,
+    v: &SafeView<'_>,
     words: &DecideWords<'_>,
     out: &mut O,
 ) -> Result<(), Stop>
     ensures writes { Writes O.put_bytes O.faults O.at_last []
-        (DecidesLabels v.now.spec.grammar.core v.now.view.core (bytes_in (decode_of words.now.first.now)) (bytes_in (decode_of words.now.second.now)))
+        (DecidesLabels v.now.accepted.grammar.core v.now.view.core (bytes_in (decode_of words.now.first.word.now)) (bytes_in (decode_of words.now.second.word.now)))
         out.old out.new (end_after result) }
 {
     let first_bytes = bytes_of(alloc, words.first)?;
@@ -88,11 +75,11 @@ pub fn decide<H: Shelf, O: Sink>(
     shelf: &mut H,
     out: &mut O,
 ) -> Result<(), Stop>
-    ensures obeys { Obeys H.files H.faults H.at_last O.put_bytes O.faults O.at_last []
-        (λ f. Decides (f words.now.spec.now) (f words.now.view.now) (bytes_in (decode_of words.now.first.now)) (bytes_in (decode_of words.now.second.now)))
+    ensures obeys { Obeys H.files H.readings H.faults H.at_last O.put_bytes O.faults O.at_last (words.now.spec.now ∷ words.now.view.now ∷ []) []
+        (λ f. Decides (f words.now.spec.now) (f words.now.view.now) (bytes_in (decode_of words.now.first.word.now)) (bytes_in (decode_of words.now.second.word.now)))
         shelf.old shelf.new out.old out.new (end_after result) }
 {
-    let spec = spec_stage(alloc, shelf, words.spec)?;
-    let viewed = view_stage(alloc, shelf, words.view, spec)?;
-    put_verdict(alloc, &viewed, words, out)
+    let accepted = spec_stage(alloc, shelf, words.spec)?;
+    let safe = view_stage(alloc, shelf, words.view, &accepted)?;
+    put_verdict(alloc, &safe, words, out)
 }

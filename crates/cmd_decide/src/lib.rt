@@ -3,8 +3,8 @@
 
 mod command;
 mod decide;
+mod family;
 mod verdict;
 mod words;
 
-pub use command::{Command, command_of, obey};
-pub use words::DecideWords;
+pub use family::Family;

@@ -13,9 +13,9 @@ use std::alloc::Global;
 use std::marker::Brand;
 use std::sync::ledger::{Blank, Ledger};
 use wf_decode::{Scratch, Verdict, decide};
-use wf_inputs::Viewed;
 use wf_label::LabelRef;
 use wf_message::Stop;
+use wf_safe::SafeView;
 use wf_vlabel::ViewLabel;
 
 /// The verdict on two labels, with a counter of row products of its own.
@@ -44,17 +44,17 @@ fn decided<L: Ledger>(
 /// Cost: those of `ViewLabel::build` and of `decide`.
 pub fn verdict_of(
     alloc: Global,
-    v: &Viewed,
+    v: &SafeView<'_>,
     first: LabelRef<'_>,
     second: LabelRef<'_>,
 ) -> Result<Verdict, Stop>
-    requires first { AreLabelBits v.now.spec.grammar.core first }
-    requires second { AreLabelBits v.now.spec.grammar.core second }
-    ensures verdict { IfOk result (λ r. (x y : Label) → IsLabel v.now.spec.grammar.core x → IsLabel v.now.spec.grammar.core y →
-        first.entry ≡ label_bits x → second.entry ≡ label_bits y → IsVerdict v.now.spec.grammar.core v.now.view.core x y r) }
+    requires first { AreLabelBits v.now.accepted.grammar.core first }
+    requires second { AreLabelBits v.now.accepted.grammar.core second }
+    ensures verdict { IfOk result (λ r. (x y : Label) → IsLabel v.now.accepted.grammar.core x → IsLabel v.now.accepted.grammar.core y →
+        first.entry ≡ label_bits x → second.entry ≡ label_bits y → IsVerdict v.now.accepted.grammar.core v.now.view.core x y r) }
     ensures memory { IfErr result (λ e. end_of e ≡ NoMemory) }
 {
-    let Ok(label) = ViewLabel::build(alloc, v.linear(), v.view(), v.full()) else {
+    let Ok(label) = ViewLabel::build(alloc, v) else {
         return Err(Stop::NoMemory);
     };
     let Ok(mut scratch) = Scratch::for_view(alloc, &label) else {

@@ -1,6 +1,6 @@
 -- Texts for each composite module in order.
 use Rattle.std.proofs.Common.{◌≡◌, ℕ, ◌+◌, Bool, cond, List, [], ◌++◌, sym, ap, ◌∙◌, arith, append_assoc}
-use Rattle.std.specs.Prelude.{filter, flat_map, codes, decimal}
+use Rattle.std.specs.Prelude.{filter, flat_map, decimal}
 use Rattle.wf_model.specs.Lists.{numbers_from}
 use Rattle.cmd_describe.proofs.NumberedTexts.{texts_tested, text_more}
 
@@ -18,11 +18,4 @@ line_made old a b c d e name named one two on end m n r p name_is rank choice h 
     let f = h ∙ ap (λ t. old ++ t) name_is in
     let s = i ∙ ap (λ t. a ++ (one ++ decimal t)) rank in
     let t = j ∙ ap (λ t. b ++ (two ++ decimal t)) choice in
-    grind (arith, append_assoc {A = ℕ})
-
--- a word with a number behind it, and behind a space a name were appended
-pub step_made : (old a b c word name named : List ℕ) (m n : ℕ) → m ≡ n → named ≡ name → a ≡ old ++ (word ++ decimal m) → b ≡ a ++ codes " " → c ≡ b ++ named → c ≡ old ++ ((word ++ decimal n) ++ (codes " " ++ name))
-step_made old a b c word name named m n number name_is h i j =
-    let f = h ∙ ap (λ t. old ++ (word ++ decimal t)) number in
-    let s = j ∙ ap (λ t. b ++ t) name_is in
     grind (arith, append_assoc {A = ℕ})

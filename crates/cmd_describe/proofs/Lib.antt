@@ -5,3 +5,5 @@ pub mod OneViewText
 pub mod ViewLines
 pub mod ViewWritten
 pub mod SomeDescription
+pub mod OneDescription
+pub mod GoodDescription

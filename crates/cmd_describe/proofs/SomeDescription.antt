@@ -14,7 +14,7 @@ use Rattle.wf_io.specs.Told.{File}
 use Rattle.wf_check.proofs.ProperOrFault.{some_ranking}
 use Rattle.wf_recur.proofs.SomeCycles.{some_cycles}
 use Rattle.wf_message.specs.Endings.{Done}
-use Rattle.wf_stage.proofs.SomeStages.{HasOutcome}
+use Rattle.wf_stage.specs.Outcomes.{HasOutcome}
 use Rattle.wf_inputs.proofs.SomeInputs.{some_spec_stage, some_view_stage}
 use Rattle.wf_inputs.proofs.ToldGrammars.{told_formed, told_proper, told_linear}
 use Rattle.wf_inputs.proofs.ViewComposites.{told_composites}

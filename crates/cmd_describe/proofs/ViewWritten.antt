@@ -4,10 +4,11 @@ use Rattle.std.specs.Prelude.{flat_map}
 use Rattle.wf_model.specs.Lists.{numbers_from}
 use Rattle.wf_model.specs.Grammar.{Grammar}
 use Rattle.wf_model.specs.Meaning.{pairs_of}
-use Rattle.wf_view.specs.Held.{HeldView}
+use Rattle.wf_model.specs.Proper.{IsProper}
+use Rattle.wf_view.specs.Held.{HeldView, IsHeldFor}
 use Rattle.wf_message.specs.Endings.{End, Done}
 use Rattle.cmd_describe.specs.ViewText.{module_line, view_text_of}
-use Rattle.wf_inputs.specs.Viewed.{IsViewedBy}
+use Rattle.wf_safe.specs.Full.{AreFullRows}
 use Rattle.cmd_describe.specs.Does.{IsViewWritten}
 use Rattle.wf_io.specs.Told.{Appended}
 use Rattle.wf_stage.specs.Ends.{IsWritten}
@@ -33,16 +34,16 @@ module _ (g : Grammar) (v : HeldView) (rows : List (Option (List ℕ))) where
   abbrev pub ArePut : {T : Type 0} → (T → Option (List ℕ)) → (T → ℕ) → ℕ → T → T → Type 0
   ArePut bytes faults k o p = Appended (flat_map line (numbers_from 0 k)) (bytes o) (bytes p) × (faults p ≡ faults o)
 
-  module _ (viewed : IsViewedBy g v rows) where
+  module _ (proper : IsProper g) (held : IsHeldFor g v) (full : AreFullRows g v.core rows) where
     -- the text of the view is this one
     this_text : (e : End) (t : List ℕ) → IsViewWritten g v.core e t → IsWritten text e t
     this_text e t h = (
       h.0,
-      h.1.4 ∙ one_view_text g v.core viewed.proper viewed.held.is_view.expanded h.1.0 seen h.1.1 (pairs_of rows) h.1.2 viewed.held.seen h.1.3 viewed.full.full,
+      h.1.4 ∙ one_view_text g v.core proper held.is_view.expanded h.1.0 seen h.1.1 (pairs_of rows) h.1.2 held.seen h.1.3 full.full,
     )
 
     text_is : (e : End) (t : List ℕ) → IsWritten text e t → IsViewWritten g v.core e t
-    text_is e t h = (h.0, (seen, pairs_of rows, viewed.held.seen, viewed.full.full, h.1))
+    text_is e t h = (h.0, (seen, pairs_of rows, held.seen, full.full, h.1))
 
     module _ {T : Type 0} {bytes : T → Option (List ℕ)} {faults : T → ℕ} {last : T → Bool} where
       text_written : (t : List ℕ) → t ≡ text → (o p : T) (d : End) → Writes bytes faults last [] (IsWritten t) o p d → Writes bytes faults last [] (IsViewWritten g v.core) o p d

@@ -6,7 +6,7 @@ use Rattle.wf_model.specs.Grammar.{Grammar, module_at}
 use Rattle.wf_json.specs.Canonical.{canonical_of}
 use Rattle.wf_check.specs.Proper.{Ranking}
 use Rattle.wf_recur.specs.Cycles.{OnSeen, CyclesSeen}
-use Rattle.wf_message.specs.Refusals.{step_text}
+use Rattle.grammar_text.specs.Texts.{step_text}
 
 -- the composite modules, in order
 abbrev pub composite_modules : Grammar → List ℕ

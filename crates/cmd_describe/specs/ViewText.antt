@@ -4,7 +4,7 @@ use Rattle.std.specs.List.{filter, flat_map}
 use Rattle.wf_model.specs.Lists.{numbers_from}
 use Rattle.wf_model.specs.Grammar.{Grammar, Assignment, inputs_of, outputs_of}
 use Rattle.wf_model.specs.View.{View, expands, IsSeenModule}
-use Rattle.wf_view.specs.Viewing.{name_of, input_name, output_name}
+use Rattle.grammar_text.specs.Names.{name_of, input_name, output_name}
 
 -- a pair of ports of a module, by their names, behind a space
 abbrev pub pair_text : Grammar → ℕ → ℕ → ℕ → List ℕ

@@ -13,3 +13,8 @@ command_of (c ∷ []) = None
 command_of (c ∷ s ∷ []) = cond (bytes_eq c (codes "check")) (Some (Check s)) None
 command_of (c ∷ s ∷ v ∷ []) = cond (bytes_eq c (codes "view")) (Some (View s v)) None
 command_of (c ∷ s ∷ v ∷ w ∷ ws) = None
+
+-- the names of the files that a command reads, in their order
+abbrev pub files_of : Command → List (List ℕ)
+files_of (Check s) = s ∷ []
+files_of (View s v) = s ∷ v ∷ []

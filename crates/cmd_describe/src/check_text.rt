@@ -1,37 +1,15 @@
 // The text of `check`.
-ghost use Rattle.std.specs.Prelude.{◌≡◌, ◌<◌, ◌++◌, [], Some, None, cond, length, flat_map, get_or, decimal, IfOk, OnOk};
-ghost use Rattle.wf_recur.specs.Cycles.{on_of, step_of};
-ghost use Rattle.wf_message.specs.Refusals.{step_text};
+ghost use Rattle.std.specs.Prelude.{◌≡◌, ◌<◌, ◌++◌, [], Some, None, cond, length, flat_map, get_or, IfOk, OnOk};
+ghost use Rattle.wf_recur.specs.Cycles.{on_of};
 ghost use Rattle.wf_model.specs.Composite.{is_composite};
 ghost use Rattle.cmd_describe.specs.CheckText.{composite_modules, cycle_text, check_line, check_text_of};
 
-use itoa::Buffer;
+use grammar_text::{add_numbered, add_step, module_name};
 use std::alloc::{AllocError, Global};
 use wf_accept::Accepted;
 use wf_json::canonical;
-use wf_message::{module_name, position_name};
 use wf_recur::{Cycles, OnCycle};
-use wf_spec::{Grammar, ModNo, Step};
-
-/// Appends a piece and the decimal digits of a number.
-fn add_numbered(out: &mut Vec<u8>, piece: &[u8], number: u64) -> Result<(), AllocError>
-    ensures { OnOk result (out.new.items ≡ out.old.items ++ (piece.now ++ decimal number)) }
-{
-    let mut digits = Buffer::new();
-    out.extend_from_slice(piece)?;
-    out.extend_from_slice(digits.format(number).as_bytes())?;
-    Ok(())
-}
-
-/// Appends a word and a step.
-fn add_step(out: &mut Vec<u8>, word: &[u8], g: &Grammar, step: Step) -> Result<(), AllocError>
-    ensures { OnOk result (out.new.items ≡ out.old.items ++ step_text word.now g.now.core (step_of step)) }
-{
-    add_numbered(out, word, u64::from(step.production.0))?;
-    out.extend_from_slice(b" ")?;
-    out.extend_from_slice(position_name(g, step))?;
-    Ok(())
-}
+use wf_spec::{Grammar, ModNo};
 
 /// Appends where a module stands on a cycle.
 fn add_place(out: &mut Vec<u8>, g: &Grammar, on: OnCycle) -> Result<(), AllocError>

@@ -4,7 +4,8 @@
 mod check;
 mod check_text;
 mod command;
+mod family;
 mod view;
 mod view_text;
 
-pub use command::{Command, command_of, obey};
+pub use family::Family;

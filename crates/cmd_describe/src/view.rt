@@ -1,5 +1,5 @@
 // `view`: SPEC and VIEW, and then the text of the view.
-ghost use Rattle.std.specs.Prelude.{◌<◌, [], cond, false, length, get_or};
+ghost use Rattle.std.specs.Prelude.{◌∷◌, ◌<◌, [], cond, false, length, get_or};
 ghost use Rattle.wf_model.specs.Meaning.{pairs_of};
 ghost use Rattle.wf_message.specs.Endings.{end_after};
 ghost use Rattle.wf_stage.specs.Ends.{IsWritten};
@@ -9,17 +9,23 @@ ghost use Rattle.cmd_describe.specs.ViewText.{module_line};
 
 use crate::view_text::add_module_line;
 use std::alloc::Global;
-use wf_inputs::{Viewed, spec_stage, view_stage};
+use wf_inputs::{spec_stage, view_stage};
 use wf_io::{Shelf, Sink};
 use wf_message::Stop;
+use wf_safe::SafeView;
 use wf_spec::ModNo;
 use wf_stage::put_text;
 
 /// Puts the line of a module, if the module is seen. The line is made whole before it is put, in place of what `line` held.
-fn put_module<O: Sink>(v: &Viewed, m: ModNo, line: &mut Vec<u8>, out: &mut O) -> Result<(), Stop>
-    requires in_range { m.0 < length v.now.spec.grammar.core.modules }
+fn put_module<O: Sink>(
+    v: &SafeView<'_>,
+    m: ModNo,
+    line: &mut Vec<u8>,
+    out: &mut O,
+) -> Result<(), Stop>
+    requires in_range { m.0 < length v.now.accepted.grammar.core.modules }
     ensures writes { Writes O.put_bytes O.faults O.at_last []
-        (IsWritten (cond (get_or v.now.view.seen m.0 false) (module_line v.now.spec.grammar.core v.now.view.core (pairs_of v.now.full) m.0) []))
+        (IsWritten (cond (get_or v.now.view.seen m.0 false) (module_line v.now.accepted.grammar.core v.now.view.core (pairs_of v.now.full) m.0) []))
         out.old out.new (end_after result) }
 {
     if !v.view().seen(m) {
@@ -33,8 +39,8 @@ fn put_module<O: Sink>(v: &Viewed, m: ModNo, line: &mut Vec<u8>, out: &mut O) ->
 }
 
 /// Puts the lines of the seen modules, one by one, in order.
-fn put_lines<O: Sink>(alloc: Global, v: &Viewed, out: &mut O) -> Result<(), Stop>
-    ensures writes { Writes O.put_bytes O.faults O.at_last [] (IsViewWritten v.now.spec.grammar.core v.now.view.core) out.old out.new (end_after result) }
+fn put_lines<O: Sink>(alloc: Global, v: &SafeView<'_>, out: &mut O) -> Result<(), Stop>
+    ensures writes { Writes O.put_bytes O.faults O.at_last [] (IsViewWritten v.now.accepted.grammar.core v.now.view.core) out.old out.new (end_after result) }
 {
     let count = v.grammar().modules().len();
     prove!(count <= 1024);
@@ -53,10 +59,10 @@ pub fn describe_view<H: Shelf, O: Sink>(
     shelf: &mut H,
     out: &mut O,
 ) -> Result<(), Stop>
-    ensures obeys { Obeys H.files H.faults H.at_last O.put_bytes O.faults O.at_last []
+    ensures obeys { Obeys H.files H.readings H.faults H.at_last O.put_bytes O.faults O.at_last (spec_name.now ∷ view_name.now ∷ []) []
         (λ f. Views (f spec_name.now) (f view_name.now)) shelf.old shelf.new out.old out.new (end_after result) }
 {
-    let spec = spec_stage(alloc, shelf, spec_name)?;
-    let viewed = view_stage(alloc, shelf, view_name, spec)?;
-    put_lines(alloc, &viewed, out)
+    let accepted = spec_stage(alloc, shelf, spec_name)?;
+    let safe = view_stage(alloc, shelf, view_name, &accepted)?;
+    put_lines(alloc, &safe, out)
 }

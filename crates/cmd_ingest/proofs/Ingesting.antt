@@ -6,7 +6,7 @@ use Rattle.wf_laws.proofs.Accepted.{none_taken}
 use Rattle.wf_io.specs.Lines.{FileLines}
 use Rattle.wf_lines.specs.LineStages.{AllTaken, OfLines, ClosesOrGoesOn}
 use Rattle.wf_lines.specs.Taking.{AreTaken, AreStopped}
-use Rattle.wf_message.specs.Endings.{End, Done}
+use Rattle.wf_message.specs.Endings.{End, Done, WriteFault}
 use Rattle.wf_stage.specs.Ends.{EndsBehind, IsOfOutcome}
 use Rattle.wf_stage.specs.LineEnds.{line_ends}
 use Rattle.wf_stage.proofs.LineOutcomes.{stopped_ends, taken_ends}
@@ -46,16 +46,16 @@ module _ (g : Grammar) (file : FileLines) where
   pub labelled_ends : {IsAt : TakenSoFar → Type 0} (old new : Option (List ℕ)) → AreLabelled IsAt old new → EndsBehind (file_head g) Made Done old new
   labelled_ends old new taken =
       taken_ends (line_ends (codes "events")) (TakesReport file_of) (StopsReport file_of) HoldsNone StopsHolding Closes (file_head g) Made (none_taken_of g) file forth back goes
-      IsAcceptedSoFar (events_one_way file_of) events_closed_one_way (none_taken g instance_most) Done (λ q last none. inr (none.0, (refl, ap (λ x. file_of g q.state.run ++ x) none.1 ∙ append-nil (file_of g q.state.run)))) old new taken
+      IsAcceptedSoFar (events_one_way file_of) events_closed_one_way (none_taken g instance_most) Done (λ w. (cc)) (λ q last none. inr (none.0, (refl, ap (λ x. file_of g q.state.run ++ x) none.1 ∙ append-nil (file_of g q.state.run)))) old new taken
 
   -- they were stopped
-  abbrev pub AreLabelledTo : Option End → Option (List ℕ) → Option (List ℕ) → Type 0
-  AreLabelledTo end old new =
+  abbrev pub AreLabelledTo : Option End → Type 0 → Option (List ℕ) → Option (List ℕ) → Type 0
+  AreLabelledTo end Failed old new =
       AreStopped (OfLines (line_ends (codes "events")) (TakesReport file_of) (StopsReport file_of) StopsHolding (none_taken_of g) file.lines file.tail)
-      (OfLines (line_ends (codes "events")) (TakesReport file_of) (StopsReport file_of) (ClosesOrGoesOn HoldsNone StopsHolding) (none_taken_of g) file.lines file.tail) end old new
+      (OfLines (line_ends (codes "events")) (TakesReport file_of) (StopsReport file_of) (ClosesOrGoesOn HoldsNone StopsHolding) (none_taken_of g) file.lines file.tail) end Failed old new
 
   -- then `ingest` ends so
-  pub stopped_at : (end : Option End) (e : End) (old new : Option (List ℕ)) → (IsOfOutcome e → end ≡ Some e) → AreLabelledTo end old new → EndsBehind (file_head g) Made e old new
-  stopped_at end e old new is stopped =
+  pub stopped_at : (end : Option End) (e : End) (Failed : Type 0) (old new : Option (List ℕ)) → (IsOfOutcome e → end ≡ Some e) → (e ≡ WriteFault → Failed) → AreLabelledTo end Failed old new → EndsBehind (file_head g) Made e old new
+  stopped_at end e Failed old new is failed stopped =
       stopped_ends (line_ends (codes "events")) (TakesReport file_of) (StopsReport file_of) HoldsNone StopsHolding Closes (file_head g) Made (none_taken_of g) file forth back goes
-      (λ q d t holds. inl holds) end e old new is stopped
+      (λ q d t holds. inl holds) end e Failed old new is failed stopped

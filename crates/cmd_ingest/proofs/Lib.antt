@@ -3,3 +3,5 @@ pub mod Ingesting
 pub mod Labelling
 pub mod NamedChildren
 pub mod SomeIngestion
+pub mod OneIngestion
+pub mod GoodIngestion

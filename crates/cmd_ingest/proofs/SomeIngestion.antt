@@ -3,7 +3,7 @@ use Rattle.std.proofs.Common.{ℕ, List, refl}
 use Rattle.wf_io.specs.Told.{File}
 use Rattle.wf_io.specs.Lines.{lines_in}
 use Rattle.wf_message.specs.Endings.{Done}
-use Rattle.wf_stage.proofs.SomeStages.{HasOutcome}
+use Rattle.wf_stage.specs.Outcomes.{HasOutcome}
 use Rattle.wf_inputs.specs.Inputs.{instance_most}
 use Rattle.wf_inputs.proofs.SomeInputs.{some_spec_stage}
 use Rattle.wf_inputs.proofs.SomeRun.{some_events}

@@ -1,3 +1,4 @@
 pub mod Words
 pub mod Ingested
 pub mod Does
+pub mod Family

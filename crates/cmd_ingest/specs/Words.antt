@@ -12,3 +12,7 @@ command_of (c ∷ []) = None
 command_of (c ∷ s ∷ []) = None
 command_of (c ∷ s ∷ e ∷ []) = cond (bytes_eq c (codes "ingest")) (Some (Ingest s e)) None
 command_of (c ∷ s ∷ e ∷ w ∷ ws) = None
+
+-- the names of the files that a command reads, in their order
+abbrev pub files_of : Command → List (List ℕ)
+files_of (Ingest s e) = s ∷ e ∷ []

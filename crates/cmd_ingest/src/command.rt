@@ -2,8 +2,8 @@
 ghost use Rattle.std.specs.Prelude.{◌≡◌, [], Some, None, map, MatchOption};
 ghost use Rattle.wf_message.specs.Endings.{end_after};
 ghost use Rattle.wf_stage.specs.Promises.{Obeys};
-ghost use Rattle.cmd_ingest.specs.Words.{command_of};
-ghost use Rattle.cmd_ingest.specs.Does.{meant, Does};
+ghost use Rattle.cmd_ingest.specs.Words.{command_of, files_of};
+ghost use Rattle.cmd_ingest.specs.Does.{Does, meant};
 
 use crate::ingest::ingest;
 use std::alloc::Global;
@@ -16,33 +16,35 @@ pub enum Command<'w> {
     Ingest { spec: &'w str, events: &'w str },
 }
 
-/// The command that the words are, if they are one of these.
-pub fn command_of<'w>(words: &'w [&'w str]) -> Option<Command<'w>>
-    ensures { MatchOption result (command_of (map (λ w. w.now) words.now) ≡ None) (λ c. command_of (map (λ w. w.now) words.now) ≡ Some (meant c)) }
-{
-    match words {
-        [command, spec, events] => {
-            if *command == "ingest" {
-                Some(Command::Ingest { spec, events })
-            } else {
-                None
+impl<'w> Command<'w> {
+    /// The command that the words are, if they are one of these.
+    pub fn command_of(words: &'w [&'w str]) -> Option<Command<'w>>
+        ensures { MatchOption result (command_of (map (λ w. w.now) words.now) ≡ None) (λ c. command_of (map (λ w. w.now) words.now) ≡ Some (meant c)) }
+    {
+        match words {
+            [command, spec, events] => {
+                if *command == "ingest" {
+                    Some(Command::Ingest { spec, events })
+                } else {
+                    None
+                }
             }
+            _ => None,
         }
-        _ => None,
     }
-}
 
-/// Does a command.
-pub fn obey<H: Shelf, O: Sink>(
-    alloc: Global,
-    command: &Command<'_>,
-    shelf: &mut H,
-    out: &mut O,
-) -> Result<(), Stop>
-    ensures obeys { Obeys H.files H.faults H.at_last O.put_bytes O.faults O.at_last []
-        (λ f. Does f (meant command.now)) shelf.old shelf.new out.old out.new (end_after result) }
-{
-    match command {
-        Command::Ingest { spec, events } => ingest(alloc, spec, events, shelf, out),
+    /// Does the command over the files of a shelf, and puts its text to `out`.
+    pub fn obey<H: Shelf, O: Sink>(
+        &self,
+        alloc: Global,
+        shelf: &mut H,
+        out: &mut O,
+    ) -> Result<(), Stop>
+        ensures obeys { Obeys H.files H.readings H.faults H.at_last O.put_bytes O.faults O.at_last (files_of (meant self.now)) []
+            (λ f. Does f (meant self.now)) shelf.old shelf.new out.old out.new (end_after result) }
+    {
+        match self {
+            Command::Ingest { spec, events } => ingest(alloc, spec, events, shelf, out),
+        }
     }
 }

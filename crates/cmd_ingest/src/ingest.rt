@@ -1,5 +1,5 @@
 // `ingest`: SPEC, the head of a label file, and then EVENTS, whose items are labelled line by line.
-ghost use Rattle.std.specs.Prelude.{[]};
+ghost use Rattle.std.specs.Prelude.{◌∷◌, []};
 ghost use Rattle.wf_message.specs.Endings.{end_after};
 ghost use Rattle.wf_stage.specs.Ends.{IsWritten};
 ghost use Rattle.wf_stage.specs.Promises.{Writes, Obeys};
@@ -38,7 +38,7 @@ pub fn ingest<H: Shelf, O: Sink>(
     shelf: &mut H,
     out: &mut O,
 ) -> Result<(), Stop>
-    ensures obeys { Obeys H.files H.faults H.at_last O.put_bytes O.faults O.at_last []
+    ensures obeys { Obeys H.files H.readings H.faults H.at_last O.put_bytes O.faults O.at_last (spec_name.now ∷ events_name.now ∷ []) []
         (λ f. Ingests (f spec_name.now) (f events_name.now)) shelf.old shelf.new out.old out.new (end_after result) }
 {
     let spec = spec_stage(alloc, shelf, spec_name)?;

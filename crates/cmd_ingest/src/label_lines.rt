@@ -1,5 +1,5 @@
 // Lines of events, whose items are labelled and put line by line.
-ghost use Rattle.std.specs.Prelude.{◌≡◌, [], ℕ, List, Some, option_map, position, bytes_eq};
+ghost use Rattle.std.specs.Prelude.{◌∷◌, ◌≡◌, [], ℕ, List, Some, option_map, position, bytes_eq};
 ghost use Rattle.std.specs.Cmp.Lexicographic.{pointwise};
 ghost use Rattle.wf_model.specs.declared.event.Event.{Event};
 ghost use Rattle.wf_model.specs.Lists.{numbers_from};
@@ -147,7 +147,7 @@ pub fn label_events<H: Shelf, O: Sink>(
     shelf: &mut H,
     out: &mut O,
 ) -> Result<(), Stop>
-    ensures obeys { Obeys H.files H.faults H.at_last O.put_bytes O.faults O.at_last
+    ensures obeys { Obeys H.files H.readings H.faults H.at_last O.put_bytes O.faults O.at_last (name.now ∷ [])
         (file_head spec.now.grammar.core) (λ f. EventsStage spec.now.grammar.core instance_most
         (lines_in (f name.now)) (file_of spec.now.grammar.core) (WritesFile spec.now.grammar.core)) shelf.old shelf.new out.old out.new (end_after result) }
 {

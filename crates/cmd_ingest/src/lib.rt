@@ -2,7 +2,8 @@
 #![tactic(auto)]
 
 mod command;
+mod family;
 mod ingest;
 mod label_lines;
 
-pub use command::{Command, command_of, obey};
+pub use family::Family;

@@ -1,5 +1,5 @@
 -- The lines of the events of a generator, made due one by one.
-use Rattle.std.proofs.Common.{◌≡◌, ℕ, Bool, true, false, List, [], ◌∷◌, ◌++◌, Option, refl, sym, ap, ◌∙◌, subst, append_assoc, append-nil}
+use Rattle.std.proofs.Common.{◌≡◌, ◌<◌, ℕ, Bool, true, false, List, [], ◌∷◌, ◌++◌, length, Option, refl, sym, ap, ◌∙◌, subst, append_assoc, append-nil}
 use Rattle.std.proofs.lemmas.Grind.{flat_map-append}
 use Rattle.wf_model.specs.declared.event.Event.{Event}
 use Rattle.wf_gen.specs.Coming.{Coming, IsNextLine}
@@ -19,17 +19,18 @@ line_given old new given a b is next = let first = subst (λ t. IsNextLine old t
 pub no_line : (old new : Coming) (given : Bool) (a b : List ℕ) → given ≡ false → IsNextLine old given new a b → (old.events ≡ []) × (b ≡ a)
 no_line old new given a b is next = let end = subst (λ t. IsNextLine old t new a b) is next in (end.0.none, end.1)
 
--- of these events the first were given, the others are to come, and the lines of those that were given are due behind what was
+-- of these events the first were given, the others are to come, and the lines of those that were given are due behind what was, which stays short
 pub record AreDue {T : Type 0} (bytes : T → Option (List ℕ)) (faults : T → ℕ) (all : List Event) (due : List ℕ) (coming : List Event) (due' : List ℕ) (old new : T) : Type 0 where
   pub given : List Event
   pub split : all ≡ given ++ coming
   pub due_so_far : IsDue (due ++ event_lines given) due' (bytes old) (bytes new)
   pub count : faults new ≡ faults old
+  pub short : length due < 65536 → length due' < 65536
 
 module _ {T : Type 0} {bytes : T → Option (List ℕ)} {faults : T → ℕ} where
   -- none was given yet
   pub none_given : (all : List Event) (due : List ℕ) (o : T) → AreDue bytes faults all due all due o o
-  none_given all due o = record { given = []; split = refl; due_so_far = due_still (due ++ []) due (bytes o) (bytes o) refl (sym (append-nil due)); count = refl }
+  none_given all due o = record { given = []; split = refl; due_so_far = due_still (due ++ []) due (bytes o) (bytes o) refl (sym (append-nil due)); count = refl; short = λ was. was }
 
   module _ {last : T → Bool} (all : List Event) (due : List ℕ) (e : Event) (coming coming' : List Event) (a b : List ℕ) (o p q : T) where
     -- the line of one event more is due
@@ -43,6 +44,7 @@ module _ {T : Type 0} {bytes : T → Option (List ℕ)} {faults : T → ℕ} whe
               (ap (λ l. event_lines so_far.given ++ l) (sym (append-nil (event_line e))) ∙ sym (flat_map-append event_line so_far.given (e ∷ [])))
               (due_piece due (event_lines so_far.given) (event_line e) a b (bytes o) (bytes p) (bytes q) so_far.due_so_far now.0);
           count = now.1 ∙ so_far.count;
+          short = λ was. now.2 (so_far.short was);
         }
 
     -- the making of the next line ended the program
@@ -66,3 +68,4 @@ module _ {T : Type 0} {bytes : T → Option (List ℕ)} {faults : T → ℕ} whe
         let is = so_far.split ∙ (ap (λ c. so_far.given ++ c) none.0 ∙ append-nil so_far.given) in
         makes_text due (event_lines all) b o p
         (subst (λ es. IsDue (due ++ event_lines es) b (bytes o) (bytes p)) (sym is) (subst (λ t. IsDue (due ++ event_lines so_far.given) t (bytes o) (bytes p)) (sym none.1) so_far.due_so_far)) so_far.count
+        (λ was. subst (λ t. length t < 65536) (sym none.1) (so_far.short was))

@@ -10,3 +10,5 @@ pub mod OneDrill
 pub mod SomeDrill
 pub mod Drilled
 pub mod SomeMaking
+pub mod OneMaking
+pub mod GoodMaking

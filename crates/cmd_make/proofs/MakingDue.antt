@@ -1,10 +1,10 @@
 -- Text that is made due piece by piece.
-use Rattle.std.proofs.Common.{◌≡◌, ◌≤◌, ℕ, Bool, List, [], ◌++◌, length, take, Option, refl, sym, ◌∙◌, subst, arith, append_assoc}
+use Rattle.std.proofs.Common.{◌≡◌, ◌<◌, ◌≤◌, ℕ, Bool, List, [], ◌++◌, length, take, Option, refl, sym, ap, ◌∙◌, subst, arith, length-append, append_assoc}
 use Rattle.std.proofs.lemmas.List.{take_all}
 use Rattle.wf_io.specs.Told.{Rose, Appended}
 use Rattle.wf_io.proofs.Appending.{appended_none, begun_longer, begun_same}
 use Rattle.wf_lines.specs.Taking.{IsDue, IsBegun}
-use Rattle.wf_lines.proofs.Dues.{due_begun, due_put, due_later, due_more, due_still, due_empty}
+use Rattle.wf_lines.proofs.Dues.{due_begun, due_put, due_later, due_more, due_some}
 use Rattle.wf_message.specs.Endings.{End, Done, WriteFault, NoMemory}
 use Rattle.wf_stage.specs.Ends.{IsWritten}
 use Rattle.wf_stage.specs.Causes.{IsWritingCause}
@@ -30,33 +30,30 @@ module _ {T : Type 0} {bytes : T → Option (List ℕ)} {faults : T → ℕ} {la
   makes_wanting due text due' o = record {
     made = λ w. absurd (w.1 refl);
     begun = (0, appended_none (bytes o) (bytes o) refl);
+    some = λ w. absurd (cc);
+    short = λ d. absurd (cc);
     cause = refl;
     later = omega arith;
   }
 
   -- a text was made due
-  pub makes_text : (due text due' : List ℕ) (o p : T) → IsDue (due ++ text) due' (bytes o) (bytes p) → faults p ≡ faults o → MakesDue bytes faults last due text due' o p Done
-  makes_text due text due' o p is count = record {
+  pub makes_text : (due text due' : List ℕ) (o p : T) → IsDue (due ++ text) due' (bytes o) (bytes p) → faults p ≡ faults o → (length due < 65536 → length due' < 65536) → MakesDue bytes faults last due text due' o p Done
+  makes_text due text due' o p is count short = record {
     made = λ w. (refl, is);
     begun = due_has_begun (due ++ text) due' (bytes o) (bytes p) is;
+    some = λ w. absurd (cc);
+    short = λ d. short;
     cause = count;
     later = omega arith;
   }
 
-  -- a text that was appended is due, and nothing was put
-  pub makes_kept : (due text held : List ℕ) (o : T) → held ≡ due ++ text → MakesDue bytes faults last due text held o o Done
-  makes_kept due text held o is = makes_text due text held o o (due_still (due ++ text) held (bytes o) (bytes o) refl is) refl
-
-  -- all of it was put, and nothing is due
-  pub makes_put : (due text held due' : List ℕ) (o p : T) → held ≡ due ++ text → due' ≡ [] → Appended held (bytes o) (bytes p) → faults p ≡ faults o → MakesDue bytes faults last due text due' o p Done
-  makes_put due text held due' o p is none put count =
-      makes_text due text due' o p (due_empty (due ++ text) held due' (bytes o) (bytes o) (bytes p) (due_still (due ++ text) held (bytes o) (bytes o) refl is) put none) count
-
   -- writing failed
-  pub makes_cut : (due text held due' : List ℕ) (o p : T) → held ≡ due ++ text → IsBegun held (bytes o) (bytes p) → Rose (faults o) (faults p) (last p) → faults o ≤ faults p → MakesDue bytes faults last due text due' o p WriteFault
-  makes_cut due text held due' o p is begun rose later = record {
+  pub makes_cut : (due text held due' : List ℕ) (o p : T) → held ≡ due ++ text → 0 < length held → IsBegun held (bytes o) (bytes p) → Rose (faults o) (faults p) (last p) → faults o ≤ faults p → MakesDue bytes faults last due text due' o p WriteFault
+  makes_cut due text held due' o p is some begun rose later = record {
     made = λ w. absurd (w.0 refl);
     begun = begun_same held (due ++ text) (bytes o) (bytes p) is begun;
+    some = λ w. subst (λ t. 0 < length t) is some;
+    short = λ d. absurd (cc);
     cause = rose;
     later = later;
   }
@@ -71,13 +68,18 @@ module _ {T : Type 0} {bytes : T → Option (List ℕ)} {faults : T → ℕ} {la
         begun_same (((due ++ text) ++ piece) ++ rest) (due ++ (text ++ (piece ++ rest))) (bytes o) (bytes q)
         (append_assoc (due ++ text) piece rest ∙ append_assoc due text (piece ++ rest))
         (begun_longer begun.0 ((due ++ text) ++ piece) rest (bytes o) (bytes q) begun.1);
+    some = λ w.
+        let more = due_some ((due ++ text) ++ piece) (a ++ piece) (bytes o) (bytes p) (due_more (due ++ text) a piece (bytes o) (bytes p) first) (then.some w) in
+        let size = length-append ((due ++ text) ++ piece) rest in
+        subst (λ t. 0 < length t) (append_assoc (due ++ text) piece rest ∙ append_assoc due text (piece ++ rest)) (omega (arith, more, size));
+    short = λ d. absurd (stopped d);
     cause = subst (λ n. IsWritingCause n (faults q) (last q) e) count then.cause;
     later = subst (λ n. n ≤ faults q) count then.later;
   }
 
   -- a text that a step made due
-  pub made_due : (due text due' : List ℕ) (o p : T) → MakesDue bytes faults last due text due' o p Done → IsDue (due ++ text) due' (bytes o) (bytes p) × (faults p ≡ faults o)
-  made_due due text due' o p m = ((m.made (λ e. (cc), λ e. (cc))).1, m.cause)
+  pub made_due : (due text due' : List ℕ) (o p : T) → MakesDue bytes faults last due text due' o p Done → IsDue (due ++ text) due' (bytes o) (bytes p) × (faults p ≡ faults o) × (length due < 65536 → length due' < 65536)
+  made_due due text due' o p m = ((m.made (λ e. (cc), λ e. (cc))).1, m.cause, m.short refl)
 
   -- a text was made due behind nothing, and then put
   pub put_whole : (text due : List ℕ) (o p q : T) (e : End) → IsDue text due (bytes o) (bytes p) → faults p ≡ faults o → Writes bytes faults last [] (IsWritten due) p q e → Writes bytes faults last [] (IsWritten text) o q e
@@ -88,6 +90,7 @@ module _ {T : Type 0} {bytes : T → Option (List ℕ)} {faults : T → ℕ} {la
           let r = w.ends.begun Done due (refl, refl) in
           let begun = due_begun text due (bytes o) (bytes p) (bytes q) is (r.2.0, subst (λ x. Appended (take r.2.0 x) (bytes p) (bytes q)) (sym r.1) r.2.1) in
           (t, refl, begun_same text t (bytes o) (bytes q) (sym h.1) begun);
+      due = λ failed d t h. subst (λ x. 0 < length x) (sym h.1) (due_some text due (bytes o) (bytes p) is (w.ends.due failed Done due (refl, refl)));
     };
     cause = subst (λ n. IsWritingCause n (faults q) (last q) e) count w.cause;
     later = subst (λ n. n ≤ faults q) count w.later;
@@ -99,6 +102,7 @@ module _ {T : Type 0} {bytes : T → Option (List ℕ)} {faults : T → ℕ} {la
     ends = record {
       whole = λ of_outcome. absurd (stopped (m.made of_outcome).0);
       begun = λ d t h. (t, refl, begun_same text t (bytes o) (bytes p) (sym h.1) m.begun);
+      due = λ failed d t h. subst (λ x. 0 < length x) (sym h.1) (m.some failed);
     };
     cause = m.cause;
     later = m.later;
@@ -107,7 +111,7 @@ module _ {T : Type 0} {bytes : T → Option (List ℕ)} {faults : T → ℕ} {la
   -- a text was put in part, and memory was wanting
   pub writes_begun : (text : List ℕ) (o p : T) → IsBegun text (bytes o) (bytes p) → faults p ≡ faults o → Writes bytes faults last [] (IsWritten text) o p NoMemory
   writes_begun text o p begun count = record {
-    ends = record { whole = λ of_outcome. absurd (of_outcome.1 refl); begun = λ d t h. (t, refl, begun_same text t (bytes o) (bytes p) (sym h.1) begun) };
+    ends = record { whole = λ of_outcome. absurd (of_outcome.1 refl); begun = λ d t h. (t, refl, begun_same text t (bytes o) (bytes p) (sym h.1) begun); due = λ failed. absurd (cc) };
     cause = count;
     later = omega (arith, count);
   }

@@ -15,7 +15,7 @@ use Rattle.verdict_model.proofs.Clashing.{no_clash_law}
 use Rattle.verdict_model.proofs.SomeVerdict.{some_verdict}
 use Rattle.wf_gen.specs.Turns.{Generated, generated}
 use Rattle.wf_message.specs.Endings.{Done}
-use Rattle.wf_stage.proofs.SomeStages.{HasOutcome}
+use Rattle.wf_stage.specs.Outcomes.{HasOutcome}
 use Rattle.wf_inputs.specs.Inputs.{instance_most}
 use Rattle.cmd_make.specs.DrillText.{labels_of_run, pair_count, pairs_of, label_no, AreVerdicts, longest, summary, IsDrilled}
 use Rattle.cmd_make.specs.DrillLaws.{PairsCountedLaw}

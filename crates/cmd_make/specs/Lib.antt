@@ -5,3 +5,4 @@ pub mod DrillText
 pub mod DrillLaws
 pub mod HeldLabels
 pub mod Does
+pub mod Family

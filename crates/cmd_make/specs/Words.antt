@@ -54,3 +54,9 @@ command_of (c ∷ s ∷ x ∷ y ∷ []) =
 command_of (c ∷ s ∷ v ∷ x ∷ y ∷ []) =
     cond (bytes_eq c (codes "drill")) (drill_of s v (number_in most_expansions x) (number_in greatest_seed y)) None
 command_of (c ∷ s ∷ v ∷ x ∷ y ∷ w ∷ ws) = None
+
+-- the names of the files that a command reads, in their order
+abbrev pub files_of : Command → List (List ℕ)
+files_of (Export s v e) = s ∷ v ∷ e ∷ []
+files_of (Gen s n seed) = s ∷ []
+files_of (Drill s v n seed) = s ∷ v ∷ []

@@ -2,8 +2,8 @@
 ghost use Rattle.std.specs.Prelude.{◌≡◌, [], Some, None, map, length, MatchOption};
 ghost use Rattle.wf_message.specs.Endings.{end_after};
 ghost use Rattle.wf_stage.specs.Promises.{Obeys};
-ghost use Rattle.cmd_make.specs.Words.{command_of, most_expansions, greatest_seed, number_in, gen_of, drill_of};
-ghost use Rattle.cmd_make.specs.Does.{meant, Does};
+ghost use Rattle.cmd_make.specs.Words.{command_of, files_of, most_expansions, greatest_seed, number_in, gen_of, drill_of};
+ghost use Rattle.cmd_make.specs.Does.{Does, meant};
 
 use crate::drill::{DrillWords, drill};
 use crate::export::{ExportWords, export};
@@ -85,32 +85,34 @@ fn command_of_five<'w>(words: &'w [&'w str]) -> Option<Command<'w>>
     None
 }
 
-/// The command that the words are, if they are one of these. A word of a number that is none, or is too great, makes them none.
-pub fn command_of<'w>(words: &'w [&'w str]) -> Option<Command<'w>>
-    ensures { MatchOption result (command_of (map (λ w. w.now) words.now) ≡ None) (λ c. command_of (map (λ w. w.now) words.now) ≡ Some (meant c)) }
-{
-    if words.len() == 4 {
-        return command_of_four(words);
+impl<'w> Command<'w> {
+    /// The command that the words are, if they are one of these. A word of a number that is none, or is too great, makes them none.
+    pub fn command_of(words: &'w [&'w str]) -> Option<Command<'w>>
+        ensures { MatchOption result (command_of (map (λ w. w.now) words.now) ≡ None) (λ c. command_of (map (λ w. w.now) words.now) ≡ Some (meant c)) }
+    {
+        if words.len() == 4 {
+            return command_of_four(words);
+        }
+        if words.len() == 5 {
+            return command_of_five(words);
+        }
+        None
     }
-    if words.len() == 5 {
-        return command_of_five(words);
-    }
-    None
-}
 
-/// Does a command.
-pub fn obey<H: Shelf, O: Sink>(
-    alloc: Global,
-    command: &Command<'_>,
-    shelf: &mut H,
-    out: &mut O,
-) -> Result<(), Stop>
-    ensures obeys { Obeys H.files H.faults H.at_last O.put_bytes O.faults O.at_last []
-        (λ f. Does f (meant command.now)) shelf.old shelf.new out.old out.new (end_after result) }
-{
-    match command {
-        Command::Export { words } => export(alloc, words, shelf, out),
-        Command::Gen { spec, n, seed } => generate(alloc, spec, *n, *seed, shelf, out),
-        Command::Drill { words } => drill(alloc, words, shelf, out),
+    /// Does the command over the files of a shelf, and puts its text to `out`.
+    pub fn obey<H: Shelf, O: Sink>(
+        &self,
+        alloc: Global,
+        shelf: &mut H,
+        out: &mut O,
+    ) -> Result<(), Stop>
+        ensures obeys { Obeys H.files H.readings H.faults H.at_last O.put_bytes O.faults O.at_last (files_of (meant self.now)) []
+            (λ f. Does f (meant self.now)) shelf.old shelf.new out.old out.new (end_after result) }
+    {
+        match self {
+            Command::Export { words } => export(alloc, words, shelf, out),
+            Command::Gen { spec, n, seed } => generate(alloc, spec, *n, *seed, shelf, out),
+            Command::Drill { words } => drill(alloc, words, shelf, out),
+        }
     }
 }

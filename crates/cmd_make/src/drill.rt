@@ -1,5 +1,5 @@
 // `drill`: SPEC and VIEW, and then a generated run is labelled, and drawn pairs of its items are decided under the view.
-ghost use Rattle.std.specs.Prelude.{[], IfOk};
+ghost use Rattle.std.specs.Prelude.{◌∷◌, [], IfOk};
 ghost use Rattle.wf_gen.specs.Turns.{generated};
 ghost use Rattle.wf_message.specs.Endings.{end_after};
 ghost use Rattle.wf_stage.specs.Promises.{Writes, Obeys};
@@ -12,9 +12,10 @@ use crate::summary::summary_text;
 use crate::verdicts::verdicts_of;
 use std::alloc::{AllocError, Global};
 use wf_gen::Gen;
-use wf_inputs::{INSTANCES, Viewed, spec_stage, view_stage};
+use wf_inputs::{INSTANCES, spec_stage, view_stage};
 use wf_io::{Shelf, Sink};
 use wf_message::Stop;
+use wf_safe::SafeView;
 use wf_stage::put_text;
 
 /// The names of the files that `drill` reads, in this order, the number of expansions at most, and the seed.
@@ -27,8 +28,8 @@ pub struct DrillWords<'w> {
 }
 
 /// The summary of the run of at most `n` expansions that a seed gives, under a view. Fails only for want of memory.
-fn summary_of(alloc: Global, v: &Viewed, n: u32, seed: u64) -> Result<Vec<u8>, AllocError>
-    ensures { IfOk result (λ text. IsSummary v.now.spec.grammar.core v.now.view.core (generated v.now.spec.grammar.core n seed instance_most) text.items) }
+fn summary_of(alloc: Global, v: &SafeView<'_>, n: u32, seed: u64) -> Result<Vec<u8>, AllocError>
+    ensures { IfOk result (λ text. IsSummary v.now.accepted.grammar.core v.now.view.core (generated v.now.accepted.grammar.core n seed instance_most) text.items) }
 {
     let linear = v.linear();
     let mut generator = Gen::new(alloc, linear, n, seed, INSTANCES);
@@ -46,8 +47,14 @@ fn summary_of(alloc: Global, v: &Viewed, n: u32, seed: u64) -> Result<Vec<u8>, A
 /// Puts the summary of the run of at most `n` expansions that a seed gives, of which all items are labelled and drawn pairs are decided under a view: the numbers of its instances and items, the bits of its longest label, and how many verdicts of each kind there are.
 ///
 /// Nothing is put before all of it is known, so where memory is wanting nothing is.
-fn put_drill<O: Sink>(alloc: Global, v: &Viewed, n: u32, seed: u64, out: &mut O) -> Result<(), Stop>
-    ensures writes { Writes O.put_bytes O.faults O.at_last [] (IsDrilled v.now.spec.grammar.core v.now.view.core n seed) out.old out.new (end_after result) }
+fn put_drill<O: Sink>(
+    alloc: Global,
+    v: &SafeView<'_>,
+    n: u32,
+    seed: u64,
+    out: &mut O,
+) -> Result<(), Stop>
+    ensures writes { Writes O.put_bytes O.faults O.at_last [] (IsDrilled v.now.accepted.grammar.core v.now.view.core n seed) out.old out.new (end_after result) }
 {
     let Ok(text) = summary_of(alloc, v, n, seed) else {
         return Err(Stop::NoMemory);
@@ -64,10 +71,10 @@ pub(crate) fn drill<H: Shelf, O: Sink>(
     shelf: &mut H,
     out: &mut O,
 ) -> Result<(), Stop>
-    ensures obeys { Obeys H.files H.faults H.at_last O.put_bytes O.faults O.at_last []
+    ensures obeys { Obeys H.files H.readings H.faults H.at_last O.put_bytes O.faults O.at_last (words.now.spec.now ∷ words.now.view.now ∷ []) []
         (λ f. Drills (f words.now.spec.now) (f words.now.view.now) words.now.n words.now.seed) shelf.old shelf.new out.old out.new (end_after result) }
 {
-    let spec = spec_stage(alloc, shelf, words.spec)?;
-    let viewed = view_stage(alloc, shelf, words.view, spec)?;
-    put_drill(alloc, &viewed, words.n, words.seed, out)
+    let accepted = spec_stage(alloc, shelf, words.spec)?;
+    let safe = view_stage(alloc, shelf, words.view, &accepted)?;
+    put_drill(alloc, &safe, words.n, words.seed, out)
 }

@@ -1,5 +1,5 @@
 // `export`: SPEC, VIEW and EVENTS, and then what the run shows under the view.
-ghost use Rattle.std.specs.Prelude.{[]};
+ghost use Rattle.std.specs.Prelude.{◌∷◌, []};
 ghost use Rattle.wf_flat.specs.Table.{IsTableOf, events_of};
 ghost use Rattle.wf_message.specs.Endings.{end_after};
 ghost use Rattle.wf_stage.specs.Promises.{Writes, Obeys};
@@ -8,9 +8,10 @@ ghost use Rattle.cmd_make.specs.Does.{ExportsRun, ExportsView, Exports};
 use std::alloc::Global;
 use wf_export::{ExportFault, write_export};
 use wf_flat::PlainRun;
-use wf_inputs::{Viewed, events_stage, spec_stage, view_stage};
+use wf_inputs::{events_stage, spec_stage, view_stage};
 use wf_io::{Shelf, Sink};
 use wf_message::Stop;
+use wf_safe::SafeView;
 
 /// The names of the files that `export` reads, in this order.
 #[derive(Clone, Copy)]
@@ -21,12 +22,17 @@ pub struct ExportWords<'w> {
 }
 
 /// Puts what a run shows under a view.
-fn put_export<O: Sink>(alloc: Global, v: &Viewed, run: &PlainRun, out: &mut O) -> Result<(), Stop>
-    requires run { IsTableOf v.now.spec.grammar.core run.now }
+fn put_export<O: Sink>(
+    alloc: Global,
+    v: &SafeView<'_>,
+    run: &PlainRun,
+    out: &mut O,
+) -> Result<(), Stop>
+    requires run { IsTableOf v.now.accepted.grammar.core run.now }
     ensures writes { Writes O.put_bytes O.faults O.at_last []
-        (ExportsRun v.now.spec.grammar.core v.now.view.core (events_of run.now)) out.old out.new (end_after result) }
+        (ExportsRun v.now.accepted.grammar.core v.now.view.core (events_of run.now)) out.old out.new (end_after result) }
 {
-    match write_export(alloc, v.grammar(), v.view(), run, out) {
+    match write_export(alloc, v.sight(), run, out) {
         Ok(()) => Ok(()),
         Err(ExportFault::WriteFault) => Err(Stop::WriteFault),
         Err(ExportFault::NoMemory) => Err(Stop::NoMemory),
@@ -36,13 +42,13 @@ fn put_export<O: Sink>(alloc: Global, v: &Viewed, run: &PlainRun, out: &mut O) -
 /// Takes EVENTS under a view.
 fn export_events<H: Shelf, O: Sink>(
     alloc: Global,
-    v: &Viewed,
+    v: &SafeView<'_>,
     name: &str,
     shelf: &mut H,
     out: &mut O,
 ) -> Result<(), Stop>
-    ensures obeys { Obeys H.files H.faults H.at_last O.put_bytes O.faults O.at_last []
-        (λ f. ExportsView v.now.spec.grammar.core v.now.view.core (f name.now)) shelf.old shelf.new out.old out.new (end_after result) }
+    ensures obeys { Obeys H.files H.readings H.faults H.at_last O.put_bytes O.faults O.at_last (name.now ∷ []) []
+        (λ f. ExportsView v.now.accepted.grammar.core v.now.view.core (f name.now)) shelf.old shelf.new out.old out.new (end_after result) }
 {
     let run = events_stage(alloc, shelf, name, v.grammar())?;
     put_export(alloc, v, &run, out)
@@ -57,10 +63,11 @@ pub(crate) fn export<H: Shelf, O: Sink>(
     shelf: &mut H,
     out: &mut O,
 ) -> Result<(), Stop>
-    ensures obeys { Obeys H.files H.faults H.at_last O.put_bytes O.faults O.at_last []
+    ensures obeys { Obeys H.files H.readings H.faults H.at_last O.put_bytes O.faults O.at_last
+        (words.now.spec.now ∷ words.now.view.now ∷ words.now.events.now ∷ []) []
         (λ f. Exports (f words.now.spec.now) (f words.now.view.now) (f words.now.events.now)) shelf.old shelf.new out.old out.new (end_after result) }
 {
-    let spec = spec_stage(alloc, shelf, words.spec)?;
-    let viewed = view_stage(alloc, shelf, words.view, spec)?;
-    export_events(alloc, &viewed, words.events, shelf, out)
+    let accepted = spec_stage(alloc, shelf, words.spec)?;
+    let safe = view_stage(alloc, shelf, words.view, &accepted)?;
+    export_events(alloc, &safe, words.events, shelf, out)
 }

@@ -1,5 +1,5 @@
 // `gen`: SPEC, and then the events of a generated run.
-ghost use Rattle.std.specs.Prelude.{◌≡◌, ◌<◌, ℕ, ◌++◌, List, [], length, OnOk};
+ghost use Rattle.std.specs.Prelude.{◌∷◌, ◌≡◌, ◌<◌, ℕ, ◌++◌, List, [], length, OnOk};
 ghost use Rattle.wf_message.specs.Endings.{end_after};
 ghost use Rattle.wf_stage.specs.Ends.{IsWritten};
 ghost use Rattle.wf_stage.specs.Promises.{Writes, Obeys};
@@ -11,39 +11,31 @@ use std::alloc::Global;
 use wf_accept::Accepted;
 use wf_gen::Gen;
 use wf_inputs::{INSTANCES, spec_stage};
-use wf_io::{Shelf, Sink};
+use wf_io::{PIECE, Shelf, Sink};
+use wf_lines::Due;
 use wf_message::Stop;
 use wf_stage::put_text;
 
-/// From so many bytes on a text is put.
-const PIECE: usize = 65536;
-
-/// Puts a text once it is as long as a piece, and leaves a shorter one due. The text is what was due, and a line behind it.
-fn put_piece<O: Sink>(text: &mut Vec<u8>, out: &mut O) -> Result<(), Stop>
-    ensures makes { (due line : List ℕ) → text.old.items ≡ due ++ line
-        → MakesDue O.put_bytes O.faults O.at_last due line text.new.items out.old out.new (end_after result) }
-    ensures short { OnOk result (length text.new.items < 65536) }
+/// Puts what is due once it is as long as a piece, and leaves a shorter text due. It is what was due before, and a line behind it.
+fn put_piece<O: Sink>(due: &mut Due, out: &mut O) -> Result<(), Stop>
+    ensures makes { (before line : List ℕ) → due.old ≡ before ++ line
+        → MakesDue O.put_bytes O.faults O.at_last before line due.new out.old out.new (end_after result) }
+    ensures short { OnOk result (length due.new < PIECE) }
 {
-    if text.len() < PIECE {
-        return Ok(());
-    }
-    match out.put(text) {
-        Ok(()) => {
-            text.clear();
-            Ok(())
-        }
+    match due.pass_on(out) {
+        Ok(()) => Ok(()),
         Err(_) => Err(Stop::WriteFault),
     }
 }
 
-/// The lines of the events that a generator has before it are due behind a text.
-fn add_events<O: Sink>(events: &mut Gen<'_>, text: &mut Vec<u8>, out: &mut O) -> Result<(), Stop>
-    ensures makes { MakesDue O.put_bytes O.faults O.at_last text.old.items (event_lines events.old.events) text.new.items out.old out.new (end_after result) }
+/// The lines of the events that a generator has before it are due behind what is.
+fn add_events<O: Sink>(events: &mut Gen<'_>, due: &mut Due, out: &mut O) -> Result<(), Stop>
+    ensures makes { MakesDue O.put_bytes O.faults O.at_last due.old (event_lines events.old.events) due.new out.old out.new (end_after result) }
 {
     loop {
-        match events.write_next(text) {
+        match events.write_next(&mut due.text) {
             Ok(true) => {
-                if let Err(stop) = put_piece(text, out) {
+                if let Err(stop) = put_piece(due, out) {
                     return Err(stop);
                 }
             }
@@ -57,11 +49,13 @@ fn add_events<O: Sink>(events: &mut Gen<'_>, text: &mut Vec<u8>, out: &mut O) ->
 fn put_events<O: Sink>(alloc: Global, events: &mut Gen<'_>, out: &mut O) -> Result<(), Stop>
     ensures writes { Writes O.put_bytes O.faults O.at_last [] (IsWritten (event_lines events.old.events)) out.old out.new (end_after result) }
 {
-    let mut text = Vec::new(alloc);
-    if let Err(stop) = add_events(events, &mut text, out) {
+    let Ok(mut due) = Due::new(alloc) else {
+        return Err(Stop::NoMemory);
+    };
+    if let Err(stop) = add_events(events, &mut due, out) {
         return Err(stop);
     }
-    put_text(out, &text)
+    put_text(out, &due.text)
 }
 
 /// Puts the events of a generated run of a grammar, as lines.
@@ -89,7 +83,7 @@ pub(crate) fn generate<H: Shelf, O: Sink>(
     shelf: &mut H,
     out: &mut O,
 ) -> Result<(), Stop>
-    ensures obeys { Obeys H.files H.faults H.at_last O.put_bytes O.faults O.at_last []
+    ensures obeys { Obeys H.files H.readings H.faults H.at_last O.put_bytes O.faults O.at_last (name.now ∷ []) []
         (λ f. Generates (f name.now) n seed) shelf.old shelf.new out.old out.new (end_after result) }
 {
     let spec = spec_stage(alloc, shelf, name)?;

@@ -4,6 +4,7 @@
 mod command;
 mod drill;
 mod export;
+mod family;
 mod generate;
 mod held;
 mod labelling;
@@ -13,7 +14,5 @@ mod pairs;
 mod summary;
 mod verdicts;
 
-pub use command::{Command, command_of, obey};
-pub use drill::DrillWords;
-pub use export::ExportWords;
+pub use family::Family;
 pub use law::pairs_counted_law;

@@ -14,7 +14,7 @@ use std::alloc::{AllocError, Global};
 use std::marker::Brand;
 use std::sync::ledger::{Blank, Ledger};
 use wf_decode::{Scratch, Verdict, decide};
-use wf_inputs::Viewed;
+use wf_safe::SafeView;
 use wf_vlabel::ViewLabel;
 
 /// The verdict on the labels of the pair of a number.
@@ -69,14 +69,14 @@ fn verdicts_on<L: Ledger>(
 /// Cost: those of `ViewLabel::build`, and of one `decide` for each pair.
 pub(crate) fn verdicts_of(
     alloc: Global,
-    v: &Viewed,
+    v: &SafeView<'_>,
     labels: &PairLabels,
 ) -> Result<Vec<Verdict>, AllocError>
-    requires held { (ls : List Label) × (ps : List (ℕ × ℕ)) × AreHeldPairs v.now.spec.grammar.core ls ps labels.now }
-    ensures { IfOk result (λ vs. (ls : List Label) (ps : List (ℕ × ℕ)) → AreHeldPairs v.now.spec.grammar.core ls ps labels.now
-        → AreVerdicts v.now.spec.grammar.core v.now.view.core ls ps vs.items) }
+    requires held { (ls : List Label) × (ps : List (ℕ × ℕ)) × AreHeldPairs v.now.accepted.grammar.core ls ps labels.now }
+    ensures { IfOk result (λ vs. (ls : List Label) (ps : List (ℕ × ℕ)) → AreHeldPairs v.now.accepted.grammar.core ls ps labels.now
+        → AreVerdicts v.now.accepted.grammar.core v.now.view.core ls ps vs.items) }
 {
-    let label = ViewLabel::build(alloc, v.linear(), v.view(), v.full())?;
+    let label = ViewLabel::build(alloc, v)?;
     let mut scratch = Scratch::for_view(alloc, &label)?;
     verdicts_on::<Brand>(Blank::new(1), alloc, &label, &mut scratch, labels)
 }

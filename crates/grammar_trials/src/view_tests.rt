@@ -8,7 +8,7 @@ use std::test::Fail;
 use wf_json::read_view;
 use wf_samples::{TWISTING, grammar, view};
 use wf_spec::Grammar;
-use wf_view::{View, ViewFault, ViewSpot, rows_fit};
+use wf_view::{GrammarView, View, ViewFault, ViewSpot, rows_fit};
 
 /// S, A, B, Q and R have no ports, and C and N have the inputs a and b and the outputs c and d. An S is done by an A and a B, an A by a Q, a B by an R, and a C by an N, with a link from each port to that of the same name. The output d of N depends on both inputs, and c on none.
 const LETTERS: &str =
@@ -166,20 +166,17 @@ const UNFIT: [(&[bool], &[&[u64]]); 7] = [
 /// Of these letters, those of the modules that a view expands, and of those that it lets be seen.
 fn expanded_and_seen(
     alloc: Global,
-    g: &Grammar,
-    v: &View,
+    sight: GrammarView<'_>,
     letters: &[u8],
-) -> Result<(Vec<u8>, Vec<u8>), AllocError>
-    requires { IsHeldFor g.now.core v.now }
-{
+) -> Result<(Vec<u8>, Vec<u8>), AllocError> {
     let mut expanded = Vec::new(alloc);
     let mut seen = Vec::new(alloc);
     for letter in letters {
-        if let Some(m) = g.find(&[*letter]) {
-            if v.expanded(m) {
+        if let Some(m) = sight.grammar.find(&[*letter]) {
+            if sight.view.expanded(m) {
                 expanded.push(*letter)?;
             }
-            if v.seen(m) {
+            if sight.view.seen(m) {
                 seen.push(*letter)?;
             }
         }
@@ -196,27 +193,33 @@ fn has_letters(
     seen: &str,
 ) -> Result<bool, Fail> {
     let v = view(alloc, g, text)?;
-    let letters = expanded_and_seen(alloc, g, &v, b"SABQRCN")?;
+    let sight = GrammarView {
+        grammar: g,
+        view: &v,
+    };
+    let letters = expanded_and_seen(alloc, sight, b"SABQRCN")?;
     Ok(letters.0.as_slice() == expanded.as_bytes() && letters.1.as_slice() == seen.as_bytes())
 }
 
 /// The rows that a view shows of a module; none of one that it expands.
-fn rows_of<'a>(g: &Grammar, v: &'a View, name: &[u8]) -> &'a [u64]
-    requires { IsHeldFor g.now.core v.now }
-{
-    let Some(m) = g.find(name) else {
+fn rows_of<'a>(sight: GrammarView<'a>, name: &[u8]) -> &'a [u64] {
+    let Some(m) = sight.grammar.find(name) else {
         return &[];
     };
-    if v.expanded(m) {
+    if sight.view.expanded(m) {
         return &[];
     }
-    v.shown_rows(m)
+    sight.view.shown_rows(m)
 }
 
 /// Whether a view shows these rows of C and of N.
 fn shows(alloc: Global, g: &Grammar, text: &str, of_c: &[u64], of_n: &[u64]) -> Result<bool, Fail> {
     let v = view(alloc, g, text)?;
-    Ok(rows_of(g, &v, b"C") == of_c && rows_of(g, &v, b"N") == of_n)
+    let sight = GrammarView {
+        grammar: g,
+        view: &v,
+    };
+    Ok(rows_of(sight, b"C") == of_c && rows_of(sight, b"N") == of_n)
 }
 
 /// Whether a text describes no view, for this fault.
@@ -261,11 +264,9 @@ fn made(alloc: Global, g: &Grammar, flags: &[bool], rows: &[&[u64]]) -> Result<B
 }
 
 /// Whether a view shows these rows of the modules S, L, W and T.
-fn has_rows(g: &Grammar, v: &View, rows: &[&[u64]]) -> bool
-    requires { IsHeldFor g.now.core v.now }
-{
+fn has_rows(sight: GrammarView<'_>, rows: &[&[u64]]) -> bool {
     for (letter, list) in b"SLWT".iter().zip(rows) {
-        if rows_of(g, v, &[*letter]) != *list {
+        if rows_of(sight, &[*letter]) != *list {
             return false;
         }
     }
@@ -282,11 +283,15 @@ fn is_made(
     seen: &str,
 ) -> Result<bool, Fail> {
     let v = made(alloc, g, flags, rows)?;
-    let letters = expanded_and_seen(alloc, g, &v, b"SLWT")?;
+    let sight = GrammarView {
+        grammar: g,
+        view: &v,
+    };
+    let letters = expanded_and_seen(alloc, sight, b"SLWT")?;
     Ok(
         letters.0.as_slice() == expanded.as_bytes()
             && letters.1.as_slice() == seen.as_bytes()
-            && has_rows(g, &v, rows),
+            && has_rows(sight, rows),
     )
 }
 

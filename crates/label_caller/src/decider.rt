@@ -5,8 +5,6 @@ ghost use Rattle.wf_model.specs.Proper.{IsProper};
 ghost use Rattle.wf_model.specs.View.{View as ViewSeen};
 ghost use Rattle.label_model.specs.Files.{Entry};
 ghost use Rattle.wf_json.specs.Digests.{digests_of};
-ghost use Rattle.wf_view.specs.Held.{IsHeldFor};
-ghost use Rattle.wf_safe.specs.Full.{AreFullRows};
 ghost use Rattle.wf_vlabel.specs.Seen.{IsLabelOfView};
 ghost use Rattle.wf_decode.specs.Reading.{most_legs};
 ghost use Rattle.label_file.specs.Stored.{AreHeldOf, IsStoreFault, IsStoreFor};
@@ -19,23 +17,21 @@ use label_file::{Store, StoreFault};
 use std::alloc::Global;
 use std::marker::{Brand, Model};
 use std::sync::ledger::{Blank, Ledger};
-use wf_accept::Accepted;
 use wf_decode::Scratch;
 use wf_json::digests;
 use wf_query::{Answer, Query, answer};
-use wf_safe::FullDeps;
-use wf_view::View;
+use wf_safe::SafeView;
 use wf_vlabel::ViewLabel;
 
 /// A label file that was opened, with the label of a view and room for decisions.
 #[derive(Drop)]
-pub struct Decider<'a> {
-    store: Store<'a>,
-    label: ViewLabel<'a>,
+pub struct Decider<'b, 'g> {
+    store: Store<'b>,
+    label: ViewLabel<'g>,
     scratch: Scratch,
 }
 
-impl<'a> Model for Decider<'a> {
+impl<'b, 'g> Model for Decider<'b, 'g> {
     ghost use Rattle.label_caller.specs.Opened.{DeciderSeen, IsReady};
 
     ghost Value = { DeciderSeen };
@@ -66,8 +62,8 @@ fn answer_counted<L: Ledger>(
     answer(store, label, scratch, query, &mut steps)
 }
 
-impl<'a> Decider<'a> {
-    /// Opens a label file of an accepted grammar, or of an earlier version of it, under a safe view of the grammar. `full` has the pairs that each expansion of a seen module joins.
+impl<'b, 'g> Decider<'b, 'g> {
+    /// Opens a label file of an accepted grammar, or of an earlier version of it, under a safe view of the grammar.
     ///
     /// A grammar is accepted only if its versions keep their cycles. Without that the label file of a version could be read under cycles that it was not written with, and questions would be answered wrongly.
     ///
@@ -76,20 +72,16 @@ impl<'a> Decider<'a> {
     /// Cost: those of `digests`, `Store::open` and `ViewLabel::build`.
     pub fn open(
         alloc: Global,
-        accepted: &'a Accepted,
-        view: &View,
-        full: &FullDeps,
-        bytes: &'a [u8],
-    ) -> Result<Decider<'a>, StoreFault>
-        requires view { IsHeldFor accepted.now.grammar.core view.now }
-        requires full { AreFullRows accepted.now.grammar.core view.now.core full.now }
-        requires few { length bytes.now ≤ 2 ^ 30 }
-        ensures opened { IfOk result (λ d. IsOpened accepted.now.grammar view.now.core bytes.now d) }
-        ensures refused { IfErr result (λ f. IsStoreFault accepted.now.grammar.core (digests_of accepted.now.grammar) bytes.now f) }
+        safe: &SafeView<'g>,
+        bytes: &'b [u8],
+    ) -> Result<Decider<'b, 'g>, StoreFault>
+        requires { length bytes.now ≤ 2 ^ 30 }
+        ensures opened { IfOk result (λ d. IsOpened safe.now.accepted.grammar safe.now.view.core bytes.now d) }
+        ensures refused { IfErr result (λ f. IsStoreFault safe.now.accepted.grammar.core (digests_of safe.now.accepted.grammar) bytes.now f) }
     {
-        let linear = accepted.linear();
+        let linear = safe.linear();
         let store = Store::open(alloc, linear, &digests(alloc, linear.grammar)?, bytes)?;
-        let label = ViewLabel::build(alloc, linear, view, full)?;
+        let label = ViewLabel::build(alloc, safe)?;
         let scratch = Scratch::for_view(alloc, &label)?;
         Ok(Decider {
             store,

@@ -3,3 +3,4 @@ pub mod Layout
 pub mod Keys
 pub mod Hashed
 pub mod Adding
+pub mod FaultText

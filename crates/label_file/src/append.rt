@@ -1,5 +1,5 @@
 // The parts of a label file, appended to bytes.
-ghost use Rattle.std.specs.Prelude.{◌≡◌, ◌+◌, ◌/◌, ◌%◌, ◌<◌, ◌≤◌, [], ◌∷◌, ◌++◌, length, take, vec_len, vec_capacity, OnOk, OnErr};
+ghost use Rattle.std.specs.Prelude.{◌≡◌, ◌+◌, ◌/◌, ◌%◌, ◌<◌, ◌≤◌, [], ◌∷◌, ◌++◌, length, vec_len, vec_capacity, OnOk, OnErr};
 ghost use Rattle.wf_model.specs.Items.{dotted};
 ghost use Rattle.label_model.specs.Files.{entry_bytes, head_bytes};
 
@@ -7,26 +7,14 @@ use std::alloc::AllocError;
 
 /// Appends the head of a label file: the four letters `WFL1` and the digest of a grammar.
 ///
-/// The only error is that memory is refused, and then nothing is appended.
+/// The only error is that memory is refused, and then nothing is appended. Memory for the head is taken at once.
 pub fn append_head(digest: &[u8; 32], to: &mut Vec<u8>) -> Result<(), AllocError>
     ensures head { OnOk result (to.new.items ≡ to.old.items ++ head_bytes digest.now) }
     ensures err { OnErr result (to.new.items ≡ to.old.items) }
 {
-    let before = to.len();
-    to.extend_from_slice(b"WFL1")?;
-    append_part(digest, before, to)
-}
-
-/// Appends a part of what began at a place. After an error all of it is gone.
-fn append_part(part: &[u8], begun: usize, to: &mut Vec<u8>) -> Result<(), AllocError>
-    requires { begun ≤ length to.old.items }
-    ensures ok { OnOk result (to.new.items ≡ to.old.items ++ part.now) }
-    ensures err { OnErr result (to.new.items ≡ take begun to.old.items) }
-{
-    if let Err(fault) = to.extend_from_slice(part) {
-        to.truncate(begun);
-        return Err(fault);
-    }
+    to.reserve(36)?;
+    put(b"WFL1", to);
+    put(digest, to);
     Ok(())
 }
 

@@ -4,6 +4,13 @@ ghost use Rattle.label_file.specs.declared.fault.StoreFault.TheVariants.{NoMemor
 
 use std::alloc::AllocError;
 
+/// The place in a label file that a fault is about: an offset in bytes, or an entry by its number, both from 0.
+#[derive(Clone, Copy, Debug, PartialEq, Eq)]
+pub enum StoreSpot {
+    Offset(u64),
+    Entry(u32),
+}
+
 /// Why bytes are refused as a label file, in the order of trial: the head first, and then entry by entry. Want of memory may come at any place.
 #[derive(Clone, Copy, Debug, PartialEq, Eq)]
 pub enum StoreFault {

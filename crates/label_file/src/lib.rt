@@ -3,6 +3,7 @@
 
 mod append;
 mod fault;
+mod fault_text;
 mod front;
 mod head;
 mod held;
@@ -10,5 +11,5 @@ mod key;
 mod store;
 
 pub use append::{append_entry, append_head, append_item};
-pub use fault::StoreFault;
+pub use fault::{StoreFault, StoreSpot};
 pub use store::Store;

@@ -11,7 +11,7 @@ use std::alloc::{AllocError, Global};
 use std::test::Fail;
 use wf_body::{between, between_all, induced, into_position, out_of_position};
 use wf_safe::FullDeps;
-use wf_samples::{TWISTING, full, sample, view};
+use wf_samples::{TWISTING, safe, sample};
 use wf_spec::{Deps, Grammar, PosNo, ProdNo, Step};
 use wf_view::View;
 
@@ -89,13 +89,12 @@ fn are_rows(pool: &MatPool, wanted: &[&[u64]]) -> bool {
 /// Whether the matrices of the second production have these rows.
 fn are_pushed(alloc: Global, wanted: &[&[u64]]) -> Result<bool, Fail> {
     let s = sample(alloc, TWISTING)?;
-    let view = view(alloc, s.grammar(), "{}")?;
-    let full = full(alloc, &s, &view)?;
+    let safe = safe(alloc, &s, "{}")?;
     let mut pool = MatPool::new(alloc);
-    let Some(deps) = pairs(s.grammar(), &view, &full) else {
+    let Some(deps) = pairs(safe.grammar(), safe.view(), safe.full()) else {
         return Err(Fail::new("a second production of three positions"));
     };
-    push_all(alloc, s.grammar(), deps, &mut pool)?;
+    push_all(alloc, safe.grammar(), deps, &mut pool)?;
     Ok(are_rows(&pool, wanted))
 }
 

@@ -6,7 +6,7 @@ use label_file::StoreFault;
 use std::alloc::Global;
 use std::test::Fail;
 use wf_query::Answer;
-use wf_samples::{FORKING, LINE, PAIR, full, sample, view};
+use wf_samples::{FORKING, LINE, PAIR, safe, sample};
 
 /// The label file of examples/line.
 const OF_LINE: &[u8] =
@@ -82,9 +82,8 @@ fn answers(
         return Err(Fail::new("a short label file"));
     }
     let s = sample(alloc, spec)?;
-    let view = view(alloc, s.grammar(), text)?;
-    let full = full(alloc, &s, &view)?;
-    let mut decider = Decider::open(alloc, &s, &view, &full, bytes)?;
+    let safe = safe(alloc, &s, text)?;
+    let mut decider = Decider::open(alloc, &safe, bytes)?;
     for (first, second, answer) in pairs {
         if decider.decide(first, second) != *answer {
             return Ok(false);
@@ -98,9 +97,8 @@ fn fault(alloc: Global, spec: &str, bytes: &[u8]) -> Result<Option<StoreFault>, 
     requires { length bytes.now ≤ 2 ^ 30 }
 {
     let s = sample(alloc, spec)?;
-    let view = view(alloc, s.grammar(), "{}")?;
-    let full = full(alloc, &s, &view)?;
-    match Decider::open(alloc, &s, &view, &full, bytes) {
+    let safe = safe(alloc, &s, "{}")?;
+    match Decider::open(alloc, &safe, bytes) {
         Ok(_) => Ok(None),
         Err(fault) => Ok(Some(fault)),
     }

@@ -6,6 +6,8 @@ mod body_tests;
 #[cfg(test)]
 mod caller_tests;
 #[cfg(test)]
+mod entry_tests;
+#[cfg(test)]
 mod events;
 #[cfg(test)]
 mod label_bits_tests;
@@ -21,7 +23,5 @@ mod safe_tests;
 mod store_tests;
 #[cfg(test)]
 mod view_label_tests;
-#[cfg(test)]
-mod viewed;
 #[cfg(test)]
 mod witness_tests;

@@ -9,8 +9,8 @@ use bumpalo::Bump;
 use std::alloc::{AllocError, Global};
 use std::test::Fail;
 use wf_accept::Accepted;
-use wf_flat::{Flat, Item, PlainRun, Port, find_item};
-use wf_samples::{LINE, LOOP, full, sample, view};
+use wf_flat::{Flat, Item, Link, PlainRun, Port, find_item};
+use wf_samples::{LINE, LOOP, safe, sample};
 use wf_spec::RunFault::{
     AlreadyExpanded, NameBad, NameTwice, NotStarted, PositionsWrong, StartedTwice,
     TooManyInstances, UnknownInstance, UnknownProduction, WrongHead,
@@ -146,6 +146,29 @@ const EDGE_TO: Port = Port {
     side: Side::Input,
     port: PortNo(0),
 };
+
+/// The input of the P.
+const INTO_FIRST: Port = Port {
+    instance: 1,
+    side: Side::Input,
+    port: PortNo(0),
+};
+
+/// The output of the Q.
+const OUT_OF_LAST: Port = Port {
+    instance: 2,
+    side: Side::Output,
+    port: PortNo(0),
+};
+
+/// The links of the whole run where all is shown: the edge, the entry and the exit of the root's production, and the pairs of the P and of the Q.
+const LINKS: [(Port, Port); 5] = [
+    (EDGE_FROM, EDGE_TO),
+    (ROOT_INPUT, INTO_FIRST),
+    (OUT_OF_LAST, ROOT_OUTPUT),
+    (INTO_FIRST, EDGE_FROM),
+    (EDGE_TO, OUT_OF_LAST),
+];
 
 /// The item of the edge.
 const INNER: Item = Item {
@@ -284,9 +307,14 @@ fn told_by_view(
 ) -> Result<(bool, [bool; 5]), Fail>
     requires run { IsTableOf s.now.grammar.core run.now }
 {
-    let view = view(alloc, s.grammar(), text)?;
-    let full = full(alloc, s, &view)?;
-    let mut flat = Flat::of(alloc, s.grammar(), run, view.marks(), full.deps())?;
+    let safe = safe(alloc, s, text)?;
+    let mut flat = Flat::of(
+        alloc,
+        safe.grammar(),
+        run,
+        safe.view().marks(),
+        safe.full().deps(),
+    )?;
     let is_shown = flat.shows(&INNER);
     Ok((is_shown, joined(&mut flat)?))
 }
@@ -303,5 +331,39 @@ fn views_show_items_and_join_ports(rt: HostRuntime) -> Result<(), Fail> {
     for (text, is_shown, joined) in VIEWS {
         assert!(rt; shows(rt.alloc(), text, is_shown, joined)?, "at {text}");
     }
+    Ok(())
+}
+
+/// Whether the links are these, in this order.
+fn are_links(links: &[Link], wanted: &[(Port, Port)]) -> bool {
+    if links.len() != wanted.len() {
+        return false;
+    }
+    for (link, &(from, to)) in links.iter().zip(wanted) {
+        if link.from != from || link.to != to {
+            return false;
+        }
+    }
+    true
+}
+
+/// Whether these are the links of the whole run of the line grammar where all is shown.
+fn is_linked(alloc: Global, wanted: &[(Port, Port)]) -> Result<bool, Fail> {
+    let s = sample(alloc, LINE)?;
+    let run = table(alloc, s.grammar(), 3, WHOLE)?;
+    let safe = safe(alloc, &s, "{}")?;
+    let flat = Flat::of(
+        alloc,
+        safe.grammar(),
+        &run,
+        safe.view().marks(),
+        safe.full().deps(),
+    )?;
+    Ok(are_links(flat.links(), wanted))
+}
+
+#[test]
+fn links_are_lent_in_order(rt: HostRuntime) -> Result<(), Fail> {
+    assert!(rt; is_linked(rt.alloc(), &LINKS)?);
     Ok(())
 }

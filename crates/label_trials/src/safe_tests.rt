@@ -1,16 +1,15 @@
 // Full assignments of safe views, and the witnesses of views that are not safe, worked by hand.
 ghost use Rattle.wf_model.specs.Proper.{IsProper};
 ghost use Rattle.wf_check.specs.Proper.{IsRankingOf};
-ghost use Rattle.wf_safe.specs.Full.{AreFullRows};
 ghost use Rattle.wf_view.specs.Held.{IsHeldFor};
 
 use std::alloc::Global;
 use std::test::Fail;
 use wf_accept::Accepted;
-use wf_safe::{Choice, FullDeps, SafeFault, Witness, full_deps};
-use wf_samples::{TWISTING, full, sample, view};
-use wf_spec::{Grammar, ModNo};
-use wf_view::View;
+use wf_safe::{Choice, SafeFault, SafeView, Witness, full_deps};
+use wf_samples::{TWISTING, safe, sample, view};
+use wf_spec::ModNo;
+use wf_view::{GrammarView, View};
 
 /// An S is done by an L, and an L by a W and an L behind it, or by a T. W exchanges its two ports, T keeps them.
 pub const SKEWED: &str =
@@ -67,34 +66,32 @@ const UNSAFE: [(&str, &str, Told); 2] = [
 ];
 
 /// The rows of a module, and none where it is not seen.
-fn rows_if_seen<'a>(g: &Grammar, view: &View, full: &'a FullDeps, m: ModNo) -> &'a [u64]
-    requires view { IsHeldFor g.now.core view.now }
-    requires full { AreFullRows g.now.core view.now.core full.now }
-{
-    if m.0 as usize >= g.modules().len() || !view.seen(m) {
+fn rows_if_seen<'a>(safe: &'a SafeView<'_>, m: ModNo) -> &'a [u64] {
+    if m.0 as usize >= safe.grammar().modules().len() || !safe.view().seen(m) {
         return &[];
     }
-    full.rows(m)
+    safe.full().rows(m)
 }
 
 /// Whether the modules, in order, have these rows, and none where they are not seen.
-fn has_rows(g: &Grammar, view: &View, full: &FullDeps, wanted: &[&[u64]]) -> bool
-    requires view { IsHeldFor g.now.core view.now }
-    requires full { AreFullRows g.now.core view.now.core full.now }
-{
+fn has_rows(safe: &SafeView<'_>, wanted: &[&[u64]]) -> bool {
     for (m, rows) in [0u16, 1, 2, 3, 4].iter().zip(wanted) {
-        if rows_if_seen(g, view, full, ModNo(*m)) != *rows {
+        if rows_if_seen(safe, ModNo(*m)) != *rows {
             return false;
         }
     }
-    g.modules().len() == wanted.len()
+    safe.grammar().modules().len() == wanted.len()
 }
 
 /// The witness that a view is not safe.
 pub fn witness(alloc: Global, s: &Accepted, view: &View) -> Result<Witness, Fail>
     requires view { IsHeldFor s.now.grammar.core view.now }
 {
-    match full_deps(alloc, s.grammar(), s.ranking(), view) {
+    let sight = GrammarView {
+        grammar: s.grammar(),
+        view,
+    };
+    match full_deps(alloc, sight, s.ranking()) {
         Err(SafeFault::Unsafe { witness }) => Ok(witness),
         _ => Err(Fail::new("a view that is not safe")),
     }
@@ -118,9 +115,8 @@ fn is_told(w: &Witness, (productions, pair, choice): Told) -> bool {
 /// Whether a view of the grammar of a text is safe, with these rows of its modules in order.
 fn is_safe_with(alloc: Global, text: &str, expanded: &str, rows: &[&[u64]]) -> Result<bool, Fail> {
     let s = sample(alloc, text)?;
-    let v = view(alloc, s.grammar(), expanded)?;
-    let full = full(alloc, &s, &v)?;
-    Ok(has_rows(s.grammar(), &v, &full, rows))
+    let safe = safe(alloc, &s, expanded)?;
+    Ok(has_rows(&safe, rows))
 }
 
 /// Whether a view of the grammar of a text is not safe, with this witness.

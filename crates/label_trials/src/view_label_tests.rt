@@ -4,12 +4,12 @@ ghost use Rattle.wf_body.specs.Matrices.{step_of};
 ghost use Rattle.wf_view.specs.Held.{IsHeldFor};
 ghost use Rattle.wf_vlabel.specs.Seen.{IsLabelOfView, Opens};
 
-use crate::viewed::{Viewed, viewed_by};
 use std::alloc::Global;
 use std::test::Fail;
 use wf_recur::CycleNo;
-use wf_samples::{PAIR, TWISTING, sample};
+use wf_samples::{PAIR, TWISTING, safe, sample};
 use wf_spec::{PosNo, ProdNo, Step};
+use wf_view::View;
 use wf_vlabel::ViewLabel;
 
 const KEPT: &[u64] = &[1, 2];
@@ -84,61 +84,58 @@ fn step(at: (u16, u8)) -> Step {
 }
 
 /// The rows of the pairs of a module; none of a module that is not seen.
-fn full_rows<'v>(v: &'v Viewed<'_>, name: &[u8]) -> &'v [u64]
-    requires held { IsHeldFor v.now.label.grammar v.now.view }
-    requires label { IsLabelOfView v.now.label v.now.view.core }
+fn full_rows<'v>(view: &View, label: &'v ViewLabel<'_>, name: &[u8]) -> &'v [u64]
+    requires held { IsHeldFor label.now.grammar view.now }
+    requires label { IsLabelOfView label.now view.now.core }
 {
-    let Some(m) = v.label.grammar().find(name) else {
+    let Some(m) = label.grammar().find(name) else {
         return HIDDEN;
     };
-    if !v.view.seen(m) {
+    if !view.seen(m) {
         return HIDDEN;
     }
-    v.label.full(m).rows
+    label.full(m).rows
 }
 
 /// Whether a step leaves a module that is seen and expanded.
-fn is_open(v: &Viewed<'_>, s: Step) -> bool
-    requires held { IsHeldFor v.now.label.grammar v.now.view }
-    requires label { IsLabelOfView v.now.label v.now.view.core }
-    ensures { IsTrue result → Opens v.now.label (step_of s) }
+fn is_open(view: &View, label: &ViewLabel<'_>, s: Step) -> bool
+    requires held { IsHeldFor label.now.grammar view.now }
+    requires label { IsLabelOfView label.now view.now.core }
+    ensures { IsTrue result → Opens label.now (step_of s) }
 {
-    let g = v.label.grammar();
+    let g = label.grammar();
     if s.production.0 as usize >= g.productions().len() {
         return false;
     }
     let rule = g.production(s.production);
     let head = rule.head();
-    (s.position.0 as usize) < rule.positions().len() && v.view.seen(head) && v.view.expanded(head)
+    (s.position.0 as usize) < rule.positions().len() && view.seen(head) && view.expanded(head)
 }
 
 /// The rows of the way in and of the way out of a step; none of a step that the view does not show.
-fn way_rows<'v>(v: &'v Viewed<'_>, s: Step) -> (&'v [u64], &'v [u64])
-    requires held { IsHeldFor v.now.label.grammar v.now.view }
-    requires label { IsLabelOfView v.now.label v.now.view.core }
+fn way_rows<'v>(view: &View, label: &'v ViewLabel<'_>, s: Step) -> (&'v [u64], &'v [u64])
+    requires held { IsHeldFor label.now.grammar view.now }
+    requires label { IsLabelOfView label.now view.now.core }
 {
-    if !is_open(v, s) {
+    if !is_open(view, label, s) {
         return (HIDDEN, HIDDEN);
     }
-    (
-        v.label.into_position(s).rows,
-        v.label.out_of_position(s).rows,
-    )
+    (label.into_position(s).rows, label.out_of_position(s).rows)
 }
 
 /// The rows of the matrix from a position to another; none where the view does not show their body.
-fn between_rows<'v>(v: &'v Viewed<'_>, s: Step, to: PosNo) -> &'v [u64]
-    requires held { IsHeldFor v.now.label.grammar v.now.view }
-    requires label { IsLabelOfView v.now.label v.now.view.core }
+fn between_rows<'v>(view: &View, label: &'v ViewLabel<'_>, s: Step, to: PosNo) -> &'v [u64]
+    requires held { IsHeldFor label.now.grammar view.now }
+    requires label { IsLabelOfView label.now view.now.core }
 {
     let other = Step {
         production: s.production,
         position: to,
     };
-    if !is_open(v, s) || !is_open(v, other) {
+    if !is_open(view, label, s) || !is_open(view, label, other) {
         return HIDDEN;
     }
-    v.label.between(s, to).rows
+    label.between(s, to).rows
 }
 
 /// How many continuing steps lead from a place of the first cycle to the first module that is not expanded.
@@ -159,8 +156,9 @@ fn has_full(
     want: &[u64],
 ) -> Result<bool, Fail> {
     let s = sample(alloc, spec)?;
-    let v = viewed_by(alloc, &s, view)?;
-    Ok(full_rows(&v, module.as_bytes()) == want)
+    let safe = safe(alloc, &s, view)?;
+    let label = ViewLabel::build(alloc, &safe)?;
+    Ok(full_rows(safe.view(), &label, module.as_bytes()) == want)
 }
 
 /// Whether these are the rows of the way in and of the way out of a step.
@@ -173,8 +171,9 @@ fn has_ways(
     out: &[u64],
 ) -> Result<bool, Fail> {
     let sample = sample(alloc, spec)?;
-    let v = viewed_by(alloc, &sample, view)?;
-    let ways = way_rows(&v, s);
+    let safe = safe(alloc, &sample, view)?;
+    let label = ViewLabel::build(alloc, &safe)?;
+    let ways = way_rows(safe.view(), &label, s);
     Ok(ways.0 == into && ways.1 == out)
 }
 
@@ -188,8 +187,9 @@ fn has_between(
     want: &[u64],
 ) -> Result<bool, Fail> {
     let sample = sample(alloc, spec)?;
-    let v = viewed_by(alloc, &sample, view)?;
-    Ok(between_rows(&v, s, to) == want)
+    let safe = safe(alloc, &sample, view)?;
+    let label = ViewLabel::build(alloc, &safe)?;
+    Ok(between_rows(safe.view(), &label, s, to) == want)
 }
 
 /// Whether so many continuing steps lead from a place of the first cycle of a grammar to the first module that a view does not expand.
@@ -201,8 +201,9 @@ fn is_cut(
     want: Option<u32>,
 ) -> Result<bool, Fail> {
     let s = sample(alloc, spec)?;
-    let v = viewed_by(alloc, &s, view)?;
-    Ok(cut_at(&v.label, place)? == want)
+    let safe = safe(alloc, &s, view)?;
+    let label = ViewLabel::build(alloc, &safe)?;
+    Ok(cut_at(&label, place)? == want)
 }
 
 #[test]

@@ -5,6 +5,7 @@ use std::test::Fail;
 use wf_safe::{Choice, Witness, check_witness};
 use wf_samples::{grammar, sample, view};
 use wf_spec::{ModNo, PortNo, ProdNo, Seq};
+use wf_view::GrammarView;
 
 /// An S is done by an L, an L by a W and an L behind it, or by a W, and a W by a T or by a U. T keeps its two ports. U does too, and also leads its second input to its first output.
 const CIRCLING: &str =
@@ -77,7 +78,11 @@ fn is_true(
     let g = grammar(alloc, CIRCLING)?;
     let v = view(alloc, &g, r#"{"expand":["S","L","W"]}"#)?;
     let w = made(alloc, choice, productions, pair)?;
-    Ok(check_witness(alloc, &g, &v, &w)?)
+    let sight = GrammarView {
+        grammar: &g,
+        view: &v,
+    };
+    Ok(check_witness(alloc, sight, &w)?)
 }
 
 #[test]
@@ -96,9 +101,13 @@ fn told_and_changed(alloc: Global) -> Result<(bool, bool), Fail> {
     let s = sample(alloc, SKEWED)?;
     let v = view(alloc, s.grammar(), S_AND_L)?;
     let mut w = witness(alloc, &s, &v)?;
-    let told = check_witness(alloc, s.grammar(), &v, &w)?;
+    let sight = GrammarView {
+        grammar: s.grammar(),
+        view: &v,
+    };
+    let told = check_witness(alloc, sight, &w)?;
     w.joined_by_one = !w.joined_by_one;
-    let changed = check_witness(alloc, s.grammar(), &v, &w)?;
+    let changed = check_witness(alloc, sight, &w)?;
     Ok((told, changed))
 }
 

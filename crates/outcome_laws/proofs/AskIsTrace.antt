@@ -5,19 +5,19 @@ use Rattle.wf_spec.specs.Held.{HeldGrammar}
 use Rattle.wf_io.specs.Told.{File}
 use Rattle.wf_message.specs.Endings.{End}
 use Rattle.wf_stage.specs.Stages.{OfWhole, IsTold, Holds}
+use Rattle.wf_stage.specs.Outcomes.{AreSame}
 use Rattle.wf_stage.proofs.TwoStages.{same_outcome}
 use Rattle.wf_inputs.specs.Inputs.{spec_kind, view_kind, labels_kind, ViewStage}
 use Rattle.wf_inputs.specs.Specification.{TellsGrammar}
 use Rattle.wf_inputs.specs.ViewTold.{TellsView, RefusesView}
+use Rattle.wf_inputs.proofs.GoodFiles.{spec_goes_on}
 use Rattle.wf_inputs.proofs.ToldGrammars.{told_formed}
 use Rattle.wf_inputs.proofs.OneValue.{one_grammar, one_view}
 use Rattle.wf_inputs.proofs.OneViewFault.{one_refusal_of_view, no_refusal_of_view}
 use Rattle.cmd_ask.specs.Does.{AnswersRun, AnswersView, AnswersLabels, Traces, Asks}
 use Rattle.cmd_ingest.specs.Ingested.{file_of}
 use Rattle.outcome_laws.specs.Laws.{IsOneOf, AskIsTraceLaw}
-use Rattle.outcome_laws.proofs.OneStages.{AreSame}
 use Rattle.outcome_laws.proofs.SafelyViewed.{told_safely}
-use Rattle.outcome_laws.proofs.GoodCalls.{spec_goes_on}
 use Rattle.outcome_laws.proofs.AllIngested.{IsIngested, all_ingested}
 use Rattle.outcome_laws.proofs.LabelsAnswer.{answers_agree}
 

@@ -4,6 +4,7 @@ use Rattle.std.specs.Prelude.{◌||◌, ◌&&◌}
 use Rattle.std.proofs.Math.Seq.{take-append-add}
 use Rattle.std.proofs.lemmas.Bool.{lt-ltb, ltb-true, ltb-false}
 use Rattle.std.proofs.lemmas.List.{take_all, take-append-le}
+use Rattle.wf_io.specs.declared.limits.TheConstants.{LINE_MOST}
 use Rattle.wf_io.specs.Told.{File}
 use Rattle.wf_io.specs.Lines.{Line, put_first, parts_of, is_too_long, is_given, with_line, lines_from, tail_of, text_of, is_at_end, last_number, lines_within, lines_in}
 use Rattle.wf_io.proofs.Cutting.{some_part}
@@ -56,7 +57,7 @@ one_before false k raw ls ms on = on
 
 -- what is too long stays so with more bytes behind it
 stays_long : (raw more : List ℕ) → is_too_long raw ≡ true → is_too_long (raw ++ more) ≡ true
-stays_long raw more long = let n = length-append raw more in let l = ltb-true 65536 (length raw) long in lt-ltb 65536 (length (raw ++ more)) (omega arith)
+stays_long raw more long = let n = length-append raw more in let l = ltb-true LINE_MOST (length raw) long in lt-ltb LINE_MOST (length (raw ++ more)) (omega arith)
 
 -- the line of a last part that no newline ends is too long, and so it is where the part goes on
 last_grows : (ended : Bool) (k : ℕ) (last rest : List ℕ) (others : List (List ℕ)) → GoOnFrom (lines_from false k (last ∷ [])) (lines_from ended k ((last ++ rest) ∷ others))

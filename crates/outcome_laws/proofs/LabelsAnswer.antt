@@ -13,6 +13,7 @@ use Rattle.wf_query.specs.Answers.{IsAnswerText}
 use Rattle.wf_query.proofs.AnsweredLines.{answered_too}
 use Rattle.wf_message.specs.Endings.{End}
 use Rattle.wf_stage.specs.Stages.{goes_on, OfWhole, IsTold, Holds}
+use Rattle.wf_stage.specs.Outcomes.{AreSame}
 use Rattle.wf_stage.proofs.TwoStages.{stage_goes_on}
 use Rattle.wf_inputs.specs.Inputs.{labels_kind, instance_most}
 use Rattle.wf_inputs.specs.RunTold.{TellsEvents, goes_on as goes_on_with}
@@ -20,11 +21,12 @@ use Rattle.wf_inputs.specs.LabelsTold.{TellsEntries, RefusesLabels}
 use Rattle.wf_inputs.proofs.OneRun.{events_accepted, events_goes_on}
 use Rattle.wf_inputs.proofs.OneLabels.{one_entries, no_refusal_of_labels}
 use Rattle.cmd_ask.specs.Answers.{IsAnswerOfRun}
-use Rattle.cmd_ask.specs.Does.{QueriesStage, AnswersRun, AnswersLabels}
+use Rattle.wf_asking.specs.Queries.{QueriesStage}
+use Rattle.cmd_ask.specs.Does.{AnswersRun, AnswersLabels}
+use Rattle.wf_asking.proofs.OneQueries.{one_queries_stage}
 use Rattle.cmd_ask.proofs.OneWord.{one_run_word}
 use Rattle.cmd_ingest.specs.Ingested.{file_of}
 use Rattle.outcome_laws.specs.Laws.{IsOneOf, IsViewedSafely, LabelsAnswerLaw}
-use Rattle.outcome_laws.proofs.OneStages.{AreSame, one_queries_stage}
 use Rattle.outcome_laws.proofs.OlderFiles.{told_too, file_opens}
 use Rattle.outcome_laws.proofs.LabelsTell.{labels_tell_law}
 

@@ -23,10 +23,11 @@ use Rattle.verdict_model.proofs.Clashing.{either_law, no_clash_law}
 use Rattle.verdict_model.proofs.Answering.{one_answer_induced}
 use Rattle.wf_query.specs.declared.answers.Answer.TheVariants.{Unknown}
 use Rattle.wf_query.specs.Answers.{HasEntry, answer_of, answer_text, IsAnswerText}
-use Rattle.wf_flat.specs.Shown.{is_made_open}
-use Rattle.cmd_ask.specs.Answers.{item_named, are_visible, IsVerdictOfRun, IsShown, IsAnswerFor}
+use Rattle.wf_flat.specs.Item.{item_named}
+use Rattle.wf_flat.specs.Shown.{is_made_open, are_visible}
+use Rattle.cmd_ask.specs.Answers.{IsVerdictOfRun, IsShown, IsAnswerFor}
 use Rattle.outcome_laws.specs.Laws.{LabelsTellLaw}
-use Rattle.cmd_ask.proofs.NamedItems.{IsFoundBy, found_by}
+use Rattle.wf_flat.proofs.NamedItems.{IsFoundBy, found_by}
 use Rattle.outcome_laws.proofs.LabelEntries.{entry_named, item_entry, entry_item, no_entry}
 use Rattle.outcome_laws.proofs.OlderFiles.{accepted_too, file_entries}
 

@@ -8,17 +8,10 @@ pub mod OlderFiles
 pub mod SafelyViewed
 pub mod LabelsAnswer
 pub mod LabelsTell
-pub mod OneAnswering
-pub mod OneDeciding
-pub mod OneDescription
-pub mod OneIngestion
-pub mod OneMaking
-pub mod OneStages
 pub mod OutcomeLaws
 pub mod ReorderedAnswers
 pub mod ReorderedFiles
 pub mod SameEntries
 pub mod SameInstances
 pub mod SameLines
-pub mod SomeOutcomes
 pub mod ToldRuns

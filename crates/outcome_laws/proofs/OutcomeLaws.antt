@@ -1,24 +1,32 @@
--- Words and files have one outcome at most.
-use Rattle.std.proofs.Common.{ℕ, List, Option, Some, None, sym, ◌∙◌}
+-- Words and files have an outcome, and one at most; and a good call has no end but that all is done. The families say it of their commands.
+use Rattle.std.proofs.Common.{ℕ, List, [], Option, Some, None, refl, sym, ◌∙◌}
 use Rattle.wf_io.specs.Told.{File}
-use Rattle.wf_top.specs.Words.{Command, Describe, Ingest, Ask, Decide, Make, command_of}
-use Rattle.wf_top.specs.Outcome.{Does}
-use Rattle.outcome_laws.specs.Laws.{OneOutcomeLaw}
-use Rattle.outcome_laws.proofs.OneStages.{HasOneOutcome}
-use Rattle.outcome_laws.proofs.OneDescription.{one_description}
-use Rattle.outcome_laws.proofs.OneIngestion.{one_ingestion}
-use Rattle.outcome_laws.proofs.OneAnswering.{one_answering}
-use Rattle.outcome_laws.proofs.OneDeciding.{one_deciding}
-use Rattle.outcome_laws.proofs.OneMaking.{one_making}
+use Rattle.wf_message.specs.Endings.{Usage}
+use Rattle.wf_stage.specs.Outcomes.{HasOneOutcome, HasOutcome, EndsInDone}
+use Rattle.wf_stage.specs.Families.{HaveOneOutcome, HaveOutcomes, AreDoneWhereGood}
+use Rattle.wf_top.specs.Families.{families}
+use Rattle.wf_top.specs.Outcome.{Command, command_of, Does}
+use Rattle.outcome_laws.specs.Laws.{OneOutcomeLaw, SomeOutcomeLaw}
+use Rattle.outcome_laws.specs.GoodCalls.{AreGood, GoodCallLaw}
 
--- a command has one outcome, by its family
-one_doing : (files : List ℕ → File) (c : Option Command) → HasOneOutcome (Does files c)
-one_doing files None d e t s p q = (p.0 ∙ sym q.0, p.1 ∙ sym q.1)
-one_doing files (Some (Describe c)) d e t s p q = one_description files c d e t s p q
-one_doing files (Some (Ingest c)) d e t s p q = one_ingestion files c d e t s p q
-one_doing files (Some (Ask c)) d e t s p q = one_answering files c d e t s p q
-one_doing files (Some (Decide c)) d e t s p q = one_deciding files c d e t s p q
-one_doing files (Some (Make c)) d e t s p q = one_making files c d e t s p q
+-- words that are no command have one outcome
+one_doing : HaveOneOutcome families → (files : List ℕ → File) (c : Option Command) → HasOneOutcome (Does files c)
+one_doing one files None d e t s p q = (p.0 ∙ sym q.0, p.1 ∙ sym q.1)
+one_doing one files (Some c) d e t s p q = one files c d e t s p q
 
-pub one_outcome_law : OneOutcomeLaw
-one_outcome_law files words = one_doing files (command_of words)
+pub one_outcome : HaveOneOutcome families → OneOutcomeLaw
+one_outcome one files words = one_doing one files (command_of words)
+
+some_doing : HaveOutcomes families → (files : List ℕ → File) (c : Option Command) → HasOutcome (Does files c)
+some_doing some files None = (Usage, [], (refl, refl))
+some_doing some files (Some c) = some files c
+
+pub some_outcome : HaveOutcomes families → SomeOutcomeLaw
+some_outcome some files words = some_doing some files (command_of words)
+
+good_doing : AreDoneWhereGood families → (files : List ℕ → File) (c : Option Command) → AreGood files c → EndsInDone (Does files c)
+good_doing done files None good e t h = absurd good
+good_doing done files (Some c) good e t h = done files c good e t h
+
+pub good_call : AreDoneWhereGood families → GoodCallLaw
+good_call done files words e t good h = good_doing done files (command_of words) good e t h

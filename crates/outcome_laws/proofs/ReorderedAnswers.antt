@@ -11,19 +11,22 @@ use Rattle.wf_io.specs.Told.{File}
 use Rattle.wf_io.specs.Lines.{lines_in}
 use Rattle.label_model.specs.Files.{entries_of}
 use Rattle.report_model.proofs.Reordered.{reordered_law}
+use Rattle.version_model.specs.Versions.{AreBuiltAlike}
 use Rattle.wf_query.specs.Answers.{IsAnswerText}
 use Rattle.wf_query.proofs.AnsweredLines.{answered_too}
 use Rattle.wf_message.specs.Endings.{End}
 use Rattle.wf_stage.specs.Stages.{IsTold, Holds}
+use Rattle.wf_stage.specs.Outcomes.{AreSame}
 use Rattle.wf_inputs.specs.Inputs.{labels_kind, instance_most}
 use Rattle.wf_inputs.specs.RunTold.{TellsEvents, goes_on}
 use Rattle.wf_inputs.proofs.OneRun.{events_accepted, events_goes_on}
 use Rattle.cmd_ask.specs.Answers.{IsAnswerOfRun}
-use Rattle.cmd_ask.specs.Does.{QueriesStage, AnswersRun, AnswersLabels}
+use Rattle.wf_asking.specs.Queries.{QueriesStage}
+use Rattle.cmd_ask.specs.Does.{AnswersRun, AnswersLabels}
+use Rattle.wf_asking.proofs.OneQueries.{one_queries_stage}
 use Rattle.cmd_ask.proofs.OneWord.{one_run_word}
 use Rattle.cmd_ingest.specs.Ingested.{file_of}
 use Rattle.outcome_laws.specs.Laws.{IsViewedSafely, AreAnsweredAlike, ReorderedAnswersLaw}
-use Rattle.outcome_laws.proofs.OneStages.{AreSame, one_queries_stage}
 use Rattle.outcome_laws.proofs.SameEntries.{answer_too}
 use Rattle.outcome_laws.proofs.OlderFiles.{file_opens}
 use Rattle.outcome_laws.proofs.LabelsTell.{labels_tell_law}
@@ -33,9 +36,13 @@ module _ (h : HeldGrammar) (u : View) (viewed : IsViewedSafely h u) where
   abbrev g : Grammar
   g = h.core
 
+  -- a grammar is built as it is itself
+  itself : AreBuiltAlike g g
+  itself = record { start = refl; modules = refl; productions = refl }
+
   -- a query has the words that the entries of a run answer
   by_entries : (e : List Event) → IsAccepted g instance_most e → (first second word : List ℕ) → IsAnswerText g u (entries_of g e) first second word ↔ IsAnswerOfRun g u e first second word
-  by_entries e acc = labels_tell_law h u viewed g (inl refl) e acc (entries_of g e) (file_opens h u viewed e g (inl refl) acc)
+  by_entries e acc = labels_tell_law h u viewed g (inl itself) e acc (entries_of g e) (file_opens h u viewed e g (inl itself) acc)
 
   -- a word that answers on a run answers on each run with the same events
   word_too : (e f : List Event) → IsAccepted g instance_most e → IsAccepted g instance_most f → ((x : Event) → IsIn x e ↔ IsIn x f) →
@@ -66,8 +73,8 @@ module _ (h : HeldGrammar) (u : View) (viewed : IsViewedSafely h u) where
     -- what is answered over the labels of a run is answered over its events
     over_labels : (labels others : File) → IsTold labels_kind labels Holds (file_of g e) → IsTold labels_kind others Holds (file_of g f) → (d : End) (t : List ℕ) → AnswersLabels h u labels queries d t ↔ AnswersLabels h u others queries d t
     over_labels labels others file file_too d t =
-        let first = (labels_answer_law h u viewed g (inl refl) events labels queries e run file).0 d t in
-        let second = (labels_answer_law h u viewed g (inl refl) other others queries f again file_too).0 d t in
+        let first = (labels_answer_law h u viewed g (inl itself) events labels queries e run file).0 d t in
+        let second = (labels_answer_law h u viewed g (inl itself) other others queries f again file_too).0 d t in
         let alike = over_files d t in
         (λ w. second.0 (alike.0 (first.1 w)), λ w. first.0 (alike.1 (second.1 w)))
 

@@ -12,11 +12,13 @@ use Rattle.report_model.specs.Laws.{AreTaken, AreReordered}
 use Rattle.report_model.proofs.TakenReports.{any_order_law}
 use Rattle.wf_message.specs.Endings.{End, Done}
 use Rattle.wf_stage.specs.Stages.{OfWhole, IsTold}
+use Rattle.wf_stage.specs.Outcomes.{AreSame}
 use Rattle.wf_stage.proofs.TwoStages.{same_outcome}
 use Rattle.wf_inputs.specs.Inputs.{spec_kind, view_kind, instance_most}
 use Rattle.wf_inputs.specs.Specification.{TellsGrammar}
 use Rattle.wf_inputs.specs.ViewTold.{TellsView, RefusesView}
 use Rattle.wf_inputs.specs.RunTold.{TellsEvents}
+use Rattle.wf_inputs.proofs.GoodFiles.{spec_goes_on}
 use Rattle.wf_inputs.proofs.ToldGrammars.{told_formed}
 use Rattle.wf_inputs.proofs.OneValue.{one_view}
 use Rattle.wf_inputs.proofs.OneViewFault.{one_refusal_of_view, no_refusal_of_view}
@@ -25,12 +27,9 @@ use Rattle.cmd_ask.specs.Does.{AnswersRun, AnswersView, Traces}
 use Rattle.cmd_ingest.specs.Ingested.{file_of, WritesFile}
 use Rattle.cmd_ingest.specs.Does.{Ingests}
 use Rattle.wf_top.specs.Outcome.{IsOutcome}
-use Rattle.outcome_laws.specs.Laws.{IsOlder, ReportsThese, HoldsIngested, IsToldAgain, ReorderedFilesLaw}
-use Rattle.outcome_laws.proofs.OneStages.{AreSame}
+use Rattle.outcome_laws.specs.Laws.{IsOlder, ReportsThese, HoldsIngested, IsToldAgain, ReorderedFilesLaw, SomeOutcomeLaw}
 use Rattle.outcome_laws.proofs.SafelyViewed.{told_safely}
-use Rattle.outcome_laws.proofs.GoodCalls.{spec_goes_on}
 use Rattle.outcome_laws.proofs.AskIsTrace.{ask_is_trace_law}
-use Rattle.outcome_laws.proofs.SomeOutcomes.{some_outcome_law}
 use Rattle.outcome_laws.proofs.ReorderedAnswers.{one_answer}
 
 module _ (spec events other : File) (h : HeldGrammar) (es : List Event) (is : IsTold spec_kind spec TellsGrammar h) (run : TellsEvents h.core instance_most (lines_in events) es) (same : ReportsThese (lines_in other) es) where
@@ -69,7 +68,7 @@ module _ (spec events other : File) (h : HeldGrammar) (es : List Event) (is : Is
     traced : (d e : End) (t s : List ℕ) → Traces spec view events queries d t → Traces spec view other queries e s → AreSame d e t s
     traced d e t s p q = views_agree d e t s (spec_goes_on spec h is (λ k. AnswersView k.core view events queries) d t p) (spec_goes_on spec h is (λ k. AnswersView k.core view other queries) e s q)
 
-module _ (files : List ℕ → File) (spec events other : List ℕ) (h : HeldGrammar) (es : List Event) (is : IsTold spec_kind (files spec) TellsGrammar h)
+module _ (some : SomeOutcomeLaw) (files : List ℕ → File) (spec events other : List ℕ) (h : HeldGrammar) (es : List Event) (is : IsTold spec_kind (files spec) TellsGrammar h)
     (run : TellsEvents h.core instance_most (lines_in (files events)) es) (same : ReportsThese (lines_in (files other)) es) where
   traced_alike : (view queries : List ℕ) (d e : End) (t s : List ℕ) → IsOutcome files (codes "trace" ∷ spec ∷ view ∷ events ∷ queries ∷ []) d t → IsOutcome files (codes "trace" ∷ spec ∷ view ∷ other ∷ queries ∷ []) e s → AreSame d e t s
   traced_alike view queries = traced (files spec) (files events) (files other) h es is run same (files view) (files queries)
@@ -78,9 +77,9 @@ module _ (files : List ℕ → File) (spec events other : List ℕ) (h : HeldGra
   asked_alike : (view labels others queries : List ℕ) (d e : End) (t s : List ℕ) → HoldsIngested files spec events labels → HoldsIngested files spec other others →
       IsOutcome files (codes "ask" ∷ spec ∷ view ∷ labels ∷ queries ∷ []) d t → IsOutcome files (codes "ask" ∷ spec ∷ view ∷ others ∷ queries ∷ []) e s → AreSame d e t s
   asked_alike view labels others queries d e t s first second p q =
-      let x = some_outcome_law files (codes "trace" ∷ spec ∷ view ∷ events ∷ queries ∷ []) in
-      let y = some_outcome_law files (codes "trace" ∷ spec ∷ view ∷ other ∷ queries ∷ []) in
-      let itself : IsOlder files spec spec = record { grammar = h; told = is; before = h; told_before = is; one_of = inl refl } in
+      let x = some files (codes "trace" ∷ spec ∷ view ∷ events ∷ queries ∷ []) in
+      let y = some files (codes "trace" ∷ spec ∷ view ∷ other ∷ queries ∷ []) in
+      let itself : IsOlder files spec spec = record { grammar = h; told = is; before = h; told_before = is; one_of = inl (record { start = refl; modules = refl; productions = refl }) } in
       let a = ask_is_trace_law files spec spec view events labels queries first.text x.1 t x.0 d itself first.ingested first.bytes first.short first.whole x.2 p in
       let b = ask_is_trace_law files spec spec view other others queries second.text y.1 s y.0 e itself second.ingested second.bytes second.short second.whole y.2 q in
       let c = traced_alike view queries x.0 y.0 x.1 y.1 x.2 y.2 in
@@ -96,5 +95,5 @@ module _ (files : List ℕ → File) (spec events other : List ℕ) (h : HeldGra
     asked = asked_alike;
   }
 
-pub reordered_files_law : ReorderedFilesLaw
+pub reordered_files_law : SomeOutcomeLaw → ReorderedFilesLaw
 reordered_files_law = told_again

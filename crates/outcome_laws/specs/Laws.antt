@@ -12,6 +12,7 @@ use Rattle.wf_model.specs.Run.{IsAccepted}
 use Rattle.wf_model.specs.Finishing.{ExpandsComposites}
 use Rattle.wf_spec.specs.Held.{HeldGrammar, AreVersionsOf}
 use Rattle.wf_model.specs.Versions.{version_of}
+use Rattle.version_model.specs.Versions.{AreBuiltAlike}
 use Rattle.wf_spec.specs.declared.version.Version.{Version}
 use Rattle.wf_io.specs.Told.{File}
 use Rattle.wf_io.specs.Lines.{Line, FileLines, AtEnd, lines_in}
@@ -40,9 +41,9 @@ OneOutcomeLaw =
 abbrev pub SomeOutcomeLaw : Type 0
 SomeOutcomeLaw = (files : List ℕ → File) (words : List (List ℕ)) → (ending : End) × (text : List ℕ) × IsOutcome files words ending text
 
--- a grammar is the one that a specification tells, or that of one of its earlier versions
+-- a grammar has the start module, the modules and the productions of the one that a specification tells, or of one of its earlier versions. It may give other pairs to its modules
 abbrev pub IsOneOf : HeldGrammar → Grammar → Type 0
-IsOneOf h g = (g ≡ h.core) ⊎ ((v : Version) × IsIn v h.versions × (g ≡ version_of h.core v.modules v.productions))
+IsOneOf h g = AreBuiltAlike h.core g ⊎ ((v : Version) × IsIn v h.versions × AreBuiltAlike (version_of h.core v.modules v.productions) g)
 
 -- a well-formed, proper and strictly linear grammar, whose versions are versions and keep their cycles, and a safe view of it
 pub record IsViewedSafely (h : HeldGrammar) (u : View) : Type 0 where
@@ -69,7 +70,7 @@ LabelsAnswerLaw =
     ((d : End) (t : List ℕ) → AnswersRun h.core u events queries d t ↔ AnswersLabels h u labels queries d t) ×
     ((d c : End) (t s : List ℕ) → AnswersRun h.core u events queries d t → AnswersLabels h u labels queries c s → (d ≡ c) × (t ≡ s))
 
--- A specification is the one that another names as an earlier version, or is of the same grammar
+-- A specification has the lists of another one, or those of a version that the other names: the same start module, modules and productions. The given pairs may be others, as where a module that had some has got productions since
 pub record IsOlder (files : List ℕ → File) (spec older : List ℕ) : Type 0 where
   pub grammar : HeldGrammar
   pub told : IsTold spec_kind (files spec) TellsGrammar grammar

@@ -7,6 +7,7 @@ ghost use Rattle.wf_top.specs.Meets.{HasEnded};
 ghost use Rattle.wf_top.specs.Outcome.{IsOutcome};
 ghost use Rattle.outcome_laws.specs.GoodCalls.{IsGoodCall, EndedAs, IsComplete};
 
+use crate::law::{good_call_law, one_outcome_law};
 use std::alloc::Global;
 use wf_io::{PlainShelf, PlainSink, Shelf, Sink};
 use wf_top::{Status, run};
@@ -28,6 +29,8 @@ pub fn call<H: Shelf, O: Sink, E: Sink>(
     ensures complete { (f : List ℕ → File) → H.files shelf.old ≡ Some f → (Rose (O.faults out.old) (O.faults out.new) (O.at_last out.new) → ⊥)
         → IsGoodCall f (map (λ w. w.now) words.now) → IsComplete f (map (λ w. w.now) words.now) result (O.put_bytes out.old) (O.put_bytes out.new) }
 {
+    one_outcome_law();
+    good_call_law();
     run(alloc, words, shelf, out, err)
 }
 

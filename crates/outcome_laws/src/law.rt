@@ -1,22 +1,31 @@
-// Laws of what the program does: the contracts of functions that do nothing.
+// Laws of what the program does: the contracts of functions that do nothing. The first three are instances of the laws that the families bring.
 ghost use Rattle.outcome_laws.specs.GoodCalls.{GoodCallLaw};
 ghost use Rattle.outcome_laws.specs.Laws.{AskIsTraceLaw, IngestGrowsLaw, LabelsAnswerLaw, LabelsTellLaw, OneOutcomeLaw, ReorderedAnswersLaw, ReorderedFilesLaw, SameLinesLaw, SomeOutcomeLaw, ToldRunLaw};
 ghost use Rattle.outcome_laws.specs.SameInstances.{SameInstancesLaw};
 
+use wf_stage::Commands;
+use wf_top::Families;
+
 /// The words and the files leave one end and one text at most.
 pub fn one_outcome_law()
     ensures { OneOutcomeLaw }
-{}
+{
+    Families::one_outcome();
+}
 
 /// The words and the files leave an end and a text: each call has an outcome.
 pub fn some_outcome_law()
     ensures { SomeOutcomeLaw }
-{}
+{
+    Families::some_outcome();
+}
 
 /// Where the words are a command, each file is read and tells what the command wants of it, and the words that are labels are labels, no end is left but that all is done.
 pub fn good_call_law()
     ensures { GoodCallLaw }
-{}
+{
+    Families::good_call();
+}
 
 /// What `ingest` writes over a file of events begins what it writes over each that goes on from it, however either call ends: also where a report is held at the end of the first file, and is an orphan there, and comes to be ready in the later one.
 pub fn ingest_grows_law()
@@ -36,7 +45,9 @@ pub fn same_lines_law()
 /// Neither the order of the reports in EVENTS nor their repetition matters: a file that reports the events of a run, and nothing else, tells this run in another order. `ingest` over it ends in Done and writes a label file with the same entries. What `trace` writes over both files is the same, and so is what `ask` writes over both label files.
 pub fn reordered_files_law()
     ensures { ReorderedFilesLaw }
-{}
+{
+    some_outcome_law();
+}
 
 /// Under a safe view, lines of queries are answered alike over files that report the same run, and over the label files that `ingest` writes of them: one text, and one end.
 pub fn reordered_answers_law()

@@ -1,2 +1,4 @@
 pub mod Standing
 pub mod Order
+pub mod FaultNames
+pub mod NewNames

@@ -5,10 +5,11 @@ ghost use Rattle.wf_model.specs.declared.event.Event.TheVariants.{Expand};
 ghost use Rattle.wf_model.specs.Run.{IsRun, made, names_of};
 ghost use Rattle.wf_model.specs.Faults.{fault_of};
 ghost use Rattle.run_faults.specs.Standing.{IsFound, Fits};
-ghost use Rattle.run_faults.specs.Order.{names_fault, HasFault, IsLeftToNames};
+ghost use Rattle.run_faults.specs.Order.{HasFault, IsLeftToNames};
 
-use crate::names::{Taken, repeats};
+use crate::names::fault_of_names;
 use name_text::are_short;
+use wf_names::{HeldName, Names};
 use wf_spec::{Grammar, ModNo, Name, ProdNo, RunFault};
 
 /// An instance that is there: its module, and whether it is expanded.
@@ -61,50 +62,26 @@ pub fn fault_before_names(
     None
 }
 
-/// Why names cannot be those of new instances of a run of at most `most`; None where they can. The table has the names of the instances, `count` of them.
-///
-/// In order of trial: `NameTwice`, `TooManyInstances`.
-///
-/// Cost: one look-up for each of the names, which is also compared with those before it.
-pub fn fault_of_names<T: Taken>(
-    most: u32,
-    taken: &T,
-    count: usize,
-    names: &[Name],
-) -> Option<RunFault>
-    requires { count ≡ length (T.names taken.now) }
-    ensures { result ≡ names_fault most (T.names taken.now) names.now }
-{
-    if repeats(taken, names) {
-        return Some(RunFault::NameTwice);
-    }
-    if (most as usize) < count.saturating_add(names.len()) {
-        return Some(RunFault::TooManyInstances);
-    }
-    None
-}
-
-/// Why a run of at most `most` instances refuses to expand the instance of a name; None where it takes the event. The table has the names of the instances, `count` of them, and `found` is the instance.
+/// Why a run of at most `most` instances refuses to expand the instance of a name; None where it takes the event. The table has the names of the instances, and `found` is the instance.
 ///
 /// In order of trial: `NotStarted`, `UnknownInstance`, `UnknownProduction`, `WrongHead`, `AlreadyExpanded`, `PositionsWrong`, `NameBad`, `NameTwice`, `TooManyInstances`.
 ///
 /// Cost: one look-up for each name of the event, which is also compared with the names before it in the event, at most 63.
-pub fn expand_fault<T: Taken>(
+pub fn expand_fault<K: HeldName>(
     g: &Grammar,
     most: u32,
-    taken: &T,
-    count: usize,
+    taken: &Names<K>,
     found: Option<Found>,
     production: u64,
     names: &[Name],
 ) -> Option<RunFault>
-    requires { count ≡ length (T.names taken.now) }
     ensures { (events : List Event) (name : List ℕ) → IsRun g.now.core g.now.core.start events →
-        T.names taken.now ≡ names_of (made g.now.core g.now.core.start events) → IsFound g.now.core events name found →
+        taken.now ≡ names_of (made g.now.core g.now.core.start events) → IsFound g.now.core events name found →
         result ≡ fault_of g.now.core most events (Expand name production names.now) }
 {
+    let count = taken.count();
     if let Some(fault) = fault_before_names(g, count, found, production, names) {
         return Some(fault);
     }
-    fault_of_names(most, taken, count, names)
+    fault_of_names(most, taken, names)
 }

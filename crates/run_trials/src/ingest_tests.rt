@@ -6,6 +6,10 @@ use wf_samples::{LINE, LOOP};
 use wf_top::Status;
 use wf_top::Status::{Done, ReadFault, Refused};
 
+/// LINE, with the pairs of Q given: none.
+const PAIRED: &str =
+    r#"{"start":"S","modules":[{"name":"S","in":["a"],"out":["b"]},{"name":"P","in":["x"],"out":["y"]},{"name":"Q","in":["x"],"out":["y"]}],"productions":[{"head":"S","body":[["u","P"],["v","Q"]],"edges":[["u.y","v.x"]],"in":[["a","u.x"]],"out":[["v.y","b"]]}],"deps":[{"module":"Q","pairs":[]}]}"#;
+
 const ROOT: &str = "{\"start\":\"r\"}\n";
 
 const EXCHANGED: &str =
@@ -37,8 +41,10 @@ const ROUND_EVENTS: &str =
     "{\"start\":\"r\"}\n{\"expand\":\"r\",\"production\":0,\"names\":[\"l0\"]}\n{\"expand\":\"l0\",\"production\":1,\"names\":[\"w0\",\"l1\"]}\n{\"expand\":\"l1\",\"production\":1,\"names\":[\"w1\",\"l2\"]}";
 
 /// Each line: the specification, the events, whether reading past them fails, the status, the label file and the line on err.
-const ROWS: [(&str, &str, bool, Status, &[u8], &str); 17] = [
+const ROWS: [(&str, &str, bool, Status, &[u8], &str); 18] = [
     (LINE, EVENTS, false, Done, WHOLE, ""),
+    // Given pairs are no part of a label file, so `ask` takes this one where Q has got a production since.
+    (PAIRED, EVENTS, false, Done, WHOLE, ""),
     (LINE, ROOT, false, Done, START, ""),
     (LINE, "", false, Done, HEAD, ""),
     (LINE, "\n\r\n", false, Done, HEAD, ""),

@@ -1,5 +1,6 @@
 pub mod SameParts
 pub mod VersionRuns
+pub mod GivenPairs
 pub mod VersionReports
 pub mod VersionFormed
 pub mod VersionSteps

@@ -24,7 +24,18 @@ use Rattle.verdict_model.specs.declared.verdict.Verdict.{Verdict}
 use Rattle.verdict_model.specs.Telling.{Tells}
 use Rattle.verdict_model.specs.Verdicts.{IsVerdict}
 use Rattle.wf_model.specs.Versions.{version_of, IsVersion, GetsOnCycle, KeepsCycles}
-use Rattle.version_model.specs.Versions.{GoesOnWithin, ShowAlike}
+use Rattle.version_model.specs.Versions.{GoesOnWithin, ShowAlike, AreBuiltAlike}
+
+-- Given pairs decide nothing of runs and of labels. Grammars that are built alike accept the same runs, take the same reports, and write the same label files but for the digest
+abbrev pub GivenPairsLaw : Type 0
+GivenPairsLaw =
+    (g h : Grammar) → AreBuiltAlike g h →
+    record {
+      accepted : (limit : ℕ) (events : List Event) → IsAccepted g limit events → IsAccepted h limit events;
+      reports : (most : ℕ) (reports : List Report) → intake g most reports ≡ intake h most reports;
+      entries : (events : List Event) → entries_of g events ≡ entries_of h events;
+      file : (digest : List ℕ) (events : List Event) → label_file g digest events ≡ label_file h digest events;
+    }
 
 -- a version of a well-formed grammar is well-formed, and that of a strictly linear one is strictly linear
 abbrev pub VersionFormedLaw : Type 0

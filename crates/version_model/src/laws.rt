@@ -1,5 +1,5 @@
 // Laws of the versions of a grammar: each is the contract of a function that does nothing.
-ghost use Rattle.version_model.specs.Laws.{VersionCyclesLaw, VersionDependsLaw, VersionEntriesLaw, VersionFormedLaw, VersionLabelLaw, VersionReachLaw, VersionReportsLaw, VersionRouteLaw, VersionRunLaw, VersionSafeLaw, VersionStepLaw, VersionVerdictLaw, VersionViewLaw, VersionVisibleLaw};
+ghost use Rattle.version_model.specs.Laws.{GivenPairsLaw, VersionCyclesLaw, VersionDependsLaw, VersionEntriesLaw, VersionFormedLaw, VersionLabelLaw, VersionReachLaw, VersionReportsLaw, VersionRouteLaw, VersionRunLaw, VersionSafeLaw, VersionStepLaw, VersionVerdictLaw, VersionViewLaw, VersionVisibleLaw};
 ghost use Rattle.version_model.specs.Standing.{StandingLaw, StandingRouteLaw};
 
 /// Where all that one grammar shows under a view stands in another, their productions induce the same pairs, and the same is reached along open routes.
@@ -10,6 +10,11 @@ pub fn standing_law()
 /// Where all that one grammar shows under a view stands in another, the same routes of the first are open in both.
 pub fn standing_route_law()
     ensures { StandingRouteLaw }
+{}
+
+/// Given pairs decide nothing of runs and of labels: grammars with the same start, modules and productions accept the same runs, take the same reports, and write the same label files but for the digest.
+pub fn given_pairs_law()
+    ensures { GivenPairsLaw }
 {}
 
 /// A version of a well-formed grammar is well-formed, and that of a strictly linear one is strictly linear.

@@ -4,6 +4,7 @@
 mod accepted;
 mod accepting;
 mod fault;
+mod fault_text;
 mod versions;
 
 pub use accepted::Accepted;

@@ -1,10 +1,9 @@
 // Matrices between positions of a body.
-ghost use Rattle.std.specs.Prelude.{◌≡◌, ◌+◌, ◌<◌, ℕ, length, take, IfOk, OnErr};
-ghost use Rattle.wf_model.specs.Grammar.{body_of, inputs_of, outputs_of};
+ghost use Rattle.std.specs.Prelude.{◌≡◌, ◌<◌, length, take, IfOk, OnErr};
+ghost use Rattle.wf_model.specs.Grammar.{body_of};
 ghost use Rattle.wf_model.specs.Meaning.{pairs_of};
-ghost use Rattle.wf_model.specs.Reach.{Between, target_of};
 ghost use Rattle.bool_mat.specs.Matrix.{Adds, matrix_at};
-ghost use Rattle.wf_body.specs.Matrices.{HaveRows, IsMatrixOf, beside, step_of};
+ghost use Rattle.wf_body.specs.Matrices.{HaveRows, step_of, AreMatricesBetween, IsMatrixBetween};
 
 use crate::leads::{push_to_all_inputs, push_to_inputs};
 use bool_mat::{MatNo, MatPool};
@@ -27,9 +26,7 @@ pub fn between(
     requires to { to.0 < length (body_of g.now.core s.production.0) }
     requires rows { HaveRows g.now.core s.production.0 deps.now }
     ensures added { IfOk result (λ m. Adds pool.old pool.new m.0 1) }
-    ensures between { IfOk result (λ m. IsMatrixOf (outputs_of g.now.core (target_of g.now.core (step_of s)))
-        (inputs_of g.now.core (target_of g.now.core (beside (step_of s) to.0)))
-        (Between g.now.core (pairs_of deps.now) (step_of s) to.0) (matrix_at pool.new m.0)) }
+    ensures between { IfOk result (λ m. IsMatrixBetween g.now.core (pairs_of deps.now) (step_of s) to.0 (matrix_at pool.new m.0)) }
     ensures err { OnErr result (pool.new ≡ pool.old) }
 {
     push_to_inputs(alloc, g, s.production, Some(s.position), to, deps, pool)
@@ -49,9 +46,7 @@ pub fn between_all(
     requires position { s.position.0 < length (body_of g.now.core s.production.0) }
     requires rows { HaveRows g.now.core s.production.0 deps.now }
     ensures added { IfOk result (λ m. Adds pool.old pool.new m.0 (length (body_of g.now.core s.production.0))) }
-    ensures between { IfOk result (λ m. (to : ℕ) → to < length (body_of g.now.core s.production.0) →
-        IsMatrixOf (outputs_of g.now.core (target_of g.now.core (step_of s))) (inputs_of g.now.core (target_of g.now.core (beside (step_of s) to)))
-        (Between g.now.core (pairs_of deps.now) (step_of s) to) (matrix_at pool.new (m.0 + to))) }
+    ensures between { IfOk result (λ m. AreMatricesBetween g.now.core (pairs_of deps.now) (step_of s) pool.new m.0) }
     ensures err { OnErr result (take (length pool.old) pool.new ≡ pool.old) }
 {
     push_to_all_inputs(alloc, g, s.production, Some(s.position), deps, pool)

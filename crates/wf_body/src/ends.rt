@@ -1,11 +1,9 @@
 // Matrices that begin or end at the head of a body.
 ghost use Rattle.std.specs.Prelude.{◌≡◌, ◌<◌, length, IfOk, OnErr};
-ghost use Rattle.wf_model.specs.Grammar.{body_of, head_of, inputs_of, outputs_of};
+ghost use Rattle.wf_model.specs.Grammar.{body_of};
 ghost use Rattle.wf_model.specs.Meaning.{pairs_of};
-ghost use Rattle.wf_model.specs.Reach.{Into, OutOf, target_of};
-ghost use Rattle.wf_model.specs.Safe.{BodyJoins};
 ghost use Rattle.bool_mat.specs.Matrix.{Adds, matrix_at};
-ghost use Rattle.wf_body.specs.Matrices.{HaveRows, IsMatrixOf, step_of};
+ghost use Rattle.wf_body.specs.Matrices.{HaveRows, step_of, IsMatrixJoined, IsMatrixInto, IsMatrixOutOf};
 
 use crate::leads::{push_to_exits, push_to_inputs};
 use bool_mat::{MatNo, MatPool};
@@ -25,8 +23,7 @@ pub fn induced(
     requires production { p.0 < length g.now.core.productions }
     requires rows { HaveRows g.now.core p.0 deps.now }
     ensures added { IfOk result (λ m. Adds pool.old pool.new m.0 1) }
-    ensures induced { IfOk result (λ m. IsMatrixOf (inputs_of g.now.core (head_of g.now.core p.0))
-        (outputs_of g.now.core (head_of g.now.core p.0)) (BodyJoins g.now.core (pairs_of deps.now) p.0) (matrix_at pool.new m.0)) }
+    ensures induced { IfOk result (λ m. IsMatrixJoined g.now.core (pairs_of deps.now) p.0 (matrix_at pool.new m.0)) }
     ensures err { OnErr result (pool.new ≡ pool.old) }
 {
     push_to_exits(alloc, g, p, None, deps, pool)
@@ -46,8 +43,7 @@ pub fn into_position(
     requires position { s.position.0 < length (body_of g.now.core s.production.0) }
     requires rows { HaveRows g.now.core s.production.0 deps.now }
     ensures added { IfOk result (λ m. Adds pool.old pool.new m.0 1) }
-    ensures into { IfOk result (λ m. IsMatrixOf (inputs_of g.now.core (head_of g.now.core s.production.0))
-        (inputs_of g.now.core (target_of g.now.core (step_of s))) (Into g.now.core (pairs_of deps.now) (step_of s)) (matrix_at pool.new m.0)) }
+    ensures into { IfOk result (λ m. IsMatrixInto g.now.core (pairs_of deps.now) (step_of s) (matrix_at pool.new m.0)) }
     ensures err { OnErr result (pool.new ≡ pool.old) }
 {
     push_to_inputs(alloc, g, s.production, None, s.position, deps, pool)
@@ -67,8 +63,7 @@ pub fn out_of_position(
     requires position { s.position.0 < length (body_of g.now.core s.production.0) }
     requires rows { HaveRows g.now.core s.production.0 deps.now }
     ensures added { IfOk result (λ m. Adds pool.old pool.new m.0 1) }
-    ensures out_of { IfOk result (λ m. IsMatrixOf (outputs_of g.now.core (target_of g.now.core (step_of s)))
-        (outputs_of g.now.core (head_of g.now.core s.production.0)) (OutOf g.now.core (pairs_of deps.now) (step_of s)) (matrix_at pool.new m.0)) }
+    ensures out_of { IfOk result (λ m. IsMatrixOutOf g.now.core (pairs_of deps.now) (step_of s) (matrix_at pool.new m.0)) }
     ensures err { OnErr result (pool.new ≡ pool.old) }
 {
     push_to_exits(alloc, g, s.production, Some(s.position), deps, pool)

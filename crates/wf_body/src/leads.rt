@@ -1,11 +1,11 @@
 // Matrices of the paths from sources.
-ghost use Rattle.std.specs.Prelude.{◌≡◌, ◌+◌, ◌<◌, ◌≤◌, ℕ, length, take, IfOk, OnErr, get_or, []};
+ghost use Rattle.std.specs.Prelude.{◌≡◌, ◌<◌, ◌≤◌, ℕ, length, take, IfOk, OnErr, get_or, []};
 ghost use Rattle.wf_model.specs.Grammar.{Inner as InnerSeen, body_of, inputs_of, production_at};
 ghost use Rattle.wf_model.specs.Lists.{IsAt};
 ghost use Rattle.wf_model.specs.Meaning.{pairs_of};
 ghost use Rattle.wf_model.specs.WellFormed.{IsWellFormed};
 ghost use Rattle.bool_mat.specs.Matrix.{Adds, matrix_at};
-ghost use Rattle.wf_body.specs.Matrices.{AreSourcesOf, HaveRows, LeadsToExits, LeadsToInputs, sources_of};
+ghost use Rattle.wf_body.specs.Matrices.{AreSourcesOf, HaveRows, LeadsToExits, LeadsToInputs, sources_of, LeadToAllInputs};
 ghost use Rattle.wf_body.specs.Words.{word_at};
 
 use crate::pass::pass;
@@ -121,8 +121,7 @@ pub fn push_to_all_inputs(
     requires sources { AreSourcesOf g.now.core p.0 from }
     requires rows { HaveRows g.now.core p.0 deps.now }
     ensures added { IfOk result (λ m. Adds pool.old pool.new m.0 (length (body_of g.now.core p.0))) }
-    ensures leads { IfOk result (λ m. (k : ℕ) → k < length (body_of g.now.core p.0) →
-        LeadsToInputs g.now.core (pairs_of deps.now) p.0 from k (matrix_at pool.new (m.0 + k))) }
+    ensures leads { IfOk result (λ m. LeadToAllInputs g.now.core (pairs_of deps.now) p.0 from pool.new m.0) }
     ensures err { OnErr result (take (length pool.old) pool.new ≡ pool.old) }
 {
     let sources = source_count(g, p, from);

@@ -1,7 +1,7 @@
 // Words of sources as matrices.
-ghost use Rattle.std.specs.Prelude.{◌≡◌, ◌<◌, ◌≤◌, IsTrue, length, get_or, IfOk, OnErr};
+ghost use Rattle.std.specs.Prelude.{◌≡◌, ◌<◌, ◌≤◌, length, IfOk, OnErr};
 ghost use Rattle.bool_mat.specs.Matrix.{Adds, has, matrix_at};
-ghost use Rattle.wf_body.specs.Matrices.{IsMatrixOf};
+ghost use Rattle.wf_body.specs.Matrices.{IsMatrixTurned};
 
 use bool_mat::{MatNo, MatPool, column};
 use std::alloc::AllocError;
@@ -13,8 +13,7 @@ pub fn push_turned(pool: &mut MatPool, words: &[u64], sources: usize) -> Result<
     requires words { length words.now ≤ 64 }
     requires sources { sources ≤ 64 }
     ensures added { IfOk result (λ m. Adds pool.old pool.new m.0 1) }
-    ensures turned { IfOk result (λ m. IsMatrixOf sources (length words.now)
-        (λ i j. (i < sources) × IsTrue (has (get_or words.now j 0) i)) (matrix_at pool.new m.0)) }
+    ensures turned { IfOk result (λ m. IsMatrixTurned words.now sources (matrix_at pool.new m.0)) }
     ensures err { OnErr result (pool.new ≡ pool.old) }
 {
     let columns = words.len() as u8;

@@ -1,14 +1,14 @@
 -- What a grammar derives, which of its modules are composite, and which have a rank: each is so, or not.
-use Rattle.std.proofs.Common.{◌≡◌, ◌⊎◌, ℕ, zero, suc, ◌+◌, ◌<◌, ◌≤◌, List, [], ◌∷◌, length, map, refl, sym, ap, subst, inl, inr, ⊎_elim, arith}
+use Rattle.std.proofs.Common.{◌≡◌, ◌⊎◌, ℕ, zero, suc, ◌<◌, List, length, map, sym, ap, subst, inl, inr, ⊎_elim, arith}
 use Rattle.std.specs.List.{flat_map}
-use Rattle.wf_model.specs.Lists.{IsIn, numbers_from, Walk}
+use Rattle.wf_model.specs.Lists.{IsIn, numbers_from}
 use Rattle.wf_model.specs.Grammar.{Grammar, head_of, body_of, IsAtomic, IsComposite, IsProductionOf}
 use Rattle.wf_model.specs.WellFormed.{IsWellFormed}
-use Rattle.wf_model.specs.Proper.{Makes, Derives, RankWithin, Becomes}
+use Rattle.wf_model.specs.Proper.{Makes, Derives, RankWithin}
 use Rattle.wf_model.proofs.Lists.{in_map, in_map_from, in_flat_map, in_flat_map_from}
 use Rattle.wf_model.proofs.Level.{in_numbers, numbers_in}
 use Rattle.wf_model.proofs.Composites.{composite_below}
-use Rattle.wf_model.proofs.Deciding.{Either, IsFirst, either_same, either_not, either_both, either_one, number_either, some_below, all_below, all_in, first_below, walk_either}
+use Rattle.wf_model.proofs.Deciding.{Either, either_same, either_not, either_both, either_one, number_either, some_below, all_below, all_in, first_below, walk_either}
 use Rattle.wf_model.proofs.Settling.{settles}
 use Rattle.wf_check.specs.Improper.{IsProductive, IsLeastWithout, OfAllComposite}
 use Rattle.wf_check.proofs.Rounds.{rank_more}

@@ -6,14 +6,11 @@ pub mod Loops
 pub mod Lower
 pub mod Rounds
 pub mod Settled
-pub mod UnitFirst
-pub mod UnitGraphs
-pub mod UnitLayers
-pub mod UnitPaths
 pub mod UnitRules
-pub mod UnitSimple
 pub mod UnitTold
 pub mod OneRanking
 pub mod Derived
 pub mod UnitOrNone
 pub mod ProperOrFault
+pub mod UnitRoutes
+pub mod UnitGraphs

@@ -1,12 +1,11 @@
 -- A well-formed grammar is proper, or has a fault; and a proper one has ranks and choices.
-use Rattle.std.proofs.Common.{◌≡◌, ◌⊎◌, ℕ, zero, suc, ◌<◌, ◌≤◌, List, length, get_or, refl, sym, subst, inl, inr, ⊎_elim, arith}
+use Rattle.std.proofs.Common.{◌≡◌, ◌⊎◌, ℕ, zero, suc, ◌<◌, length, subst, inl, inr, ⊎_elim, arith}
 use Rattle.std.proofs.lemmas.Bool.{cases_lt}
-use Rattle.wf_model.specs.Lists.{IsIn}
-use Rattle.wf_model.specs.Grammar.{Grammar, body_of, IsAtomic, IsComposite, IsProductionOf}
+use Rattle.wf_model.specs.Grammar.{Grammar, body_of, IsComposite}
 use Rattle.wf_model.specs.WellFormed.{IsWellFormed}
 use Rattle.wf_model.specs.Proper.{RankWithin, IsRank, IsProper}
 use Rattle.wf_model.proofs.Composites.{composite_below}
-use Rattle.wf_model.proofs.Deciding.{Either, IsFirst, either_same, either_both, all_in, first_below, first_of_all}
+use Rattle.wf_model.proofs.Deciding.{Either, either_same, either_both, all_in, first_below, first_of_all}
 use Rattle.wf_model.proofs.Listing.{listed}
 use Rattle.wf_check.specs.declared.fault.CheckFault.{CheckFault}
 use Rattle.wf_check.specs.declared.fault.CheckFault.TheVariants.{Unreachable, Unproductive, UnitCycle}

@@ -5,7 +5,7 @@ use Rattle.std.proofs.lemmas.Bool.{cases_lt}
 use Rattle.std.proofs.lemmas.List.{map-id}
 use Rattle.std.proofs.lemmas.Simd.{map-map}
 use Rattle.wf_model.specs.declared.numbers.ProdNo.{ProdNo}
-use Rattle.wf_model.specs.Lists.{IsIn, numbers_from, Walk, here, onward}
+use Rattle.wf_model.specs.Lists.{IsIn, numbers_from, Walk}
 use Rattle.wf_model.specs.Grammar.{Grammar, head_of, body_of, IsProductionOf}
 use Rattle.wf_model.specs.WellFormed.{IsWellFormed}
 use Rattle.wf_model.specs.Proper.{Becomes}

@@ -7,9 +7,11 @@ use Rattle.wf_model.specs.WellFormed.{IsWellFormed}
 use Rattle.wf_model.proofs.Level.{in_numbers, numbers_in}
 use Rattle.wf_model.proofs.NumberLists.{from_first}
 use Rattle.wf_check.specs.declared.unit.rule.UnitRule.{UnitRule}
-use Rattle.wf_check.specs.Improper.{UnitPath, IsUnitCycle, IsFirstOf, IsToldCycle}
+use Rattle.wf_graph.specs.Routes.{IsFirstShortest}
+use Rattle.wf_check.specs.Improper.{UnitPath, IsUnitCycle, IsToldCycle}
 use Rattle.wf_check.specs.UnitRules.{unit_rule_of, unit_rule_at, unit_rules_of, AreInOrder, AreBelow}
-use Rattle.wf_check.specs.UnitPaths.{Turns, LeadTo, IsOnCycle, IsLeastOnCycle, IsShortest}
+use Rattle.wf_check.specs.UnitPaths.{Turns, LeadTo, IsOnCycle, targets_of, AreFirstTurns}
+use Rattle.wf_check.proofs.UnitRoutes.{leads_route, turned_leads, turned_first}
 
 -- what is among the values of a list is that of one of its elements
 in_filter_map_from : {A B : Type 0} (f : A → Option B) (y : B) (xs : List A) → IsIn y (filter_map f xs) → (x : A) × IsIn x xs × (f x ≡ Some y)
@@ -113,13 +115,29 @@ rules_below g formed u i =
 pub none_told : (g : Grammar) → ((m : ℕ) → IsOnCycle (unit_rules_of g) m → ⊥) → (m : ℕ) (ps : List ℕ) → IsUnitCycle g m ps → ⊥
 none_told g none m ps cycle = none m (ps, cycle.0, is_leads g m ps m cycle.1)
 
--- the first of the shortest cycles through the least module is told
-pub is_told : (g : Grammar) (m : ℕ) (ps : List ℕ) → IsLeastOnCycle (unit_rules_of g) m → IsShortest (unit_rules_of g) m (length ps) → LeadTo (unit_rules_of g) m ps m
-    → ((qs : List ℕ) → LeadTo (unit_rules_of g) m qs m → length qs ≡ length ps → IsFirstOf ps qs) → IsToldCycle g ps
-is_told g m ps least shortest path first = record {
-  module_no = m;
-  cycle = (shortest.some, leads_is g m ps m path);
-  least = λ k qs l cycle. least.1 k l (qs, cycle.0, is_leads g k qs k cycle.1);
-  shortest = λ qs cycle. shortest.least (length qs) cycle.0 (qs, refl, is_leads g m qs m cycle.1);
-  first = λ qs cycle same. first qs (is_leads g m qs m cycle.1) same;
-}
+-- the first unit productions along the first of the shortest routes from the least module back to it are told
+pub is_told : (g : Grammar) (m : ℕ) (ws ps : List ℕ) → ((k : ℕ) → k < m → IsOnCycle (unit_rules_of g) k → ⊥) → IsFirstShortest (targets_of (unit_rules_of g)) m m ws → AreFirstTurns (unit_rules_of g) m ws ps → IsToldCycle g ps
+is_told g m ws ps least route turns =
+    let us = unit_rules_of g in
+    let way = turned_leads us m ws ps m route.route turns in
+    record {
+      module_no = m;
+      cycle = (subst (λ n. 0 < n) (sym way.0) route.some, leads_is g m ps m way.1);
+      least = λ k qs l cycle. least k l (qs, cycle.0, is_leads g k qs k cycle.1);
+      shortest = λ qs cycle.
+          let r = leads_route us m qs m (is_leads g m qs m cycle.1) in
+          let s = route.shortest r.0 (subst (λ n. 0 < n) (sym r.1) cycle.0) r.2 in
+          omega (arith, way.0, r.1);
+      first = λ qs cycle same.
+          let l = is_leads g m qs m cycle.1 in
+          let r = leads_route us m qs m l in
+          turned_first us (rules_in_order g) m ws ps m m qs route.route turns l (route.first r.0 r.2 (r.1 ∙ (same ∙ way.0)));
+    }
+
+-- a module on a cycle is the head of a unit production
+pub on_cycle_below : (us : List UnitRule) (n m : ℕ) → AreBelow n us → IsOnCycle us m → m < n
+on_cycle_below us n m below cycle = go cycle.0 cycle.1 cycle.2
+  where
+    go : (ps : List ℕ) → 0 < length ps → LeadTo us m ps m → m < n
+    go [] h l = absurd (omega arith)
+    go (p ∷ ps) h l = let t = l.1 in subst (λ k. k < n) t.3 (below t.0 t.1).0

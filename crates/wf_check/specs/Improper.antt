@@ -1,8 +1,9 @@
 -- Why a grammar is not proper: the first fault in the order of trial.
-use Rattle.std.specs.Prelude.{◌≡◌, ℕ, ◌<◌, ◌≤◌, ◌⊎◌, List, [], ◌∷◌, map, length, get_or}
+use Rattle.std.specs.Prelude.{◌≡◌, ℕ, ◌<◌, ◌≤◌, List, [], ◌∷◌, map, length, get_or}
 use Rattle.wf_model.specs.declared.numbers.ProdNo.{ProdNo}
 use Rattle.wf_model.specs.Grammar.{Grammar, body_of, IsComposite, IsProductionOf}
 use Rattle.wf_model.specs.Proper.{Derives, RankWithin}
+pub use Rattle.wf_graph.specs.Routes.{IsFirstOf}
 use Rattle.wf_check.specs.declared.fault.CheckFault.{CheckFault}
 use Rattle.wf_check.specs.declared.fault.CheckFault.TheVariants.{Unreachable, Unproductive, UnitCycle, NoMemory}
 
@@ -32,12 +33,6 @@ UnitPath g a (p ∷ ps) b = IsProductionOf g p a × (length (body_of g p) ≡ 1)
 -- at least one unit production leads from m back to it
 abbrev pub IsUnitCycle : Grammar → ℕ → List ℕ → Type 0
 IsUnitCycle g m ps = (0 < length ps) × UnitPath g m ps m
-
--- the one list is the other, or has the lesser number where they first differ
-abbrev pub IsFirstOf : List ℕ → List ℕ → Type 0
-IsFirstOf [] qs = Unit {0}
-IsFirstOf (p ∷ ps) [] = ⊥
-IsFirstOf (p ∷ ps) (q ∷ qs) = (p < q) ⊎ ((p ≡ q) × IsFirstOf ps qs)
 
 -- The cycle that is told: it begins at the least module that is on one, is shortest, and is the first of the shortest
 pub record IsToldCycle (g : Grammar) (ps : List ℕ) : Type 0 where

@@ -1,3 +1,4 @@
+pub mod FaultText
 pub mod Improper
 pub mod Proper
 pub mod Ranks

@@ -5,6 +5,7 @@ mod check;
 mod choices;
 mod composite;
 mod fault;
+mod fault_text;
 mod ranking;
 mod ranks;
 mod reach;

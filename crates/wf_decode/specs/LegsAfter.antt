@@ -28,3 +28,10 @@ abbrev pub HasChain : ℕ → List LegHeld → Type 0
 HasChain n [] = ⊥
 HasChain n (IntoHeld s ∷ legs) = ⊥
 HasChain n (ChainHeld k j c ∷ legs) = n < c
+
+-- so whatever the module is from which they can be gone
+abbrev pub LeavesAfter : ViewLabelSeen → List LegHeld → ℕ → Step → List LegHeld → Type 0
+LeavesAfter l a n s b = (m : ℕ) → AreHeld l m false a → AreLeftAfter l m a n s b
+
+abbrev pub LeavesOfBoth : ViewLabelSeen → List LegHeld → Step → List LegHeld → List LegHeld → Step → List LegHeld → Type 0
+LeavesOfBoth l a s b c t d = (m : ℕ) → AreHeld l m false a → AreHeld l m false c → AreLeftOfBoth l m a s b c t d

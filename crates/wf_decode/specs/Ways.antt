@@ -2,8 +2,8 @@
 use Rattle.std.specs.Prelude.{ℕ}
 use Rattle.bool_mat.specs.Matrix.{Matrix}
 use Rattle.decode_model.specs.Matrices.{ViewMatrices}
-use Rattle.wf_decode.specs.declared.rows.rounds.Way.{Way}
-use Rattle.wf_decode.specs.declared.rows.rounds.Way.TheVariants.{Down, Up}
+use Rattle.wf_vlabel.specs.declared.rounds.way.Way.{Way}
+use Rattle.wf_vlabel.specs.declared.rounds.way.Way.TheVariants.{Down, Up}
 
 -- the squares of the cycle of a module: those of its inputs on the way down, and those of its outputs on the way up
 abbrev pub square_on : Way → ViewMatrices → ℕ → ℕ → Matrix

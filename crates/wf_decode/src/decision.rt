@@ -1,15 +1,11 @@
 // The decision from two labels and the label of a view.
 ghost use Rattle.std.specs.Prelude.{◌≡◌, ◌+◌, ◌≤◌, ℕ, length};
-ghost use Rattle.wf_model.specs.View.{View};
-ghost use Rattle.label_model.specs.Labels.{Label, IsLabel, label_bits};
 ghost use Rattle.wf_recur.specs.Cycles.{round_at};
 ghost use Rattle.wf_label.specs.Values.{AreLabelBits};
 ghost use Rattle.decode_model.specs.Counts.{most_products};
 ghost use Rattle.verdict_model.specs.Verdicts.{IsVerdict, NeverDepends};
 ghost use Rattle.verdict_model.specs.declared.verdict.Verdict.TheVariants.{No};
-ghost use Rattle.wf_vlabel.specs.Seen.{IsLabelOfView};
-ghost use Rattle.wf_decode.specs.Answers.{IsDecision};
-ghost use Rattle.wf_decode.specs.Ends.{IsConsumingEnd, IsProducingEnd};
+ghost use Rattle.wf_decode.specs.Answers.{IsDecision, HaveEnds, OfEnds, OfLabels};
 ghost use Rattle.wf_decode.specs.Reading.{most_legs};
 
 mod answers;
@@ -44,10 +40,8 @@ pub fn decide<L: Ledger>(
     requires first { AreLabelBits vl.now.grammar first }
     requires second { AreLabelBits vl.now.grammar second }
     requires room { most_legs vl.now.grammar ≤ scratch.old }
-    ensures verdict { (u : View) (x y : Label) → IsLabelOfView vl.now u → IsLabel vl.now.grammar x →
-        IsLabel vl.now.grammar y → first.entry ≡ label_bits x → second.entry ≡ label_bits y → IsVerdict vl.now.grammar u x y result }
-    ensures no { (u : View) (x y : Label) → IsLabelOfView vl.now u → IsLabel vl.now.grammar x →
-        IsLabel vl.now.grammar y → first.entry ≡ label_bits x → second.entry ≡ label_bits y → result ≡ No → NeverDepends vl.now.grammar u x y }
+    ensures verdict { OfLabels vl.now first.entry second.entry (λ u x y. IsVerdict vl.now.grammar u x y result) }
+    ensures no { OfLabels vl.now first.entry second.entry (λ u x y. result ≡ No → NeverDepends vl.now.grammar u x y) }
     ensures room { scratch.new ≡ scratch.old }
     ensures cost { (l : ℕ) → ((k : ℕ) → length (round_at vl.now.cycles k) ≤ l) → steps.new ≤ steps.old + most_products vl.now.grammar l }
 {
@@ -74,8 +68,7 @@ fn decide_in<L: Ledger>(
     requires first_room { most_legs vl.now.grammar ≤ length first_legs.old }
     requires second { AreLabelBits vl.now.grammar second.now }
     requires second_room { most_legs vl.now.grammar ≤ length second_legs.old }
-    ensures decision { (u : View) (x y : Label) → IsLabelOfView vl.now u → IsLabel vl.now.grammar x →
-        IsLabel vl.now.grammar y → first.now ≡ label_bits x → second.now ≡ label_bits y → IsDecision vl.now.grammar u x y result }
+    ensures decision { OfLabels vl.now first.now second.now (λ u x y. IsDecision vl.now.grammar u x y result) }
     ensures cost { (l : ℕ) → ((k : ℕ) → length (round_at vl.now.cycles k) ≤ l) → steps.new ≤ steps.old + most_products vl.now.grammar l }
     ensures first_length { length first_legs.new ≡ length first_legs.old }
     ensures second_length { length second_legs.new ≡ length second_legs.old }
@@ -99,10 +92,8 @@ fn decide_ends<L: Ledger>(
     second_legs: &mut [Leg],
     steps: &mut Steps<L>,
 ) -> Verdict
-    requires ends { (u : View) × (x : Label) × (y : Label) × IsLabelOfView vl.now u ×
-        IsConsumingEnd vl.now u x from first_legs.old × IsProducingEnd vl.now u y to second_legs.old }
-    ensures decision { (u : View) (x y : Label) → IsLabelOfView vl.now u → IsLabel vl.now.grammar x → IsLabel vl.now.grammar y →
-        IsConsumingEnd vl.now u x from first_legs.old → IsProducingEnd vl.now u y to second_legs.old → IsDecision vl.now.grammar u x y result }
+    requires ends { HaveEnds vl.now from first_legs.old to second_legs.old }
+    ensures decision { OfEnds vl.now from first_legs.old to second_legs.old (λ u x y. IsDecision vl.now.grammar u x y result) }
     ensures cost { (l : ℕ) → ((k : ℕ) → length (round_at vl.now.cycles k) ≤ l) → steps.new ≤ steps.old + most_products vl.now.grammar l }
     ensures first_length { length first_legs.new ≡ length first_legs.old }
     ensures second_length { length second_legs.new ≡ length second_legs.old }

@@ -13,11 +13,11 @@ ghost use Rattle.wf_decode.specs.OpenLegs.{OpensLeg};
 
 use crate::leg::Leg;
 use crate::rows::continuing::{continuing_down, continuing_up};
-use crate::rows::rounds::{Way, whole_rounds};
+use crate::rows::rounds::whole_rounds;
 use bool_mat::{Steps, row_times};
 use std::sync::ledger::Ledger;
 use wf_recur::CycleNo;
-use wf_vlabel::ViewLabel;
+use wf_vlabel::{ViewLabel, Way};
 
 /// The row times the matrices on the way down the legs: of a chain of a cycle that the view shows whole those of whole rounds first, by squares, and then those of the rest, step by step.
 ///

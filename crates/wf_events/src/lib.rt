@@ -12,4 +12,4 @@ mod write;
 pub use event::read_event;
 pub use fault::EventFault;
 pub use law::written_law;
-pub use write::write_event;
+pub use write::{append_part, write_event};

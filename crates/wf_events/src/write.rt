@@ -119,8 +119,10 @@ fn append_quoted(text: &[u8], begun: usize, to: &mut Vec<u8>) -> Result<(), Allo
     append_part(b"\"", begun, to)
 }
 
-/// Appends a part. After an error all from a place on is gone.
-fn append_part(part: &[u8], begun: usize, to: &mut Vec<u8>) -> Result<(), AllocError>
+/// Appends a part of a text that began at a place. After an error all from this place on is gone.
+///
+/// The only error is that memory is refused.
+pub fn append_part(part: &[u8], begun: usize, to: &mut Vec<u8>) -> Result<(), AllocError>
     requires { begun ≤ length to.old.items }
     ensures ok { OnOk result (to.new.items ≡ to.old.items ++ part.now) }
     ensures err { OnErr result (to.new.items ≡ take begun to.old.items) }

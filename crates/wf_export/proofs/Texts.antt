@@ -1,28 +1,28 @@
 -- Texts that are added to what is due, one after the other.
-use Rattle.std.proofs.Common.{◌≡◌, ℕ, ◌+◌, ◌<◌, ◌≤◌, Bool, List, [], ◌∷◌, ◌++◌, take, drop, get_or, length, Option, refl, sym, ap, ◌∙◌, subst, arith, append-nil, append_assoc}
+use Rattle.std.proofs.Common.{◌≡◌, ℕ, ◌+◌, ◌<◌, ◌≤◌, Bool, List, [], ◌∷◌, ◌++◌, take, drop, get_or, length, Option, refl, sym, ap, ◌∙◌, subst, arith, length-append, append-nil, append_assoc}
 use Rattle.std.specs.Prelude.{flat_map, Result, Ok, Err}
 use Rattle.std.proofs.lemmas.List.{take_more, take-append-drop, take_all}
 use Rattle.std.proofs.lemmas.Grind.{flat_map-append}
 use Rattle.wf_io.specs.Told.{Appended}
 use Rattle.wf_io.proofs.Appending.{begun_longer, begun_none}
 use Rattle.wf_lines.specs.Taking.{IsDue, IsBegun}
-use Rattle.wf_lines.proofs.Dues.{due_still, due_later, due_more, due_begun, due_put}
+use Rattle.wf_lines.proofs.Dues.{due_still, due_later, due_more, due_begun, due_put, due_some}
 use Rattle.wf_export.specs.declared.fault.ExportFault.{ExportFault}
-use Rattle.wf_export.specs.declared.fault.ExportFault.TheVariants.{NoMemory}
-use Rattle.wf_export.specs.Adds.{IsCauseOf, IsStopped, Adds, Writes}
+use Rattle.wf_export.specs.declared.fault.ExportFault.TheVariants.{WriteFault, NoMemory}
+use Rattle.wf_export.specs.Adds.{IsCauseOf, IsStopped, StaysShort, Adds, Writes}
 
 -- a text is due behind what was due, and no fault came
 abbrev pub AddsWhole : {S : Type 0} → (S → Option (List ℕ)) → (S → ℕ) → List ℕ → List ℕ → List ℕ → S → S → Type 0
-AddsWhole bytes faults text due new_due old new = IsDue (due ++ text) new_due (bytes old) (bytes new) × (faults new ≡ faults old)
+AddsWhole bytes faults text due new_due old new = IsDue (due ++ text) new_due (bytes old) (bytes new) × (faults new ≡ faults old) × StaysShort due new_due
 
 -- where memory is wanting, nothing was put
 pub wanting : (text due : List ℕ) (old : Option (List ℕ)) (count : ℕ) (at_last : Bool) → IsStopped (due ++ text) old old count count at_last NoMemory
-wanting text due old count at_last = record { begun = begun_none (due ++ text) old old refl; later = omega arith; cause = refl }
+wanting text due old count at_last = record { begun = begun_none (due ++ text) old old refl; later = omega arith; cause = refl; some = λ e. absurd (cc) }
 
 module _ {S : Type 0} (bytes : S → Option (List ℕ)) (faults : S → ℕ) (last : S → Bool) where
   -- no text
   pub adds_none : (due : List ℕ) (old : S) → AddsWhole bytes faults [] due due old old
-  adds_none due old = (due_still (due ++ []) due (bytes old) (bytes old) refl (sym (append-nil due)), refl)
+  adds_none due old = (due_still (due ++ []) due (bytes old) (bytes old) refl (sym (append-nil due)), refl, λ short. short)
 
   -- one text and another
   pub adds_both : (a b due mid_due new_due : List ℕ) (old mid new : S) → AddsWhole bytes faults a due mid_due old mid → AddsWhole bytes faults b mid_due new_due mid new → AddsWhole bytes faults (a ++ b) due new_due old new
@@ -30,6 +30,7 @@ module _ {S : Type 0} (bytes : S → Option (List ℕ)) (faults : S → ℕ) (la
     subst (λ t. IsDue t new_due (bytes old) (bytes new)) (append_assoc due a b)
         (due_later ((due ++ a) ++ b) (mid_due ++ b) new_due (bytes old) (bytes mid) (bytes new) (due_more (due ++ a) mid_due b (bytes old) (bytes mid) x.0) y.0),
     y.1 ∙ x.1,
+    λ short. y.2 (x.2 short),
   )
 
   -- a cause counts from where no fault had come
@@ -44,6 +45,7 @@ module _ {S : Type 0} (bytes : S → Option (List ℕ)) (faults : S → ℕ) (la
         (due_begun ((due ++ a) ++ b) (mid_due ++ b) (bytes old) (bytes mid) (bytes new) (due_more (due ++ a) mid_due b (bytes old) (bytes mid) x.0) s.begun);
     later = subst (λ n. n ≤ faults new) x.1 s.later;
     cause = cause_from (faults old) (faults mid) (faults new) (last new) f x.1 s.cause;
+    some = λ w. subst (λ t. 0 < length t) (append_assoc due a b) (due_some ((due ++ a) ++ b) (mid_due ++ b) (bytes old) (bytes mid) (due_more (due ++ a) mid_due b (bytes old) (bytes mid) x.0) (s.some w));
   }
 
   -- a beginning of a text is one of a longer text
@@ -52,6 +54,7 @@ module _ {S : Type 0} (bytes : S → Option (List ℕ)) (faults : S → ℕ) (la
     begun = subst (λ t. IsBegun t (bytes old) (bytes new)) (append_assoc due a b) (begun_longer s.begun.0 (due ++ a) b (bytes old) (bytes new) s.begun.1);
     later = s.later;
     cause = s.cause;
+    some = λ w. let e = length-append (due ++ a) b in let more = s.some w in subst (λ t. 0 < length t) (append_assoc due a b) (omega (arith, e, more));
   }
 
   -- a fault that is passed on
@@ -70,6 +73,7 @@ module _ {S : Type 0} (bytes : S → Option (List ℕ)) (faults : S → ℕ) (la
     begun = due_begun text due (bytes old) (bytes mid) (bytes new) added.0 s.begun;
     later = subst (λ n. n ≤ faults new) added.1 s.later;
     cause = cause_from (faults old) (faults mid) (faults new) (last new) f added.1 s.cause;
+    some = λ w. due_some text due (bytes old) (bytes mid) added.0 (s.some w);
   }
 
   -- whatever the result is, a beginning was put

@@ -1,13 +1,12 @@
 -- What the tables of a run under a view tell: its lines by numbers of instances.
-use Rattle.std.specs.Prelude.{◌≡◌, ℕ, ◌+◌, ◌<◌, ◌≤◌, Bool, cond, is_some, List, [], ◌++◌, map, flat_map, take, drop, length, get_or, Option, Some, None, codes}
+use Rattle.std.specs.Prelude.{◌≡◌, ℕ, ◌+◌, ◌<◌, ◌≤◌, Bool, cond, is_some, List, [], ◌++◌, map, flat_map, take, drop, length, get_or, codes}
 use Rattle.wf_model.specs.Lists.{IsIn}
-use Rattle.wf_model.specs.Grammar.{Grammar, Edge, production_at, module_at, inputs_of, outputs_of}
+use Rattle.wf_model.specs.Grammar.{Grammar, Edge, production_at, module_at}
 use Rattle.wf_model.specs.WellFormed.{IsWellFormed}
 use Rattle.wf_model.specs.View.{View, expands}
 use Rattle.wf_model.specs.Run.{opens, seen_in}
-use Rattle.wf_model.specs.Links.{links, perceived}
+use Rattle.wf_model.specs.Links.{links}
 use Rattle.wf_model.specs.Items.{dotted}
-use Rattle.wf_model.specs.Meaning.{pairs_of}
 use Rattle.wf_flat.specs.declared.table.Inst.{Inst}
 use Rattle.wf_flat.specs.declared.table.Opened.{Opened}
 use Rattle.wf_flat.specs.declared.graph.Port.{Port as PortHeld}
@@ -17,13 +16,6 @@ use Rattle.wf_flat.specs.Graph.{named_links, flag_of, inst_at}
 use Rattle.wf_flat.specs.Flat.{AreWithin}
 use Rattle.wf_flat.specs.Shown.{RunSeen}
 use Rattle.wf_export.specs.ExportText.{named_line, item_line, ports_on}
-
--- rows of the modules below n are the perceived pairs, and the other modules have none
-pub record ArePerceivedBelow (g : Grammar) (u : View) (n : ℕ) (rows : List (Option (List ℕ))) : Type 0 where
-  pub each : length rows ≡ length g.modules
-  pub formed : (m : ℕ) (list : List ℕ) → get_or rows m None ≡ Some list → length list ≡ inputs_of g m
-  pub below : (m i o : ℕ) → m < n → i < inputs_of g m → o < outputs_of g m → pairs_of rows m i o ≡ perceived u m i o
-  pub none : (m : ℕ) → n ≤ m → get_or rows m None ≡ None
 
 -- a run of a well-formed grammar as a view shows it: the numbers of its seen instances, its links, where its expansions lead, and whether each instance is open once it is expanded
 pub record IsRunSeen (g : Grammar) (u : View) (t : Table) (shown : RunSeen) : Type 0 where

@@ -10,6 +10,7 @@ use crate::gathering::pass_on;
 use std::alloc::AllocError;
 use wf_flat::{Inst, PlainRun, RunView};
 use wf_io::Sink;
+use wf_lines::Due;
 use wf_spec::Grammar;
 use wf_view::View;
 
@@ -47,24 +48,24 @@ fn add_instance(line: &mut Vec<u8>, g: &Grammar, view: &View, x: &Inst) -> Resul
 
 /// Adds the line of an instance, if it is not open.
 fn put_instance<O: Sink>(
-    text: &mut Vec<u8>,
+    due: &mut Due,
     g: &Grammar,
     view: &View,
     x: &Inst,
     out: &mut O,
 ) -> Result<(), ExportFault>
     requires { x.now.module.0 < length g.now.core.modules }
-    ensures { Adds O.put_bytes O.faults O.at_last (held_instance_line g.now.core view.now.core x.now) text.old.items text.new.items out.old out.new result }
+    ensures { Adds O.put_bytes O.faults O.at_last (held_instance_line g.now.core view.now.core x.now) due.old due.new out.old out.new result }
 {
-    let Ok(()) = add_instance(text, g, view, x) else {
+    let Ok(()) = add_instance(&mut due.text, g, view, x) else {
         return Err(ExportFault::NoMemory);
     };
-    pass_on(text, out)
+    pass_on(due, out)
 }
 
 /// Adds the lines of the instances that are seen and not open, in order of making.
 pub fn put_instances<O: Sink>(
-    text: &mut Vec<u8>,
+    due: &mut Due,
     g: &Grammar,
     view: &View,
     run: &PlainRun,
@@ -73,11 +74,11 @@ pub fn put_instances<O: Sink>(
 ) -> Result<(), ExportFault>
     requires { IsRunSeen g.now.core view.now.core run.now shown.now }
     ensures { Adds O.put_bytes O.faults O.at_last (instances_text g.now.core view.now.core (events_of run.now))
-        text.old.items text.new.items out.old out.new result }
+        due.old due.new out.old out.new result }
 {
     let instances = run.instances();
     for k in shown.seen() {
-        put_instance(text, g, view, &instances[*k as usize], out)?;
+        put_instance(due, g, view, &instances[*k as usize], out)?;
     }
     Ok(())
 }

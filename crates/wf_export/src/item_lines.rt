@@ -15,6 +15,7 @@ use crate::ports::{add_dotted, port_name};
 use std::alloc::AllocError;
 use wf_flat::{Inst, Opened, PlainRun, RunView};
 use wf_io::Sink;
+use wf_lines::Due;
 use wf_spec::{Edge, Grammar, Name, Side};
 
 /// Appends the line of an item, which is named by an instance and a port.
@@ -49,20 +50,20 @@ fn add_root(line: &mut Vec<u8>, g: &Grammar, name: &[u8]) -> Result<(), AllocErr
 
 /// Adds the lines of the ports of the root, if there is one.
 fn put_root<O: Sink>(
-    text: &mut Vec<u8>,
+    due: &mut Due,
     g: &Grammar,
     instances: &[Inst],
     out: &mut O,
 ) -> Result<(), ExportFault>
-    ensures { Adds O.put_bytes O.faults O.at_last (root_lines g.now.core instances.now) text.old.items text.new.items out.old out.new result }
+    ensures { Adds O.put_bytes O.faults O.at_last (root_lines g.now.core instances.now) due.old due.new out.old out.new result }
 {
     let Some(root) = instances.first() else {
         return Ok(());
     };
-    let Ok(()) = add_root(text, g, root.name.bytes()) else {
+    let Ok(()) = add_root(&mut due.text, g, root.name.bytes()) else {
         return Err(ExportFault::NoMemory);
     };
-    pass_on(text, out)
+    pass_on(due, out)
 }
 
 /// Appends the line of the item of an edge, where the instances at the positions are given.
@@ -93,7 +94,7 @@ fn add_edges(
 
 /// Adds the lines of the items that an expansion makes, if its instance is open.
 fn put_expansion<O: Sink>(
-    text: &mut Vec<u8>,
+    due: &mut Due,
     g: &Grammar,
     instances: &[Inst],
     shown: &RunView,
@@ -102,50 +103,55 @@ fn put_expansion<O: Sink>(
 ) -> Result<(), ExportFault>
     requires { IsReady g.now.core (length instances.now) o }
     ensures { Adds O.put_bytes O.faults O.at_last (expansion_lines g.now.core instances.now shown.now.opens o)
-        text.old.items text.new.items out.old out.new result }
+        due.old due.new out.old out.new result }
 {
     if !shown.opens(o.instance) {
         return Ok(());
     }
     let first = o.first as usize;
     let children = &instances[first..first + o.count as usize];
-    let Ok(()) = add_edges(text, g, children, g.production(o.production).edges()) else {
+    let Ok(()) = add_edges(
+        &mut due.text,
+        g,
+        children,
+        g.production(o.production).edges(),
+    ) else {
         return Err(ExportFault::NoMemory);
     };
-    pass_on(text, out)
+    pass_on(due, out)
 }
 
 /// Adds the lines of the items that the expansions of open instances make, in order.
 fn put_expansions<O: Sink>(
-    text: &mut Vec<u8>,
+    due: &mut Due,
     g: &Grammar,
     run: &PlainRun,
     shown: &RunView,
     out: &mut O,
 ) -> Result<(), ExportFault>
     requires { IsTableOf g.now.core run.now }
-    ensures { Adds O.put_bytes O.faults O.at_last (expansions_text g.now.core run.now shown.now.opens) text.old.items text.new.items out.old out.new result }
+    ensures { Adds O.put_bytes O.faults O.at_last (expansions_text g.now.core run.now shown.now.opens) due.old due.new out.old out.new result }
 {
     // A grammar is well-formed: the production of an expansion is there.
     let _formed = g.start();
     let instances = run.instances();
     for o in run.order() {
-        put_expansion(text, g, instances, shown, *o, out)?;
+        put_expansion(due, g, instances, shown, *o, out)?;
     }
     Ok(())
 }
 
 /// Adds the lines of the items that are visible, in order of making.
 pub fn put_items<O: Sink>(
-    text: &mut Vec<u8>,
+    due: &mut Due,
     g: &Grammar,
     run: &PlainRun,
     shown: &RunView,
     out: &mut O,
 ) -> Result<(), ExportFault>
     requires { IsTableOf g.now.core run.now }
-    ensures { Adds O.put_bytes O.faults O.at_last (held_items_text g.now.core run.now shown.now.opens) text.old.items text.new.items out.old out.new result }
+    ensures { Adds O.put_bytes O.faults O.at_last (held_items_text g.now.core run.now shown.now.opens) due.old due.new out.old out.new result }
 {
-    put_root(text, g, run.instances(), out)?;
-    put_expansions(text, g, run, shown, out)
+    put_root(due, g, run.instances(), out)?;
+    put_expansions(due, g, run, shown, out)
 }

@@ -7,7 +7,6 @@ mod gathering;
 mod instance_lines;
 mod item_lines;
 mod link_lines;
-mod perceived;
 mod ports;
 
 pub use export::write_export;

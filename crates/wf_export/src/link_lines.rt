@@ -10,6 +10,7 @@ use crate::ports::{add_dotted, port_name};
 use std::alloc::AllocError;
 use wf_flat::{Inst, Link, PlainRun, Port, RunView};
 use wf_io::Sink;
+use wf_lines::Due;
 use wf_spec::Grammar;
 
 /// Appends a port by its name.
@@ -43,7 +44,7 @@ fn add_link(
 
 /// Adds the line of a link.
 fn put_link<O: Sink>(
-    text: &mut Vec<u8>,
+    due: &mut Due,
     g: &Grammar,
     instances: &[Inst],
     link: Link,
@@ -51,28 +52,28 @@ fn put_link<O: Sink>(
 ) -> Result<(), ExportFault>
     requires from { link.from.instance < length instances.now }
     requires to { link.to.instance < length instances.now }
-    ensures { Adds O.put_bytes O.faults O.at_last (held_link_line g.now.core instances.now link) text.old.items text.new.items out.old out.new result }
+    ensures { Adds O.put_bytes O.faults O.at_last (held_link_line g.now.core instances.now link) due.old due.new out.old out.new result }
 {
-    let Ok(()) = add_link(text, g, instances, link) else {
+    let Ok(()) = add_link(&mut due.text, g, instances, link) else {
         return Err(ExportFault::NoMemory);
     };
-    pass_on(text, out)
+    pass_on(due, out)
 }
 
 /// Adds the lines of the links between what is seen, in order.
 pub fn put_links<O: Sink>(
-    text: &mut Vec<u8>,
+    due: &mut Due,
     g: &Grammar,
     run: &PlainRun,
     shown: &RunView,
     out: &mut O,
 ) -> Result<(), ExportFault>
     requires { AreWithin (length run.now.instances) shown.now.links }
-    ensures { Adds O.put_bytes O.faults O.at_last (held_links_text g.now.core run.now shown.now.links) text.old.items text.new.items out.old out.new result }
+    ensures { Adds O.put_bytes O.faults O.at_last (held_links_text g.now.core run.now shown.now.links) due.old due.new out.old out.new result }
 {
     let instances = run.instances();
     for link in shown.links() {
-        put_link(text, g, instances, *link, out)?;
+        put_link(due, g, instances, *link, out)?;
     }
     Ok(())
 }

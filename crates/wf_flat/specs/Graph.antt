@@ -8,6 +8,7 @@ use Rattle.wf_model.specs.declared.body.Inner.{Inner}
 use Rattle.wf_model.specs.Lists.{IsIn, some, numbers_from}
 use Rattle.wf_model.specs.Run.{Instance}
 use Rattle.wf_flat.specs.declared.table.Inst.{Inst}
+use Rattle.wf_flat.specs.declared.table.Opened.{Opened}
 use Rattle.wf_flat.specs.Table.{instance_of, no_instance}
 use Rattle.wf_model.specs.View.{View, expands}
 use Rattle.wf_model.specs.Links.{Port, Link, edge_link, entry_links, exit_links}
@@ -91,3 +92,8 @@ MarkOpen flags marks xs seen = (j : ℕ) → flag_of flags j ≡ some (λ c. c =
 -- the instance of a number, by its name and module
 abbrev pub inst_at : List Inst → ℕ → Instance
 inst_at xs k = instance_of (get_or xs k no_instance)
+
+-- the numbers of the children that an expansion makes seen: all, if its instance is marked, and so is its module
+abbrev pub children_seen : List Bool → List Bool → List Inst → Opened → List ℕ
+children_seen flags marks xs o =
+    cond (flag_of flags o.instance && flag_of marks (get_or xs o.instance no_instance).module.0) (numbers_from o.first o.count) []

@@ -1,5 +1,5 @@
 -- The ports of a flat graph by number, and the links that leave each.
-use Rattle.std.specs.Prelude.{◌≡◌, ◌<◌, ◌≤◌, ◌+◌, ◌*◌, ◌++◌, ◌∷◌, [], ℕ, suc, List, length, get_or}
+use Rattle.std.specs.Prelude.{◌≡◌, ◌<◌, ◌≤◌, ◌+◌, ◌*◌, ◌++◌, ◌∷◌, [], ℕ, zero, suc, nat_lt, cond, List, length, get_or}
 use Rattle.wf_model.specs.Lists.{IsIn}
 use Rattle.wf_spec.specs.Sides.{side_place}
 use Rattle.wf_flat.specs.declared.graph.Port.{Port}
@@ -51,6 +51,16 @@ pub data LeadsTo (arcs : List Arc) (q : ℕ) : ℕ → Type 0 where
 -- one of the links that leave port p, from the last of them back, leads to port q
 abbrev pub HasArc : List ℕ → List Arc → ℕ → ℕ → Type 0
 HasArc lasts arcs p q = LeadsTo arcs q (get_or lasts p 0)
+
+-- the ports to which a link and those before it that leave the same port lead, from it back; the link is named by its number and one, and no more than so many links are gone through
+abbrev pub targets_in : List Arc → ℕ → ℕ → List ℕ
+targets_in arcs zero at = []
+targets_in arcs (suc n) zero = []
+targets_in arcs (suc n) (suc k) = cond (nat_lt k (length arcs)) ((get_or arcs k no_arc).to ∷ targets_in arcs n (get_or arcs k no_arc).before) []
+
+-- the ports to which links lead from a port, from the last of the links back
+abbrev pub targets_of : List ℕ → List Arc → ℕ → List ℕ
+targets_of lasts arcs p = targets_in arcs (length arcs) (get_or lasts p 0)
 
 -- each link that is named is there, and each names one before it or none
 pub record AreChained (lasts : List ℕ) (arcs : List Arc) : Type 0 where

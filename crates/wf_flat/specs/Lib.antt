@@ -1,9 +1,8 @@
-pub mod Names
 pub mod Table
 pub mod Opening
 pub mod Graph
 pub mod Index
-pub mod Search
 pub mod Flat
 pub mod Item
 pub mod Shown
+pub mod Seeing

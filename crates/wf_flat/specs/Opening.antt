@@ -4,7 +4,7 @@ use Rattle.wf_model.specs.declared.event.Event.TheVariants.{Expand}
 use Rattle.wf_model.specs.Grammar.{Grammar}
 use Rattle.wf_model.specs.Faults.{fault_of}
 use Rattle.run_faults.specs.Standing.{Fits}
-use Rattle.wf_run.specs.Names.{twice_fault}
+use Rattle.run_faults.specs.NewNames.{twice_fault}
 use Rattle.wf_flat.specs.Table.{Table, names_in, events_of}
 
 -- production p has a position for each of these names, there is room for as many instances, and the event that expands the instance of a name so is refused for no more than a name that is taken

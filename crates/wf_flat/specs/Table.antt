@@ -1,10 +1,13 @@
 -- A run as a table of numbered instances.
-use Rattle.std.specs.Prelude.{◌≡◌, ℕ, ◌<◌, ◌≤◌, ◌+◌, List, [], ◌∷◌, ◌++◌, map, take, drop, length, get_or, set, Option, Some, None, option_map, position, bytes_eq, MatchOption}
+use Rattle.std.specs.Prelude.{◌≡◌, ◌⊎◌, ℕ, ◌<◌, ◌≤◌, ◌+◌, List, [], ◌∷◌, ◌++◌, map, take, drop, length, get_or, set, Option, Some, None, option_map, position, bytes_eq, MatchOption}
 use Rattle.wf_model.specs.declared.event.Event.{Event}
 use Rattle.wf_model.specs.declared.event.Event.TheVariants.{Start, Expand}
+use Rattle.wf_model.specs.declared.event.RunFault.{RunFault}
+use Rattle.wf_model.specs.declared.event.RunFault.TheVariants.{NoMemory}
 use Rattle.wf_model.specs.declared.numbers.ProdNo.{ProdNo}
 use Rattle.wf_model.specs.declared.numbers.ModNo.{ModNo}
 use Rattle.wf_model.specs.declared.body.Position.{Position}
+use Rattle.wf_model.specs.Faults.{fault_of}
 use Rattle.wf_model.specs.Lists.{IsIn, IsAt}
 use Rattle.wf_model.specs.Grammar.{Grammar, body_of}
 use Rattle.wf_model.specs.Run.{Instance, Expanded, named, made, expanded_by, IsAccepted}
@@ -111,3 +114,11 @@ pub record IsTableOf (g : Grammar) (t : Table) : Type 0 where
   pub ordered : (o : Opened) → IsIn o t.order → take o.count (drop o.first (map instance_of t.instances)) ≡ named (given_names (names_in t.instances) o) (body_of g o.production.0)
   -- the root alone has no parent, and each other instance was made by the expansion of its parent
   pub parents : (k : ℕ) (x : Inst) → IsAt x k t.instances → MatchOption x.parent (k ≡ 0) (λ p. IsParentAt g t.instances p k)
+
+-- an event is refused so: memory was refused, or this fault is the first that the run of the table has against it
+abbrev pub TableRefuses : Grammar → Table → Event → RunFault → Type 0
+TableRefuses g t e f = (f ≡ NoMemory) ⊎ (fault_of g t.most (events_of t) e ≡ Some f)
+
+-- the run has nothing against it
+abbrev pub TableTakes : Grammar → Table → Event → Type 0
+TableTakes g t e = fault_of g t.most (events_of t) e ≡ None

@@ -1,41 +1,38 @@
 // The flat graph of a run.
-ghost use Rattle.std.specs.Prelude.{◌≡◌, ◌<◌, ◌≤◌, ◌↔◌, List, [], ℕ, false, length, get_or, IfOk, IsTrue};
-ghost use Rattle.wf_model.specs.Lists.{AllDiffer};
-ghost use Rattle.wf_model.specs.View.{View};
-ghost use Rattle.wf_model.specs.Run.{opens, seen_in};
-ghost use Rattle.wf_model.specs.Links.{Path, links_with};
+ghost use Rattle.std.specs.Prelude.{◌≡◌, ◌<◌, ◌≤◌, ◌↔◌, ℕ, false, length, get_or, IfOk, IsTrue};
+ghost use Rattle.wf_model.specs.Links.{Path};
 ghost use Rattle.wf_model.specs.Meaning.{pairs_of};
-ghost use Rattle.wf_flat.specs.Table.{IsTableOf, events_of, names_in};
-ghost use Rattle.wf_flat.specs.Graph.{named_links, named_port, Marks, IsMadeFor};
-ghost use Rattle.wf_flat.specs.Index.{HasArc, AreChained};
-ghost use Rattle.wf_flat.specs.Search.{IsSearch};
-ghost use Rattle.wf_flat.specs.Flat.{AreWithin, numbered_port, numbered_links, TellsPath, is_item_shown};
+ghost use Rattle.wf_graph.specs.Search.{IsSearch};
+ghost use Rattle.wf_flat.specs.Table.{IsTableOf};
+ghost use Rattle.wf_flat.specs.Graph.{IsMadeFor};
+ghost use Rattle.wf_flat.specs.Index.{HasArc, AreChained, targets_of};
+ghost use Rattle.wf_flat.specs.Flat.{AreWithin, numbered_port, numbered_links, TellsPath, is_item_shown, TellsNamedPath};
+ghost use Rattle.wf_flat.specs.Seeing.{AreLinksBy, AreOpenBy};
 
-use crate::graph::Port;
+use crate::arcs::ArcGraph;
+use crate::graph::{Link, Port};
 use crate::index::{Arc, Index, index_of, number};
 use crate::item::Item;
 use crate::run_view::RunView;
-use crate::search::{Search, no_search, reaches};
 use crate::table::PlainRun;
 use std::alloc::{AllocError, Global};
 use std::marker::Model;
+use wf_graph::Search;
 use wf_spec::{Deps, Grammar};
 
 /// Whether a path leads from a port to a port in the links of an index.
 fn is_joined(
     begins: &[u32],
-    lasts: &[u32],
-    arcs: &[Arc],
+    graph: ArcGraph<'_>,
     search: &mut Search,
     from: Port,
     to: Port,
 ) -> Result<bool, AllocError>
-    requires chained { AreChained lasts.now arcs.now }
-    requires in_range { (a b : ℕ) → HasArc lasts.now arcs.now a b → b < length lasts.now }
-    requires below { (k : ℕ) → get_or begins.now k 0 ≤ length lasts.now }
-    requires search { IsSearch (HasArc lasts.now arcs.now) (length lasts.now) search.old.marks.items search.old.queue.items search.old.done }
-    ensures search { IsSearch (HasArc lasts.now arcs.now) (length lasts.now) search.new.marks.items search.new.queue.items search.new.done }
-    ensures tells { IfOk result (TellsPath begins.now lasts.now arcs.now from to) }
+    requires in_range { (a b : ℕ) → HasArc graph.lasts.now graph.arcs.now a b → b < length graph.lasts.now }
+    requires below { (k : ℕ) → get_or begins.now k 0 ≤ length graph.lasts.now }
+    requires search { IsSearch (targets_of graph.lasts.now graph.arcs.now) (length graph.lasts.now) search.old.marks.items search.old.queue.items search.old.done }
+    ensures search { IsSearch (targets_of graph.entry.lasts.now graph.entry.arcs.now) (length graph.entry.lasts.now) search.new.marks.items search.new.queue.items search.new.done }
+    ensures tells { IfOk result (TellsPath begins.now graph.entry.lasts.now graph.entry.arcs.now from to) }
 {
     if from == to {
         return Ok(true);
@@ -46,7 +43,7 @@ fn is_joined(
     let Some(b) = number(begins, to) else {
         return Ok(false);
     };
-    let is_reached = reaches(lasts, arcs, search, a, b)?;
+    let is_reached = search.reaches(&graph, a, b)?;
     Ok(is_reached)
 }
 
@@ -82,20 +79,25 @@ impl Flat {
     ) -> Result<Flat, AllocError>
         requires run { IsTableOf g.now.core run.now }
         requires made_for { IsMadeFor g.now.core leaf.now }
-        ensures links { IfOk result (λ f. (u : View) → Marks expanded.now u →
-            named_links (names_in run.now.instances) f.links ≡ links_with g.now.core u (pairs_of leaf.now) g.now.core.start (events_of run.now)) }
+        ensures links { IfOk result (λ f. AreLinksBy g.now.core run.now expanded.now (pairs_of leaf.now) f.links) }
         ensures within { IfOk result (λ f. AreWithin (length run.now.instances) f.links) }
-        ensures opens { IfOk result (λ f. (u : View) → Marks expanded.now u → (k : ℕ) → k < length run.now.instances →
-            get_or f.opens k false ≡ opens u (seen_in g.now.core u g.now.core.start (events_of run.now)) (get_or (names_in run.now.instances) k [])) }
+        ensures opens { IfOk result (λ f. AreOpenBy g.now.core run.now expanded.now f.opens) }
     {
         let shown = RunView::of(alloc, g, run, expanded, leaf)?;
         let index = index_of(alloc, run.instances().len(), shown.links())?;
-        let search = no_search(alloc, index.lasts.len())?;
+        let search = Search::new(alloc, index.lasts.len())?;
         Ok(Flat {
             shown,
             index,
             search,
         })
+    }
+
+    /// The links, in order. Takes no memory.
+    pub fn links(&self) -> &[Link]
+        ensures { result.now ≡ self.now.links }
+    {
+        self.shown.links()
     }
 
     /// Whether an item of the run is visible: a port of the root, or made by an open instance.
@@ -116,18 +118,13 @@ impl Flat {
     pub fn joined(&mut self, from: Port, to: Port) -> Result<bool, AllocError>
         ensures unchanged { self.new ≡ self.old }
         ensures joined { IfOk result (λ b. IsTrue b ↔ Path (numbered_links self.old.links) (numbered_port from) (numbered_port to)) }
-        ensures by_name { IfOk result (λ b. (names : List (List ℕ)) → AllDiffer names →
-            AreWithin (length names) self.old.links → from.instance < length names → to.instance < length names →
-            IsTrue b ↔ Path (named_links names self.old.links) (named_port names from) (named_port names to)) }
+        ensures by_name { IfOk result (TellsNamedPath self.old.links from to) }
     {
-        let joined = is_joined(
-            &self.index.begins,
-            &self.index.lasts,
-            &self.index.arcs,
-            &mut self.search,
-            from,
-            to,
-        )?;
+        let graph = ArcGraph {
+            lasts: &self.index.lasts,
+            arcs: &self.index.arcs,
+        };
+        let joined = is_joined(&self.index.begins, graph, &mut self.search, from, to)?;
         Ok(joined)
     }
 }

@@ -1,13 +1,12 @@
 // The links of a run.
-ghost use Rattle.std.specs.Prelude.{◌≡◌, ◌<◌, ◌≤◌, ◌+◌, ◌^◌, ◌==◌, ◌++◌, ◌∷◌, [], List, ℕ, length, take, drop, map, flat_map, get_or, IfOk, OnOk, cond};
+ghost use Rattle.std.specs.Prelude.{◌≡◌, ◌<◌, ◌≤◌, ◌+◌, ◌==◌, ◌++◌, ◌∷◌, [], ℕ, length, map, IfOk, OnOk, cond};
 ghost use Rattle.std.specs.Int.{bit_at};
 ghost use Rattle.wf_model.specs.Lists.{IsIn};
-ghost use Rattle.wf_model.specs.View.{View};
-ghost use Rattle.wf_model.specs.Links.{pair_links, links_of, move_link, instance_at};
 ghost use Rattle.wf_model.specs.Meaning.{pairs_of};
-ghost use Rattle.wf_flat.specs.Table.{IsTableOf, events_of, names_in};
-ghost use Rattle.wf_flat.specs.Graph.{named_links, Marks, row_links, matrix_links, edge_at, entries_at, exits_at, AreBelow, wiring_of, IsMadeFor, inst_at};
+ghost use Rattle.wf_flat.specs.Table.{IsTableOf};
+ghost use Rattle.wf_flat.specs.Graph.{row_links, matrix_links, edge_at, entries_at, exits_at, IsMadeFor};
 ghost use Rattle.wf_flat.specs.Flat.{AreWithin};
+ghost use Rattle.wf_flat.specs.Seeing.{AreLinksOf, AddsInstanceLinks, AddsWiring, KeepsWiringWithin, AddsPairs};
 
 use crate::seen::is_marked;
 use crate::table::PlainRun;
@@ -166,11 +165,8 @@ fn add_wiring(
 ) -> Result<(), AllocError>
     requires few_entries { length rule.now.core.entries ≤ 64 }
     requires few_exits { length rule.now.core.exits ≤ 64 }
-    ensures within { OnOk result ((count n : ℕ) → AreBelow count rule.now.core → instance < n →
-        first + count ≤ n → n < 2 ^ 32 → AreWithin n links.old.items → AreWithin n links.new.items) }
-    ensures links { OnOk result ((names : List (List ℕ)) (count : ℕ) → AreBelow count rule.now.core → first + count < 2 ^ 32 →
-        named_links names links.new.items ≡ named_links names links.old.items ++
-        map (move_link (instance_at (get_or names instance []) (take count (drop first names)))) (wiring_of rule.now.core)) }
+    ensures within { OnOk result (KeepsWiringWithin rule.now.core instance first links.old.items links.new.items) }
+    ensures links { OnOk result (AddsWiring rule.now.core instance first links.old.items links.new.items) }
 {
     add_edges(links, first, rule.edges())?;
     add_entries(links, instance, first, rule.entries())?;
@@ -189,8 +185,7 @@ fn add_pairs(
     requires in_range { m.0 < length g.now.core.modules }
     requires made_for { IsMadeFor g.now.core leaf.now }
     ensures within { OnOk result ((n : ℕ) → instance < n → AreWithin n links.old.items → AreWithin n links.new.items) }
-    ensures links { OnOk result ((names : List (List ℕ)) →
-        named_links names links.new.items ≡ named_links names links.old.items ++ pair_links g.now.core (pairs_of leaf.now) m.0 (get_or names instance [])) }
+    ensures links { OnOk result (AddsPairs g.now.core (pairs_of leaf.now) m.0 instance links.old.items links.new.items) }
 {
     let module = &g.modules()[m.0 as usize];
     let inputs = module.inputs().len();
@@ -214,9 +209,7 @@ fn add_instance(
     requires there { k < length run.now.instances }
     requires made_for { IsMadeFor g.now.core leaf.now }
     ensures within { OnOk result (AreWithin (length run.now.instances) links.old.items → AreWithin (length run.now.instances) links.new.items) }
-    ensures links { OnOk result ((u : View) → Marks expanded.now u →
-        named_links (names_in run.now.instances) links.new.items ≡ named_links (names_in run.now.instances) links.old.items ++
-        links_of g.now.core u (pairs_of leaf.now) (events_of run.now) (inst_at run.now.instances k)) }
+    ensures links { OnOk result (AddsInstanceLinks g.now.core run.now expanded.now (pairs_of leaf.now) k links.old.items links.new.items) }
 {
     // A grammar is well-formed: the production of an instance is there.
     let _formed = g.start();
@@ -246,9 +239,7 @@ pub fn links(
     requires made_for { IsMadeFor g.now.core leaf.now }
     requires there { (k : ℕ) → IsIn k seen.now → k < length run.now.instances }
     ensures within { IfOk result (λ ls. AreWithin (length run.now.instances) ls.items) }
-    ensures links { IfOk result (λ ls. (u : View) → Marks expanded.now u →
-        named_links (names_in run.now.instances) ls.items ≡
-        flat_map (links_of g.now.core u (pairs_of leaf.now) (events_of run.now)) (map (inst_at run.now.instances) seen.now)) }
+    ensures links { IfOk result (λ ls. AreLinksOf g.now.core run.now expanded.now (pairs_of leaf.now) seen.now ls.items) }
 {
     let mut links = Vec::new(alloc);
     for k in seen {

@@ -1,11 +1,11 @@
 // The items of a run, found by name.
-ghost use Rattle.std.specs.Prelude.{◌≡◌, ◌<◌, ◌≤◌, ◌+◌, ◌-◌, ◌^◌, ◌++◌, ◌==◌, [], List, ℕ, Option, Some, None, length, position, get_or, IfSome, IsNone, bytes_eq};
+ghost use Rattle.std.specs.Prelude.{◌≡◌, ◌<◌, ◌≤◌, ◌+◌, ◌-◌, ◌^◌, ◌++◌, ◌==◌, ℕ, Option, Some, None, length, position, get_or, option_map, IfSome, IsNone, bytes_eq};
 ghost use Rattle.wf_model.specs.declared.body.Edge.{Edge as EdgeHeld};
 ghost use Rattle.wf_model.specs.Grammar.{Edge as EdgeSeen, body_of, production_at};
 ghost use Rattle.wf_model.specs.Lists.{IsIn};
-ghost use Rattle.wf_model.specs.Items.{Item as ItemSeen, items, dotted, input_items, output_items};
+ghost use Rattle.wf_model.specs.Items.{items};
 ghost use Rattle.wf_flat.specs.Table.{IsTableOf, events_of, names_in, no_instance};
-ghost use Rattle.wf_flat.specs.Item.{named_item, IsItemWithin, IsItemOfEdge};
+ghost use Rattle.wf_flat.specs.Item.{item_named, named_item, IsItemWithin, IsItemOfEdge, IsItemNamed, HasNoItem, item_name_at, IsRootItem};
 
 use crate::graph::Port;
 use crate::table::PlainRun;
@@ -62,8 +62,7 @@ fn edge_from(edges: &[Edge], from: Inner) -> Option<Edge>
 fn root_item(rule: &Module, k: u32, port: &[u8]) -> Option<Item>
     requires few_inputs { length rule.now.inputs ≤ 64 }
     requires few_outputs { length rule.now.outputs ≤ 64 }
-    ensures found { IfSome result (λ i. (names : List (List ℕ)) →
-        let r = get_or names k [] in IsIn (named_item names (dotted r port.now) i) (input_items r 0 rule.now.inputs ++ output_items r 0 rule.now.outputs)) }
+    ensures found { IfSome result (IsRootItem rule.now k port.now) }
     ensures none { IsNone result → IsIn port.now (rule.now.inputs ++ rule.now.outputs) → ⊥ }
     ensures within { IfSome result (λ i. (count : ℕ) → k < count → IsItemWithin count i) }
 {
@@ -137,10 +136,8 @@ fn inner_item(g: &Grammar, run: &PlainRun, k: u32, parent: u32, port: &[u8]) -> 
     requires run { IsTableOf g.now.core run.now }
     requires there { k < length run.now.instances }
     requires parent { (get_or run.now.instances k no_instance).parent ≡ Some parent }
-    ensures found { IfSome result (λ i. IsIn (named_item (names_in run.now.instances) (dotted (get_or (names_in run.now.instances) k []) port.now) i)
-        (items g.now.core g.now.core.start (events_of run.now))) }
-    ensures none { IsNone result → (t : ItemSeen) → IsIn t (items g.now.core g.now.core.start (events_of run.now)) →
-        t.name ≡ dotted (get_or (names_in run.now.instances) k []) port.now → ⊥ }
+    ensures found { IfSome result (IsItemNamed g.now.core run.now (item_name_at run.now k port.now)) }
+    ensures none { IsNone result → HasNoItem g.now.core run.now (item_name_at run.now k port.now) }
     ensures within { IfSome result (λ i. IsItemWithin (length run.now.instances) i) }
 {
     let all = run.instances();
@@ -160,10 +157,8 @@ fn inner_item(g: &Grammar, run: &PlainRun, k: u32, parent: u32, port: &[u8]) -> 
 fn item_at(g: &Grammar, run: &PlainRun, k: u32, port: &[u8]) -> Option<Item>
     requires run { IsTableOf g.now.core run.now }
     requires there { k < length run.now.instances }
-    ensures found { IfSome result (λ i. IsIn (named_item (names_in run.now.instances) (dotted (get_or (names_in run.now.instances) k []) port.now) i)
-        (items g.now.core g.now.core.start (events_of run.now))) }
-    ensures none { IsNone result → (t : ItemSeen) → IsIn t (items g.now.core g.now.core.start (events_of run.now)) →
-        t.name ≡ dotted (get_or (names_in run.now.instances) k []) port.now → ⊥ }
+    ensures found { IfSome result (IsItemNamed g.now.core run.now (item_name_at run.now k port.now)) }
+    ensures none { IsNone result → HasNoItem g.now.core run.now (item_name_at run.now k port.now) }
     ensures within { IfSome result (λ i. IsItemWithin (length run.now.instances) i) }
 {
     let x = &run.instances()[k as usize];
@@ -178,8 +173,9 @@ fn item_at(g: &Grammar, run: &PlainRun, k: u32, port: &[u8]) -> Option<Item>
 /// Cost: one look-up by hashing, the ports of one module and the edges of one body. Takes no memory.
 pub fn find_item(g: &Grammar, run: &PlainRun, name: &[u8]) -> Option<Item>
     requires { IsTableOf g.now.core run.now }
-    ensures found { IfSome result (λ i. IsIn (named_item (names_in run.now.instances) name.now i) (items g.now.core g.now.core.start (events_of run.now))) }
-    ensures none { IsNone result → (t : ItemSeen) → IsIn t (items g.now.core g.now.core.start (events_of run.now)) → t.name ≡ name.now → ⊥ }
+    ensures found { IfSome result (IsItemNamed g.now.core run.now name.now) }
+    ensures none { IsNone result → HasNoItem g.now.core run.now name.now }
+    ensures named { item_named (items g.now.core g.now.core.start (events_of run.now)) name.now ≡ option_map (named_item (names_in run.now.instances) name.now) result }
     ensures within { IfSome result (λ i. IsItemWithin (length run.now.instances) i) }
 {
     // A grammar is well-formed: the instance that names an item is there.

@@ -1,13 +1,11 @@
 // A run as a view shows it.
-ghost use Rattle.std.specs.Prelude.{◌≡◌, ◌<◌, [], ℕ, false, length, map, get_or, IfOk};
+ghost use Rattle.std.specs.Prelude.{◌≡◌, ◌<◌, ℕ, length, IfOk};
 ghost use Rattle.wf_model.specs.Lists.{IsIn};
-ghost use Rattle.wf_model.specs.View.{View};
-ghost use Rattle.wf_model.specs.Run.{opens, seen_in};
-ghost use Rattle.wf_model.specs.Links.{links_with};
 ghost use Rattle.wf_model.specs.Meaning.{pairs_of};
-ghost use Rattle.wf_flat.specs.Table.{IsTableOf, events_of, names_in};
-ghost use Rattle.wf_flat.specs.Graph.{named_links, flag_of, Marks, IsMadeFor, inst_at};
+ghost use Rattle.wf_flat.specs.Table.{IsTableOf};
+ghost use Rattle.wf_flat.specs.Graph.{flag_of, IsMadeFor};
 ghost use Rattle.wf_flat.specs.Flat.{AreWithin};
+ghost use Rattle.wf_flat.specs.Seeing.{AreSeenBy, AreLinksBy, AreOpenBy};
 
 use crate::graph::{Link, links};
 use crate::open::opens;
@@ -46,14 +44,11 @@ impl RunView {
     ) -> Result<RunView, AllocError>
         requires run { IsTableOf g.now.core run.now }
         requires made_for { IsMadeFor g.now.core leaf.now }
-        ensures seen { IfOk result (λ v. (u : View) → Marks expanded.now u →
-            map (inst_at run.now.instances) v.numbers ≡ seen_in g.now.core u g.now.core.start (events_of run.now)) }
+        ensures seen { IfOk result (λ v. AreSeenBy g.now.core run.now expanded.now v.numbers) }
         ensures there { IfOk result (λ v. (k : ℕ) → IsIn k v.numbers → k < length run.now.instances) }
-        ensures links { IfOk result (λ v. (u : View) → Marks expanded.now u →
-            named_links (names_in run.now.instances) v.links ≡ links_with g.now.core u (pairs_of leaf.now) g.now.core.start (events_of run.now)) }
+        ensures links { IfOk result (λ v. AreLinksBy g.now.core run.now expanded.now (pairs_of leaf.now) v.links) }
         ensures within { IfOk result (λ v. AreWithin (length run.now.instances) v.links) }
-        ensures opens { IfOk result (λ v. (u : View) → Marks expanded.now u → (k : ℕ) → k < length run.now.instances →
-            get_or v.opens k false ≡ opens u (seen_in g.now.core u g.now.core.start (events_of run.now)) (get_or (names_in run.now.instances) k [])) }
+        ensures opens { IfOk result (λ v. AreOpenBy g.now.core run.now expanded.now v.opens) }
     {
         let all = seen(alloc, g, run, expanded)?;
         let links = links(alloc, g, run, &all, expanded, leaf)?;

@@ -1,10 +1,9 @@
 // What is seen of a run, where flags mark the modules that are expanded.
-ghost use Rattle.std.specs.Prelude.{◌≡◌, ◌<◌, ◌≤◌, ◌+◌, ◌^◌, ◌++◌, [], ℕ, true, false, ◌&&◌, length, map, get_or, IfOk, OnOk, cond};
+ghost use Rattle.std.specs.Prelude.{◌≡◌, ◌<◌, ◌≤◌, ◌+◌, ◌^◌, ◌++◌, ℕ, true, false, ◌&&◌, length, IfOk, OnOk};
 ghost use Rattle.wf_model.specs.Lists.{IsIn, numbers_from};
-ghost use Rattle.wf_model.specs.View.{View};
-ghost use Rattle.wf_model.specs.Run.{seen_in};
-ghost use Rattle.wf_flat.specs.Table.{IsTableOf, events_of, no_instance};
-ghost use Rattle.wf_flat.specs.Graph.{Marks, flag_of, Agree, inst_at};
+ghost use Rattle.wf_flat.specs.Table.{IsTableOf};
+ghost use Rattle.wf_flat.specs.Graph.{flag_of, Agree, children_seen};
+ghost use Rattle.wf_flat.specs.Seeing.{AreSeenBy};
 
 use crate::table::{Inst, Opened, PlainRun};
 use std::alloc::{AllocError, Global};
@@ -53,8 +52,7 @@ fn see_one(
     requires small { length instances.now < 2 ^ 32 }
     requires same { length flags.old.items ≡ length instances.now }
     requires agree { Agree flags.old.items seen.old.items }
-    ensures seen { OnOk result (seen.new.items ≡ seen.old.items ++ cond
-        (flag_of flags.old.items o.instance && flag_of expanded.now (get_or instances.now o.instance no_instance).module.0) (numbers_from o.first o.count) []) }
+    ensures seen { OnOk result (seen.new.items ≡ seen.old.items ++ children_seen flags.old.items expanded.now instances.now o) }
     ensures agree { OnOk result (Agree flags.new.items seen.new.items) }
     ensures count { OnOk result (length flags.new.items ≡ length flags.old.items) }
 {
@@ -79,8 +77,7 @@ pub fn seen(
     expanded: &[bool],
 ) -> Result<Vec<u32>, AllocError>
     requires { IsTableOf g.now.core run.now }
-    ensures seen { IfOk result (λ s. (u : View) → Marks expanded.now u →
-        map (inst_at run.now.instances) s.items ≡ seen_in g.now.core u g.now.core.start (events_of run.now)) }
+    ensures seen { IfOk result (λ s. AreSeenBy g.now.core run.now expanded.now s.items) }
     ensures there { IfOk result (λ s. (k : ℕ) → IsIn k s.items → k < length run.now.instances) }
 {
     let instances = run.instances();

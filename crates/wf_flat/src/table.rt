@@ -1,19 +1,18 @@
 // A run as a table of numbered instances.
-ghost use Rattle.std.specs.Prelude.{◌≡◌, ◌<◌, ◌≤◌, ◌+◌, ◌^◌, ◌++◌, ◌∷◌, [], List, Option, Some, None, true, false, length, take, position, is_some, IfOk, IfErr, OnOk, OnErr, IfSome, IfNone, bytes_eq, ◌⊎◌};
+ghost use Rattle.std.specs.Prelude.{◌≡◌, ◌<◌, ◌≤◌, ◌+◌, ◌^◌, ◌++◌, ◌∷◌, [], Option, Some, None, true, false, length, take, position, is_some, IfOk, IfErr, OnOk, OnErr, IfSome, IfNone, bytes_eq};
 ghost use Rattle.wf_model.specs.declared.event.Event.TheVariants.{Start, Expand};
 ghost use Rattle.wf_model.specs.declared.event.RunFault.TheVariants.{NoMemory};
 ghost use Rattle.wf_model.specs.Grammar.{Grammar as GrammarSeen};
 ghost use Rattle.wf_model.specs.Faults.{some_twice, fault_of};
 ghost use Rattle.run_faults.specs.Standing.{IsFound};
-ghost use Rattle.run_faults.specs.Order.{names_fault};
-ghost use Rattle.wf_run.specs.Names.{AreNamesRefused};
-ghost use Rattle.wf_flat.specs.Table.{Table, IsTableOf, IsFoundFor, events_of, names_in, children, with_children, root_instance, started_table, opened_table};
+ghost use Rattle.run_faults.specs.NewNames.{AreNamesRefused};
+ghost use Rattle.wf_flat.specs.Table.{Table, IsTableOf, IsFoundFor, events_of, names_in, children, with_children, started_table, opened_table, TableRefuses, TableTakes};
 ghost use Rattle.wf_flat.specs.Opening.{CanOpen};
 
-use crate::names::InstanceNames;
-use run_faults::{Found, fault_before_names, fault_of_names, start_fault};
+use run_faults::{Found, fault_before_names, fault_without_room, plant, start_fault, take_names};
 use std::alloc::{AllocError, Global};
 use std::marker::Model;
+use wf_names::Names;
 use wf_spec::{Event, Grammar, ModNo, Name, Position, ProdNo, RunFault};
 
 /// An instance of a run. The root alone has no parent. The children of an instance that is expanded stand one after the other, from `first_child` on, in order of the positions; before that `first_child` is 0.
@@ -40,7 +39,7 @@ pub struct Opened {
 pub struct PlainRun {
     alloc: Global,
     most: u32,
-    names: InstanceNames,
+    names: Names,
     instances: Vec<Inst>,
     order: Vec<Opened>,
 }
@@ -86,7 +85,7 @@ fn append_children(
 /// Errors: `NameTwice` where a name is taken already, or stands twice among them; `NoMemory`.
 fn grow(
     alloc: Global,
-    taken: &mut InstanceNames,
+    taken: &mut Names,
     instances: &mut Vec<Inst>,
     order: &mut Vec<Opened>,
     opened: Opened,
@@ -110,7 +109,7 @@ fn grow(
         instances.truncate(before);
         return Err(RunFault::NoMemory);
     }
-    if let Err(fault) = taken.add_all(names) {
+    if let Err(fault) = take_names(taken, names) {
         instances.truncate(before);
         return Err(fault);
     }
@@ -122,37 +121,6 @@ fn grow(
     let x = &mut instances[opened.instance as usize];
     x.production = Some(opened.production);
     x.first_child = opened.first;
-    Ok(())
-}
-
-/// Adds the root, or leaves all as it was. The only error is that memory is refused.
-fn plant(
-    alloc: Global,
-    taken: &mut InstanceNames,
-    instances: &mut Vec<Inst>,
-    module: ModNo,
-    name: &[u8],
-) -> Result<(), RunFault>
-    requires no_names { taken.old ≡ [] }
-    requires no_instances { instances.old.items ≡ [] }
-    ensures names { OnOk result (taken.new ≡ name.now ∷ []) }
-    ensures instances { OnOk result (instances.new.items ≡ root_instance «module» name.now ∷ []) }
-    ensures refused { IfErr result (λ f. f ≡ NoMemory) }
-    ensures same_taken { OnErr result (taken.new ≡ taken.old) }
-    ensures same_instances { OnErr result (instances.new.items ≡ instances.old.items) }
-{
-    let held = Name::copied(alloc, name)?;
-    instances.push(Inst {
-        name: held,
-        module,
-        parent: None,
-        production: None,
-        first_child: 0,
-    })?;
-    if let Err(fault) = taken.add(name) {
-        instances.truncate(0);
-        return Err(fault);
-    }
     Ok(())
 }
 
@@ -175,7 +143,7 @@ impl PlainRun {
         PlainRun {
             alloc,
             most,
-            names: InstanceNames::with_key(alloc, key),
+            names: Names::with_key(alloc, key),
             instances: Vec::new(alloc),
             order: Vec::new(alloc),
         }
@@ -219,8 +187,8 @@ impl PlainRun {
     pub fn take(&mut self, g: &Grammar, e: &Event) -> Result<(), RunFault>
         requires { IsTableOf g.now.core self.old }
         ensures taken { OnOk result (events_of self.new ≡ events_of self.old ++ e.now ∷ []) }
-        ensures extends { OnOk result (fault_of g.now.core self.old.most (events_of self.old) e.now ≡ None) }
-        ensures refused { IfErr result (λ f. (f ≡ NoMemory) ⊎ (fault_of g.now.core self.old.most (events_of self.old) e.now ≡ Some f)) }
+        ensures extends { OnOk result (TableTakes g.now.core self.old e.now) }
+        ensures refused { IfErr result (TableRefuses g.now.core self.old e.now) }
         ensures unchanged { OnErr result (self.new ≡ self.old) }
         ensures run { IsTableOf g.now.core self.new }
         ensures most { self.new.most ≡ self.old.most }
@@ -246,8 +214,8 @@ impl PlainRun {
         requires run { IsTableOf g.now.core self.old }
         requires found { IsFoundFor self.old e.now found }
         ensures taken { OnOk result (events_of self.new ≡ events_of self.old ++ e.now ∷ []) }
-        ensures extends { OnOk result (fault_of g.now.core self.old.most (events_of self.old) e.now ≡ None) }
-        ensures refused { IfErr result (λ f. (f ≡ NoMemory) ⊎ (fault_of g.now.core self.old.most (events_of self.old) e.now ≡ Some f)) }
+        ensures extends { OnOk result (TableTakes g.now.core self.old e.now) }
+        ensures refused { IfErr result (TableRefuses g.now.core self.old e.now) }
         ensures unchanged { OnErr result (self.new ≡ self.old) }
         ensures run { IsTableOf g.now.core self.new }
         ensures most { self.new.most ≡ self.old.most }
@@ -265,8 +233,8 @@ impl PlainRun {
     fn take_start(&mut self, g: &Grammar, name: &[u8]) -> Result<(), RunFault>
         requires { IsTableOf g.now.core self.old }
         ensures taken { OnOk result (events_of self.new ≡ events_of self.old ++ Start name.now ∷ []) }
-        ensures extends { OnOk result (fault_of g.now.core self.old.most (events_of self.old) (Start name.now) ≡ None) }
-        ensures refused { IfErr result (λ f. (f ≡ NoMemory) ⊎ (fault_of g.now.core self.old.most (events_of self.old) (Start name.now) ≡ Some f)) }
+        ensures extends { OnOk result (TableTakes g.now.core self.old (Start name.now)) }
+        ensures refused { IfErr result (TableRefuses g.now.core self.old (Start name.now)) }
         ensures unchanged { OnErr result (self.new ≡ self.old) }
         ensures run { IsTableOf g.now.core self.new }
         ensures most { self.new.most ≡ self.old.most }
@@ -296,9 +264,8 @@ impl PlainRun {
         requires run { IsTableOf g.now.core self.old }
         requires found { found ≡ position (bytes_eq instance.now) (names_in self.old.instances) }
         ensures taken { OnOk result (events_of self.new ≡ events_of self.old ++ Expand instance.now production names.now ∷ []) }
-        ensures extends { OnOk result (fault_of g.now.core self.old.most (events_of self.old) (Expand instance.now production names.now) ≡ None) }
-        ensures refused { IfErr result (λ f. (f ≡ NoMemory) ⊎
-            (fault_of g.now.core self.old.most (events_of self.old) (Expand instance.now production names.now) ≡ Some f)) }
+        ensures extends { OnOk result (TableTakes g.now.core self.old (Expand instance.now production names.now)) }
+        ensures refused { IfErr result (TableRefuses g.now.core self.old (Expand instance.now production names.now)) }
         ensures unchanged { OnErr result (self.new ≡ self.old) }
         ensures run { IsTableOf g.now.core self.new }
         ensures most { self.new.most ≡ self.old.most }
@@ -331,18 +298,6 @@ impl PlainRun {
         })
     }
 
-    /// Why names are refused for which the run has no room; None where it has.
-    fn fault_without_room(&self, names: &[Name]) -> Option<RunFault>
-        ensures fault { IfSome result (λ f. names_fault self.now.most (names_in self.now.instances) names.now ≡ Some f) }
-        ensures room { IfNone result (length self.now.instances + length names.now ≤ self.now.most) }
-    {
-        let count = self.instances.len();
-        if count.saturating_add(names.len()) <= self.most as usize {
-            return None;
-        }
-        fault_of_names(self.most, &self.names, count, names)
-    }
-
     /// Why the run refuses to expand the instance of a name, which has this number; None where no more than a name that is taken can stand against it.
     fn expand_fault(
         &self,
@@ -363,7 +318,7 @@ impl PlainRun {
         if let Some(fault) = fault_before_names(g, count, found, production, names) {
             return Some(fault);
         }
-        self.fault_without_room(names)
+        fault_without_room(self.most, &self.names, names)
     }
 
     /// The number of the instance that an event may expand by the production of a number, if none of the names is taken. Its name was looked up.
@@ -399,13 +354,14 @@ impl PlainRun {
         ensures refused { IfErr result (λ f. f ≡ NoMemory) }
         ensures unchanged { OnErr result (self.new ≡ self.old) }
     {
-        plant(
-            self.alloc,
-            &mut self.names,
-            &mut self.instances,
+        let root = Inst {
+            name: Name::copied(self.alloc, name)?,
             module,
-            name,
-        )?;
+            parent: None,
+            production: None,
+            first_child: 0,
+        };
+        plant(&mut self.names, &mut self.instances, root, name)?;
         Ok(())
     }
 

@@ -6,3 +6,5 @@ pub mod Graphs
 pub mod Resolving
 pub mod Rules
 pub mod Wiring
+pub mod FaultText
+pub mod Numbers

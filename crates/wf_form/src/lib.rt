@@ -4,6 +4,7 @@
 mod assemble;
 mod checks;
 mod fault;
+mod fault_text;
 mod forming;
 mod law;
 mod links;

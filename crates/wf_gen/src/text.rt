@@ -9,6 +9,7 @@ ghost use Rattle.wf_gen.specs.Lines.{event_line};
 use crate::choice::Turn;
 use itoa::Buffer;
 use std::alloc::AllocError;
+use wf_events::append_part;
 
 /// Appends the line of the start event. After an error all from a place on is gone.
 pub(crate) fn append_start(begun: usize, to: &mut Vec<u8>) -> Result<(), AllocError>
@@ -99,17 +100,4 @@ fn append_number(number: u32, begun: usize, to: &mut Vec<u8>) -> Result<(), Allo
 {
     let mut digits = Buffer::new();
     append_part(digits.format(number).as_bytes(), begun, to)
-}
-
-/// Appends a part. After an error all from a place on is gone.
-fn append_part(part: &[u8], begun: usize, to: &mut Vec<u8>) -> Result<(), AllocError>
-    requires { begun ≤ length to.old.items }
-    ensures ok { OnOk result (to.new.items ≡ to.old.items ++ part.now) }
-    ensures err { OnErr result (to.new.items ≡ take begun to.old.items) }
-{
-    if let Err(fault) = to.extend_from_slice(part) {
-        to.truncate(begun);
-        return Err(fault);
-    }
-    Ok(())
 }

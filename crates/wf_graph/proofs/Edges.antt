@@ -8,12 +8,12 @@ use Rattle.wf_graph.specs.Graph.{nexts, HasEdge}
 use Rattle.wf_graph.specs.OneMore.{HasOneMore}
 use Rattle.wf_graph.proofs.Searching.{nexts_read}
 
-nexts-set_same : (graph : List (Vec ℕ Global)) (v : ℕ) (new : Vec ℕ Global) → v < length graph → nexts (set graph v new) v ≡ new.items
+pub nexts-set_same : (graph : List (Vec ℕ Global)) (v : ℕ) (new : Vec ℕ Global) → v < length graph → nexts (set graph v new) v ≡ new.items
 nexts-set_same [] v new h = absurd (omega arith)
 nexts-set_same (x ∷ graph) zero new h = refl
 nexts-set_same (x ∷ graph) (suc v) new h = let r : v < length graph = omega arith in nexts-set_same graph v new r
 
-nexts-set_other : (graph : List (Vec ℕ Global)) (v w : ℕ) (new : Vec ℕ Global) → (w ≡ v → ⊥) → nexts (set graph v new) w ≡ nexts graph w
+pub nexts-set_other : (graph : List (Vec ℕ Global)) (v w : ℕ) (new : Vec ℕ Global) → (w ≡ v → ⊥) → nexts (set graph v new) w ≡ nexts graph w
 nexts-set_other [] v w new h = refl
 nexts-set_other (x ∷ graph) zero zero new h = absurd (h refl)
 nexts-set_other (x ∷ graph) zero (suc w) new h = refl

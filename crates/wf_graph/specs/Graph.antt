@@ -3,6 +3,10 @@ use Rattle.std.specs.Prelude.{ℕ, zero, suc, ◌<◌, List, [], ◌∷◌, leng
 use Rattle.std.specs.declared.alloc.Global.{Global}
 use Rattle.wf_model.specs.Lists.{IsIn, Walk}
 
+-- an edge leads from one vertex to the other, where each vertex leads to a list of vertices
+abbrev pub HasStep : (ℕ → List ℕ) → ℕ → ℕ → Type 0
+HasStep row a b = IsIn b (row a)
+
 -- the vertices to which a vertex leads
 abbrev pub nexts : List (Vec ℕ Global) → ℕ → List ℕ
 nexts [] v = []

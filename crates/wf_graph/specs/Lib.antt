@@ -1,3 +1,5 @@
 pub mod Graph
 pub mod Search
 pub mod OneMore
+pub mod Routes
+pub mod Trails

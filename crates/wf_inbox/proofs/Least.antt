@@ -8,7 +8,7 @@ use Rattle.std.proofs.HeapSift.{at_most}
 use Rattle.std.proofs.lemmas.List.Sorted.{IsPermutation-map}
 use Rattle.wf_inbox.specs.Places.{IsFirst}
 
-least_of : {X : Type 0} (f : X → ℕ) (x : X) (xs : List X) → IsUpperBound (λ a b. nat_cmp (f b) (f a)) x xs → AllByRecursion (λ k. f x ≤ k) (map f xs)
+pub least_of : {X : Type 0} (f : X → ℕ) (x : X) (xs : List X) → IsUpperBound (λ a b. nat_cmp (f b) (f a)) x xs → AllByRecursion (λ k. f x ≤ k) (map f xs)
 least_of f x [] h = tt
 least_of f x (y ∷ xs) h = (at_most (f y) (f x) h.0, least_of f x xs h.1)
 

@@ -2,14 +2,15 @@
 use Rattle.std.proofs.Common.{◌≡◌, ℕ, ◌+◌, ◌-◌, ◌<◌, ◌≤◌, ◌^◌, ◌≢◌, Bool, true, not, ◌&&◌, List, [], ◌∷◌, ◌++◌, map, length, get_or, Option, IsPermutation, refl, ap, sym, ◌∙◌, subst, arith, ⊎_elim}
 use Rattle.std.specs.Prelude.{◌==◌}
 use Rattle.std.specs.List.{AllByRecursion, count_by, slice_set}
-use Rattle.std.proofs.lemmas.Bool.{cases_eq}
+use Rattle.std.proofs.lemmas.Bool.{cases_eq, cases_lt}
+use Rattle.std.proofs.lemmas.List.Sorted.{IsPermutation-refl}
 use Rattle.std.proofs.lemmas.List.{length-set, map-append, length-append, get_or_default}
 use Rattle.report_model.specs.Reports.{Report}
 use Rattle.report_model.specs.Kept.{Kept, is_held, kept_at, let_go, IsFirstReady}
 use Rattle.report_model.proofs.Marked.{same_made}
-use Rattle.wf_inbox.specs.Inboxes.{NoneReady, IsNext}
+use Rattle.wf_inbox.specs.declared.inbox.Held.{Held}
+use Rattle.wf_inbox.specs.Inboxes.{NoneReady, IsFirstHeld, IsFirstLetGo}
 use Rattle.wf_inbox.specs.Places.{IsFirst}
-use Rattle.wf_model.specs.declared.event.Event.{Event}
 use Rattle.wf_inbox.specs.Keeping.{AreTogether, subject_kept, is_due, made_ready, times}
 use Rattle.report_model.proofs.Events.{number_same}
 use Rattle.wf_inbox.proofs.Times.{one_if, first_times, times_popped, below_all, other_number}
@@ -93,16 +94,38 @@ module _ (names : List (Option (List ℕ))) (kept : List Kept) (old new : List �
     few = subst (λ n. n ≤ 2 ^ 32) (sym (length-set kept p (let_go (kept_at kept p)))) t.few;
   }
 
+-- the first place is the least, and so its report is the first that is ready
+pub first_of_all : (names : List (Option (List ℕ))) (kept : List Kept) (ready : List ℕ) (count p : ℕ) → AreTogether names kept ready count → IsFirst ready p → AllByRecursion (λ q. p ≤ q) ready → IsFirstReady kept p
+first_of_all names kept [] count p t f l = absurd (omega (arith, f.0))
+first_of_all names kept (q ∷ ready) count p t f l = is_first names kept (q ∷ ready) ready count p t (subst (λ z. IsPermutation (q ∷ ready) (z ∷ ready)) (sym f.1) (IsPermutation-refl (q ∷ ready))) l.1
+
+-- no other report is the first
+pub one_first : (kept : List Kept) (j k : ℕ) → IsFirstReady kept j → IsFirstReady kept k → j ≡ k
+one_first kept j k a b = ⊎_elim (λ e. e) (λ n. absurd (⊎_elim (λ l. b.first j l a.held a.ready) (λ l. let m : j ≢ k = n in a.first k (omega (arith, l, m)) b.held b.ready) (cases_lt j k))) (cases_eq j k)
+
+-- the report of its place is held no longer
+pub first_let_go : (kept : List Kept) (p : ℕ) (x y : Kept) → x ≡ kept_at kept p → IsFirstReady kept p → y ≡ let_go x → IsFirstLetGo kept (slice_set kept p y)
+first_let_go kept p x y e first g k f =
+    let at : p ≡ k = one_first kept p k first f in
+    ap (slice_set kept p) (g ∙ ap let_go e) ∙ ap (λ j. slice_set kept j (let_go (kept_at kept j))) at
+
+-- where none is ready none is the first
+pub none_let_go : (kept : List Kept) → NoneReady kept → IsFirstLetGo kept kept
+none_let_go kept none k f = absurd (none k f.within f.held f.ready)
+
+-- where one is the first, one is ready
+pub first_not_none : (kept : List Kept) (p : ℕ) → IsFirstReady kept p → NoneReady kept → ⊥
+first_not_none kept p first none = none p first.within first.held first.ready
+
 -- what is read at a place
 pub read_at : (kept : List Kept) (p : ℕ) (x : Kept) → p < length kept → x ≡ get_or kept p x → x ≡ kept_at kept p
 read_at kept p x l e = e ∙ get_or_default kept p x _ l
 
--- what is taken out
-pub next_is : (kept : List Kept) (p : ℕ) (x y : Kept) (line : ℕ) (event : Event) → x ≡ kept_at kept p → IsFirstReady kept p → line ≡ x.report.line → event ≡ x.report.event → y ≡ let_go x →
-    IsNext kept (slice_set kept p y) (record { line = line; event = event })
-next_is kept p x y line event e first l m g =
-    let r : ◌≡◌ {A = Report} x.report (record { line = line; event = event }) = λ t. record { line = sym l t; event = sym m t } in
-    (p, first, ap (λ z. z.report) (sym e) ∙ r, ap (slice_set kept p) (g ∙ ap let_go e))
+-- what the first report is
+pub first_is : (kept : List Kept) (p : ℕ) (x : Kept) (h : Held) → x ≡ kept_at kept p → IsFirstReady kept p → h.line ≡ x.report.line → h.event ≡ x.report.event → IsFirstHeld kept h
+first_is kept p x h e first l m =
+    let r : ◌≡◌ {A = Report} x.report (record { line = h.line; event = h.event }) = λ t. record { line = sym l t; event = sym m t } in
+    (p, first, ap (λ z. z.report) (sym e) ∙ r)
 
 -- a report is made ready if it is held, and its place is put to the others if it was not ready
 pub marked_together : (names : List (Option (List ℕ))) (kept : List Kept) (old new : List ℕ) (count i : ℕ) (x y : Kept) (newly : Bool) → AreTogether names kept old count → i < length kept → x ≡ kept_at kept i → y ≡ made_ready x →

@@ -55,9 +55,13 @@ IsContradicted old line e NoMemory = Unit {0}
 abbrev pub IsNext : List Kept → List Kept → Report → Type 0
 IsNext old new r = (k : ℕ) × IsFirstReady old k × ((kept_at old k).report ≡ r) × (new ≡ slice_set old k (let_go (kept_at old k)))
 
--- this report is the one that is let go
-abbrev pub IsHeldNext : List Kept → List Kept → Held → Type 0
-IsHeldNext old new h = IsNext old new (record { line = h.line; event = h.event })
+-- this report is the first that is held and ready
+abbrev pub IsFirstHeld : List Kept → Held → Type 0
+IsFirstHeld kept h = (k : ℕ) × IsFirstReady kept k × ((kept_at kept k).report ≡ record { line = h.line; event = h.event })
+
+-- the first report that is ready, if there is one, is let go
+abbrev pub IsFirstLetGo : List Kept → List Kept → Type 0
+IsFirstLetGo old new = (k : ℕ) → IsFirstReady old k → new ≡ slice_set old k (let_go (kept_at old k))
 
 -- no report that is held is ready
 abbrev pub NoneReady : List Kept → Type 0

@@ -2,7 +2,7 @@
 ghost use Rattle.std.specs.Prelude.{◌≡◌, ◌≤◌, ◌<◌, ◌+◌, ◌^◌, ◌++◌, ◌∷◌, [], None, map, length, position, MatchOption, IfOk, IfErr, OnOk, OnErr, bytes_eq};
 ghost use Rattle.std.specs.Option.{option_eq};
 ghost use Rattle.wf_inbox.specs.declared.inbox.InboxFault.TheVariants.{NoMemory};
-ghost use Rattle.wf_inbox.specs.Inboxes.{InboxSeen, IsOffered, IsContradicted, IsHeldNext, NoneReady, IsOrphan, NoneHeld, marked};
+ghost use Rattle.wf_inbox.specs.Inboxes.{InboxSeen, IsOffered, IsContradicted, IsFirstHeld, IsFirstLetGo, NoneReady, IsOrphan, NoneHeld, marked};
 ghost use Rattle.wf_inbox.specs.Keeping.{subject_kept, is_due, IsRepeated, IsOpposed, AddsIf};
 
 use crate::places::Places;
@@ -109,7 +109,7 @@ fn first_held(kept: &[KeptReport]) -> Option<u64>
     None
 }
 
-/// Reports in the order in which they came, with their names in an arena. A report is held until its event is ready and it is taken out by `next`; it is known for ever, and found by what it is about.
+/// Reports in the order in which they came, with their names in an arena. A report is held until its event is ready and `let_go_first` lets it go; it is known for ever, and found by what it is about.
 #[derive(Drop)]
 pub struct Inbox<'a> {
     alloc: Global,
@@ -167,9 +167,10 @@ impl<'a> Inbox<'a> {
         Ok(Offer::Kept)
     }
 
-    /// Makes room so that `stands` can be called for so many names. After an error the reports are as they were.
+    /// Makes room so that `stands` can be called for so many names. Room that is there already stays. After an error the reports are as they were.
     pub fn reserve(&mut self, names: u32) -> Result<(), AllocError>
         ensures room { OnOk result (names ≤ self.new.spare) }
+        ensures spare { self.old.spare ≤ self.new.spare }
         ensures kept { self.new.kept ≡ self.old.kept }
     {
         self.places.reserve(names as usize)
@@ -192,25 +193,36 @@ impl<'a> Inbox<'a> {
         }
     }
 
-    /// Takes the first report that is held and ready out of those that are held. It stays known. Takes memory for its event alone. After an error the reports are as they were.
+    /// The first report that is held and ready, where one is; it is held still. Takes memory for its event alone.
     ///
-    /// Cost: one place out of the heap of ready reports, and that of making its event anew.
-    pub fn next(&mut self) -> Result<Option<Held>, AllocError>
-        ensures next { IfOk result (λ o. MatchOption o (NoneReady self.old.kept) (IsHeldNext self.old.kept self.new.kept)) }
-        ensures none { IfOk result (λ o. MatchOption o (self.new.kept ≡ self.old.kept) (λ h. Unit {0})) }
-        ensures unchanged { OnErr result (self.new.kept ≡ self.old.kept) }
-        ensures spare { self.old.spare ≤ self.new.spare }
+    /// Cost: that of making its event anew.
+    pub fn first(&self) -> Result<Option<Held>, AllocError>
+        ensures { IfOk result (λ o. MatchOption o (NoneReady self.now.kept) (IsFirstHeld self.now.kept)) }
     {
         let Some(place) = self.places.least() else {
             return Ok(None);
         };
-        let report = &mut self.kept[place as usize];
+        let report = &self.kept[place as usize];
         let event = report.event(self.alloc)?;
         let line = report.line();
+        Ok(Some(Held { line, event }))
+    }
+
+    /// Lets the first report go that is held and ready: it is held no longer, and stays known. Where none is ready nothing is done. Takes no memory.
+    ///
+    /// Cost: one place out of the heap of ready reports.
+    pub fn let_go_first(&mut self)
+        ensures gone { IsFirstLetGo self.old.kept self.new.kept }
+        ensures none { NoneReady self.old.kept → self.new.kept ≡ self.old.kept }
+        ensures spare { self.old.spare ≤ self.new.spare }
+    {
+        let Some(place) = self.places.least() else {
+            return;
+        };
+        let report = &mut self.kept[place as usize];
         report.let_go();
         self.places.drop_least();
         self.held -= 1;
-        Ok(Some(Held { line, event }))
     }
 
     /// The line of the first report that is held still; None where none is.

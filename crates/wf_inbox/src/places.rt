@@ -1,5 +1,5 @@
 // The places of reports that are ready, the least first.
-ghost use Rattle.std.specs.Prelude.{◌≡◌, ◌≤◌, ◌+◌, ◌∷◌, [], ℕ, MatchOption, OnOk, IsPermutation};
+ghost use Rattle.std.specs.Prelude.{◌≡◌, ◌≤◌, ◌+◌, ◌∷◌, [], ℕ, MatchOption, IfSome, OnOk, IsPermutation};
 ghost use Rattle.std.specs.List.{AllByRecursion};
 ghost use Rattle.wf_inbox.specs.Places.{IsFirst};
 
@@ -40,6 +40,7 @@ impl Places {
     /// Makes room for so many more.
     pub(crate) fn reserve(&mut self, more: usize) -> Result<(), AllocError>
         ensures room { OnOk result (more ≤ self.new.spare) }
+        ensures spare { self.old.spare ≤ self.new.spare }
         ensures kept { self.new.places ≡ self.old.places }
     {
         self.heap.reserve(more)
@@ -59,7 +60,8 @@ impl Places {
 
     /// The least place.
     pub(crate) fn least(&self) -> Option<u32>
-        ensures { MatchOption result (self.now.places ≡ []) (λ p. IsFirst self.now.places p) }
+        ensures first { MatchOption result (self.now.places ≡ []) (λ p. IsFirst self.now.places p) }
+        ensures least { IfSome result (λ p. AllByRecursion (λ q. p ≤ q) self.now.places) }
     {
         let Reverse(place) = *self.heap.peek()?;
         Some(place)

@@ -52,9 +52,9 @@ run_stops g file e text h =
     go (goes_on es told next) = absurd next
 
 -- the lines of a file are stopped at an end, and nothing is put
-abbrev pub AreStoppedAt : Grammar → Option End → FileLines → Type 0
-AreStoppedAt g end file = AreStopped (OfLines (line_ends (codes "events")) (TakesReport nothing_written) (StopsReport nothing_written) StopsHolding (at_start g) file.lines file.tail) (OfLines (line_ends (codes "events")) (TakesReport nothing_written) (StopsReport nothing_written) (ClosesOrGoesOn HoldsNone StopsHolding) (at_start g) file.lines file.tail) end None None
+abbrev pub AreStoppedAt : Grammar → Option End → Type 0 → FileLines → Type 0
+AreStoppedAt g end Failed file = AreStopped (OfLines (line_ends (codes "events")) (TakesReport nothing_written) (StopsReport nothing_written) StopsHolding (at_start g) file.lines file.tail) (OfLines (line_ends (codes "events")) (TakesReport nothing_written) (StopsReport nothing_written) (ClosesOrGoesOn HoldsNone StopsHolding) (at_start g) file.lines file.tail) end Failed None None
 
 -- then the file ends the program so
-pub stopped_stops : (g : Grammar) (e : End) (file : FileLines) → AreStoppedAt g (Some e) file → StopsEvents g instance_most file e
-stopped_stops g e file stopped = let r = stopped.whole e refl in run_stops g file e r.0 r.1
+pub stopped_stops : (g : Grammar) (e : End) (Failed : Type 0) (file : FileLines) → AreStoppedAt g (Some e) Failed file → StopsEvents g instance_most file e
+stopped_stops g e Failed file stopped = let r = stopped.whole e refl in run_stops g file e r.0 r.1

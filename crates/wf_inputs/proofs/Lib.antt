@@ -18,3 +18,5 @@ pub mod ViewComposites
 pub mod ViewSteps
 pub mod SomeRun
 pub mod SomeInputs
+pub mod OneStages
+pub mod GoodFiles

@@ -8,7 +8,8 @@ use Rattle.wf_recur.specs.declared.fault.RecurFault.TheVariants.{TwoLoops, NoMem
 use Rattle.wf_recur.specs.Cycles.{step_of}
 use Rattle.wf_recur.specs.Loops.{IsTwoLoops, IsFaultOf}
 use Rattle.wf_recur.proofs.OneLoops.{one_way}
-use Rattle.wf_message.specs.Refusals.{step_text, recur_text}
+use Rattle.grammar_text.specs.Texts.{step_text}
+use Rattle.wf_recur.specs.FaultText.{recur_text}
 
 module _ (g : Grammar) where
   abbrev loops_text : ℕ → Step → Step → List ℕ

@@ -23,8 +23,10 @@ use Rattle.wf_check.specs.Improper.{IsLeastWithout, IsUnitCycle, IsFirstOf, IsTo
 use Rattle.wf_version.specs.declared.fault.VersionFault.{VersionFault}
 use Rattle.wf_version.specs.declared.fault.VersionFault.TheVariants.{CycleChanged, NoMemory as NoMemoryOfVersion}
 use Rattle.wf_version.specs.Keeping.{IsFaultOf as ChangesCycle}
-use Rattle.wf_message.specs.Refusals.{numbers_text, check_text, version_text}
-use Rattle.wf_inputs.specs.Faults.{form_text}
+use Rattle.grammar_text.specs.Texts.{numbers_text}
+use Rattle.wf_check.specs.FaultText.{check_text}
+use Rattle.wf_version.specs.FaultText.{version_text}
+use Rattle.wf_form.specs.FaultText.{form_text}
 use Rattle.wf_inputs.specs.Specification.{KeepsItsCycles, AllKeepCycles, TellsGrammar, RefusesVersions, RefusesLoops, RefusesGrammar, RefusesParts, RefusesSpec}
 use Rattle.wf_inputs.proofs.OneRefusal.{one_of_bytes, none_of_bytes}
 use Rattle.wf_recur.proofs.OneLoops.{none_of_linear}

@@ -4,7 +4,7 @@ use Rattle.std.specs.Prelude.{Result, Ok, Err, codes}
 use Rattle.serde_json.specs.Data.{Data}
 use Rattle.wf_json.specs.declared.fault.Member.{Member}
 use Rattle.wf_json.specs.Reading.{IsReading, HasNoReading}
-use Rattle.wf_inputs.specs.Faults.{shape_text}
+use Rattle.wf_json.specs.FaultText.{shape_text}
 use Rattle.wf_inputs.proofs.OneValue.{IsSaid, one_reading, one_ok, one_err, ok_not_err}
 
 -- bytes without a reading have none

@@ -13,8 +13,8 @@ use Rattle.wf_spec.proofs.FirstFaults.{no_fault, one_first}
 use Rattle.wf_safe.specs.declared.witness.Witness.{Witness}
 use Rattle.wf_safe.specs.Witness.{IsFirstWitness}
 use Rattle.wf_safe.proofs.OneWitness.{one_witness_law}
-use Rattle.wf_message.specs.Refusals.{unsafe_text}
-use Rattle.wf_inputs.specs.Faults.{view_text}
+use Rattle.wf_safe.specs.WitnessText.{unsafe_text}
+use Rattle.wf_view.specs.FaultText.{view_text}
 use Rattle.wf_inputs.specs.ViewTold.{TellsView, RefusesUnsafe, RefusesViewParts, RefusesView}
 use Rattle.wf_inputs.proofs.OneRefusal.{one_of_bytes, none_of_bytes}
 use Rattle.wf_check.proofs.OneRanking.{one_choice}

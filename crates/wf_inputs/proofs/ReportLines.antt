@@ -1,5 +1,5 @@
 -- Lines of events taken as reports: what a line leaves of the intake, and why it, or the end of the file, ends the program.
-use Rattle.std.proofs.Common.{◌≡◌, ℕ, zero, suc, ◌<◌, Bool, true, false, cond, List, [], ◌∷◌, ◌++◌, map, filter, length, Some, None, refl, sym, ap, ◌∙◌, subst, inl, inr, arith}
+use Rattle.std.proofs.Common.{◌≡◌, ℕ, zero, suc, ◌<◌, Bool, true, false, cond, List, [], ◌∷◌, ◌++◌, map, filter, length, Some, refl, sym, ap, ◌∙◌, subst, inl, inr, arith, append-nil}
 use Rattle.wf_model.specs.declared.event.Event.{Event}
 use Rattle.wf_model.specs.Grammar.{Grammar}
 use Rattle.report_model.specs.Reports.{Report}
@@ -9,9 +9,9 @@ use Rattle.report_model.proofs.Rounds.{taken_by}
 use Rattle.wf_inbox.specs.Inboxes.{IsOrphan, NoneHeld, NoneReady}
 use Rattle.wf_intake.specs.Reported.{ReportedSeen, none_reported}
 use Rattle.wf_intake.specs.Intakes.{IsKeptAs, IsIntakeOf, IsWrittenOn, fault_told}
-use Rattle.wf_intake.specs.Rounds.{IsOnTheWay, IsReportBegun, ComesTo, StopsWith, HaltsAt, HaltsAtReport, Round}
+use Rattle.wf_intake.specs.Rounds.{IsOnTheWay, IsReportBegun, ComesTo, StopsWith, Round}
 use Rattle.wf_intake.proofs.OnTheWay.{held_run}
-use Rattle.wf_intake.proofs.Stepping.{all_done_there, stops_on, halts_on, comes_on}
+use Rattle.wf_intake.proofs.Stepping.{all_done_there, stops_on, comes_on}
 use Rattle.wf_lines.specs.BegunLines.{BegunLine, begun_line, further}
 use Rattle.wf_intake.proofs.Beginning.{intake_begins}
 use Rattle.wf_intake.specs.declared.fault.IntakeFault.{IntakeFault}
@@ -35,7 +35,7 @@ still_taken g h m n kept seen IsRun IsLater grammar limit later s at = record {
   grammar = at.grammar ∙ sym grammar;
   limit = at.limit ∙ sym limit;
   intake = let p = at.intake.parts in subst (λ x. IsIntakeOf x kept seen IsLater s.state) (sym grammar) (record {
-    parts = record { run = later s.state.run p.run; held = p.held; known = p.known; marks = p.marks; subjects = p.subjects; expansions = p.expansions; applied = p.applied; fits = p.fits };
+    parts = record { run = later s.state.run p.run; held = p.held; known = p.known; marks = p.marks; subjects = p.subjects; expansions = p.expansions; waiting = p.waiting; gone = p.gone; fits = p.fits };
     none_ready = at.intake.none_ready;
   });
 }
@@ -96,21 +96,9 @@ module _ (written : Grammar → List Event → List ℕ) (g : Grammar) (m : ℕ)
         made_is = subst (λ x. IsWrittenBehind (written x) s.state.run t.left.run made) (sym at.grammar) (behind (written g) s.state.run t.left.run before made none t.text);
       })
 
-  -- memory is refused where it is begun: it made nothing, or the text of the events that were applied
-  pub report_wanting : (IsLater : List Event → Type 0) → ((s : Intake) → IsIntakeOf g old was IsRun s → HaltsAtReport g m (written g) IsLater before made s (report_on number event)) → (s : TakenSoFar) → IsTakenAs g m old was IsRun s → MakesSoFar written (at_line s)
-  report_wanting IsLater halts s at = go (halts s.state at.intake)
-    where
-      go : HaltsAtReport g m (written g) IsLater before made s.state (report_on number event) → MakesSoFar written (at_line s)
-      go (inl u) = inl (u.text ∙ none)
-      go (inr w) = inr (record {
-        event = event;
-        first = w.0;
-        reached = w.2.reached;
-        told = told;
-        held = w.1;
-        on_the_way = subst (λ x. IsOnTheWay x s.limit w.0 w.2.reached) (sym at.grammar) (subst (λ k. IsOnTheWay g k w.0 w.2.reached) (sym at.limit) w.2.on_the_way);
-        made_is = subst (λ x. IsWrittenBehind (written x) w.0.run w.2.reached.run made) (sym at.grammar) (behind (written g) w.0.run w.2.reached.run before made none w.2.text);
-      })
+  -- memory is refused where it is begun: it made nothing
+  pub report_wanting : made ≡ before → (s : TakenSoFar) → MakesSoFar written (at_line s)
+  report_wanting same s = inl (same ∙ none)
 
 -- a line is begun, and the text of its last piece is cleared
 module _ (written : Grammar → List Event → List ℕ) (g : Grammar) (m : ℕ) (old : List Kept) (was : ReportedSeen) (IsRun : List Event → Type 0) (before piece : List ℕ) (none : before ≡ []) (p : BegunLine TakenSoFar) (within : IsTakenWithin g m written old was IsRun p) where
@@ -188,18 +176,19 @@ module _ (written : Grammar → List Event → List ℕ) (g : Grammar) (m : ℕ)
             (subst (λ es. IsWrittenBehind (written g) es t.left.run (p.made ++ piece)) start (behind (written g) within.begun.first.run t.left.run [] (p.made ++ piece) refl t.text));
       })
 
-  -- memory is refused there
-  pub next_wanting : (IsLater : List Event → Type 0) → ((s : Intake) → IsKeptAs g old was IsRun s → HaltsAt g m (written g) IsLater before piece s) → MakesSoFar written (further p piece)
-  next_wanting IsLater halts =
-      let t = halts_on g m (written g) old was IsRun [] p.made within.begun.first comes before none IsLater piece (halts comes.later comes.here) in
+  -- memory is refused there: what was made stays
+  pub next_wanting : piece ≡ before → MakesSoFar written (further p piece)
+  next_wanting same =
+      let all : p.made ++ piece ≡ p.made = ap (λ l. p.made ++ l) (same ∙ none) ∙ append-nil p.made in
       inr (record {
         event = within.event;
         first = within.begun.first;
-        reached = t.reached;
+        reached = comes.later;
         told = within.told;
         held = within.begun.held;
-        on_the_way = subst (λ x. IsOnTheWay x p.state.limit within.begun.first t.reached) (sym within.grammar) (subst (λ k. IsOnTheWay g k within.begun.first t.reached) (sym within.limit) t.on_the_way);
-        made_is = subst (λ x. IsWrittenBehind (written x) within.begun.first.run t.reached.run (p.made ++ piece)) (sym within.grammar) (behind (written g) within.begun.first.run t.reached.run [] (p.made ++ piece) refl t.text);
+        on_the_way = subst (λ x. IsOnTheWay x p.state.limit within.begun.first comes.later) (sym within.grammar) (subst (λ k. IsOnTheWay g k within.begun.first comes.later) (sym within.limit) comes.on_the_way);
+        made_is = subst (λ l. IsWrittenBehind (written p.state.grammar) within.begun.first.run comes.later.run l) (sym all)
+            (subst (λ x. IsWrittenBehind (written x) within.begun.first.run comes.later.run p.made) (sym within.grammar) (behind (written g) within.begun.first.run comes.later.run [] p.made refl comes.text));
       })
 
 -- where the run is that of the same events, a line is begun as far
@@ -221,17 +210,11 @@ still_within written g h m n kept seen IsRun IsLater grammar limit later p at =
               later = c.later;
               same = c.same;
               on_the_way = c.on_the_way;
-              here = record { run = later c.later.run k.run; held = k.held; known = k.known; marks = k.marks; subjects = k.subjects; expansions = k.expansions; applied = k.applied; fits = k.fits };
+              here = record { run = later c.later.run k.run; held = k.held; known = k.known; marks = k.marks; subjects = k.subjects; expansions = k.expansions; waiting = k.waiting; gone = k.gone; fits = k.fits };
               text = c.text;
             };
           }));
     }
-
--- the end at which a report is refused says something of files
-told_at : (r : ReportFault) → told_end (report_end r) ≡ None → ⊥
-told_at (Conflict line earlier) p = absurd (cc)
-told_at (RefusedByRun line fault) p = absurd (cc)
-told_at (Orphan line) p = absurd (cc)
 
 -- where the end is told, a report is refused
 pub refused_at : (f : IntakeFault) (e : End) → told_end (event_end (StopsAtReport f)) ≡ Some e → (r : ReportFault) × (fault_told f ≡ Some r) × (e ≡ report_end r)
@@ -239,13 +222,6 @@ refused_at (HasConflict line earlier) e told = (Conflict line earlier, refl, tol
 refused_at (HasRefused line fault) e told = (RefusedByRun line fault, refl, told_is (report_end (RefusedByRun line fault)) e told)
 refused_at (HasOrphan line) e told = (Orphan line, refl, told_is (report_end (Orphan line)) e told)
 refused_at WantsMemory e told = absurd (cc)
-
--- and otherwise memory is
-pub wanting_at : (f : IntakeFault) → told_end (event_end (StopsAtReport f)) ≡ None → f ≡ WantsMemory
-wanting_at (HasConflict line earlier) none = absurd (told_at (Conflict line earlier) none)
-wanting_at (HasRefused line fault) none = absurd (told_at (RefusedByRun line fault) none)
-wanting_at (HasOrphan line) none = absurd (told_at (Orphan line) none)
-wanting_at WantsMemory none = refl
 
 -- a report that is not taken is refused, or memory is
 pub refused_or_wanting : (f : IntakeFault) → IsRefusedOrWanting (event_end (StopsAtReport f))

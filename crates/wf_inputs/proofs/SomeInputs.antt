@@ -36,11 +36,17 @@ use Rattle.label_model.proofs.OpenedLabels.{HaveLabels, opened_labels}
 use Rattle.label_file.proofs.SomeReading.{some_opening}
 use Rattle.wf_message.specs.Endings.{End}
 use Rattle.wf_version.proofs.KeepsOrChanges.{keeps_or_changes}
-use Rattle.wf_message.specs.Refusals.{check_text, recur_text, version_text, unsafe_text}
+use Rattle.wf_check.specs.FaultText.{check_text}
+use Rattle.wf_recur.specs.FaultText.{recur_text}
+use Rattle.wf_version.specs.FaultText.{version_text}
+use Rattle.wf_safe.specs.WitnessText.{unsafe_text}
 use Rattle.wf_stage.specs.Stages.{Stage, OfWhole}
-use Rattle.wf_stage.proofs.SomeStages.{HasOutcome, some_stage}
+use Rattle.wf_stage.specs.Outcomes.{HasOutcome}
+use Rattle.wf_stage.proofs.SomeStages.{some_stage}
 use Rattle.wf_inputs.specs.Inputs.{spec_kind, view_kind, labels_kind, SpecStage, ViewStage}
-use Rattle.wf_inputs.specs.Faults.{shape_text, form_text, view_text}
+use Rattle.wf_json.specs.FaultText.{shape_text}
+use Rattle.wf_form.specs.FaultText.{form_text}
+use Rattle.wf_view.specs.FaultText.{view_text}
 use Rattle.wf_inputs.specs.Specification.{AllKeepCycles, TellsGrammar, RefusesVersions, RefusesGrammar, RefusesParts, RefusesSpec}
 use Rattle.wf_inputs.specs.ViewTold.{TellsView, RefusesUnsafe, RefusesViewParts, RefusesView}
 use Rattle.wf_inputs.specs.LabelsTold.{OpensFor, TellsEntries, RefusesLabels}

@@ -11,7 +11,7 @@ use Rattle.wf_json.specs.Reading.{IsReading}
 use Rattle.wf_json.proofs.Readings.{some_reading}
 use Rattle.wf_events.specs.EventForm.{event_of}
 use Rattle.wf_message.specs.Endings.{End, Refused, ReadFault}
-use Rattle.wf_stage.proofs.SomeStages.{HasOutcome}
+use Rattle.wf_stage.specs.Outcomes.{HasOutcome}
 use Rattle.wf_inputs.specs.RunTold.{IsEventText, IsEventLine, report_on, AreReports, AreTakenTo, RefusesForm, RefusesLine, report_end, TellsEvents, StopsIn, refused, stopped, held, long_file, broken, StopsEvents, EventsStage, stops, goes_on}
 use Rattle.wf_inputs.proofs.OneRunFault.{RefusesHere, StopsHere, GoesHere}
 

@@ -1,5 +1,5 @@
 -- How the steps of reading a specification make what its bytes tell.
-use Rattle.std.proofs.Common.{◌≡◌, ◌⊎◌, ℕ, List, None, refl, subst, inl, inr, ⊎_elim}
+use Rattle.std.proofs.Common.{◌≡◌, ◌⊎◌, ℕ, List, None, refl, sym, subst, inl, inr, ⊎_elim}
 use Rattle.std.specs.Prelude.{codes}
 use Rattle.wf_model.specs.declared.parts.Parts.{Parts}
 use Rattle.wf_spec.specs.Held.{HeldGrammar}
@@ -13,8 +13,9 @@ use Rattle.wf_accept.specs.declared.fault.AcceptFault.{AcceptFault}
 use Rattle.wf_accept.specs.declared.fault.AcceptFault.TheVariants.{NotProper, NotLinear, VersionChanged, NoMemory as NoMemoryOfGrammar}
 use Rattle.wf_accept.specs.Faults.{IsFaultOf as IsUnaccepted}
 use Rattle.wf_message.specs.Endings.{End, Refused, NoMemory}
-use Rattle.wf_inputs.specs.Faults.{form_text}
-use Rattle.wf_inputs.specs.Specification.{accept_text, IsSpecText, AllKeepCycles, TellsGrammar, RefusesGrammar, RefusesParts, RefusesSpec}
+use Rattle.wf_form.specs.FaultText.{form_text}
+use Rattle.wf_accept.specs.FaultText.{accept_text}
+use Rattle.wf_inputs.specs.Specification.{IsSpecText, AllKeepCycles, TellsGrammar, RefusesGrammar, RefusesParts, RefusesSpec}
 use Rattle.wf_stage.specs.Stages.{OfWhole, Declines}
 use Rattle.wf_stage.proofs.Stages.{fault_declines}
 
@@ -29,10 +30,12 @@ refuses_by h (NotLinear f) x = inr (x.0, inl (f, x.1, refl))
 refuses_by h (VersionChanged n f) x = inr (x.0, inr (x.1, (n, f, x.2, refl)))
 refuses_by h NoMemoryOfGrammar x = absurd x
 
--- a fault of a grammar, or want of memory
+-- a fault of a grammar whose text was written, or want of memory
 pub grammar_declines : (h : HeldGrammar) (f : AcceptFault) (e : End) → (f ≡ NoMemoryOfGrammar) ⊎ IsUnaccepted h f → (f ≡ NoMemoryOfGrammar → e ≡ NoMemory) →
-    (f ≡ NoMemoryOfGrammar) ⊎ (e ≡ Refused (codes "spec") None (accept_text h.core f)) → Declines (codes "spec") (OfWhole RefusesGrammar h) e
-grammar_declines h f e fault = fault_declines (codes "spec") (OfWhole RefusesGrammar h) NoMemoryOfGrammar f None (accept_text h.core f) e (⊎_elim (λ m. inl m) (λ x. inr (refl, refuses_by h f x)) fault)
+    (e ≡ NoMemory) ⊎ (e ≡ Refused (codes "spec") None (accept_text h.core f)) → Declines (codes "spec") (OfWhole RefusesGrammar h) e
+grammar_declines h f e fault memory told =
+    ⊎_elim (λ m. subst (Declines (codes "spec") (OfWhole RefusesGrammar h)) (sym m) tt)
+    (λ r. fault_declines (codes "spec") (OfWhole RefusesGrammar h) NoMemoryOfGrammar f None (accept_text h.core f) e (⊎_elim (λ m. inl m) (λ x. inr (refl, refuses_by h f x)) fault) memory (inr r)) told
 
 module _ (bytes : List ℕ) (parts : Parts) (read : IsSpecText bytes parts) where
   -- the refusal of parts is one of the bytes that say them

@@ -15,8 +15,8 @@ use Rattle.wf_view.specs.declared.fault.ViewFault.TheVariants.{NoMemory as NoMem
 use Rattle.wf_view.specs.Viewing.{view_of}
 use Rattle.wf_view.specs.Rules.{IsViewed, IsFaultOf}
 use Rattle.wf_message.specs.Endings.{End, Refused, NoMemory}
-use Rattle.wf_message.specs.Refusals.{unsafe_text}
-use Rattle.wf_inputs.specs.Faults.{view_text}
+use Rattle.wf_safe.specs.WitnessText.{unsafe_text}
+use Rattle.wf_view.specs.FaultText.{view_text}
 use Rattle.wf_inputs.specs.ViewTold.{IsViewText, TellsView, RefusesUnsafe, RefusesViewParts, RefusesView}
 use Rattle.wf_stage.specs.Stages.{OfWhole, Declines}
 use Rattle.wf_stage.proofs.Stages.{fault_declines}
@@ -25,11 +25,13 @@ use Rattle.wf_stage.proofs.Stages.{fault_declines}
 pub view_parts_decline : (g : Grammar) (parts : ViewParts) (f : ViewFault) (e : End) → (f ≡ NoMemoryOfView) ⊎ IsFaultOf g parts f → (f ≡ NoMemoryOfView → e ≡ NoMemory) → (f ≡ NoMemoryOfView) ⊎ (e ≡ Refused (codes "view") None (view_text f)) → Declines (codes "view") (OfWhole (RefusesViewParts g) parts) e
 view_parts_decline g parts f e fault = fault_declines (codes "view") (OfWhole (RefusesViewParts g) parts) NoMemoryOfView f None (view_text f) e (⊎_elim (λ m. inl m) (λ h. inr (refl, inl (f, h, refl))) fault)
 
--- a view that is not safe
-pub unsafe_declines : (g : Grammar) (u : View) (r : Ranking) (f : SafeFault) (w : Witness) (e : End) → IsRankingOf g r → IsFault g u r f → f ≡ Unsafe w → e ≡ Refused (codes "view") None (unsafe_text g w) → Declines (codes "view") (OfWhole (RefusesUnsafe g) u) e
+-- a view that is not safe, whose witness was written, or want of memory
+pub unsafe_declines : (g : Grammar) (u : View) (r : Ranking) (f : SafeFault) (w : Witness) (e : End) → IsRankingOf g r → IsFault g u r f → f ≡ Unsafe w →
+    (e ≡ NoMemory) ⊎ (e ≡ Refused (codes "view") None (unsafe_text g w)) → Declines (codes "view") (OfWhole (RefusesUnsafe g) u) e
 unsafe_declines g u r f w e ranking fault is told =
     let h : IsFault g u r (Unsafe w) = subst (IsFault g u r) is fault in
-    subst (Declines (codes "view") (OfWhole (RefusesUnsafe g) u)) (sym told) (refl, (refl, (h.0, (r, w, ranking, h.1, refl))))
+    ⊎_elim (λ m. subst (Declines (codes "view") (OfWhole (RefusesUnsafe g) u)) (sym m) tt)
+    (λ told. subst (Declines (codes "view") (OfWhole (RefusesUnsafe g) u)) (sym told) (refl, (refl, (h.0, (r, w, ranking, h.1, refl))))) told
 
 module _ (g : Grammar) (bytes : List ℕ) (parts : ViewParts) (read : IsViewText bytes parts) where
   -- the refusal of parts is one of the bytes that say them

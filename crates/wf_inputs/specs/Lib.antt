@@ -1,10 +1,9 @@
 pub mod Specification
 pub mod ViewTold
-pub mod Viewed
 pub mod RunTold
 pub mod EventsEnd
 pub mod RunTaking
 pub mod Reporting
 pub mod LabelsTold
-pub mod Faults
 pub mod Inputs
+pub mod GoodFiles

@@ -11,6 +11,7 @@ use Rattle.wf_intake.specs.Rounds.{IsReportBegun}
 use Rattle.wf_lines.specs.BegunLines.{BegunLine}
 use Rattle.wf_flat.specs.Table.{Table, IsTableOf, events_of, names_in}
 use Rattle.wf_io.specs.Told.{File}
+use Rattle.wf_io.specs.Readings.{Reading}
 use Rattle.wf_message.specs.declared.ending.Stop.{Stop}
 use Rattle.wf_stage.specs.Promises.{ReadsLines}
 use Rattle.wf_inputs.specs.Inputs.{instance_most}
@@ -47,5 +48,5 @@ IsChildrenTestIn t number names answer =
     (instance : List ℕ) (x : Expanded) → position (bytes_eq instance) (names_in t.instances) ≡ Some number → expanded_by (events_of t) instance ≡ Some x → answer ≡ pointwise bytes_eq x.names names
 
 -- what a stage that reads the lines of a file of events of a grammar answers: the table of the run that they tell
-abbrev pub ReadsEvents : {S : Type 0} → (S → Option (List ℕ → File)) → (S → ℕ) → (S → Bool) → List ℕ → Grammar → S → S → Result Table Stop → Type 0
-ReadsEvents files faults last name g old new result = ReadsLines files faults last name (TellsEvents g instance_most) events_of (StopsEvents g instance_most) old new result
+abbrev pub ReadsEvents : {S : Type 0} → (S → Option (List ℕ → File)) → (S → Option (List Reading)) → (S → ℕ) → (S → Bool) → List ℕ → Grammar → S → S → Result Table Stop → Type 0
+ReadsEvents files readings faults last name g old new result = ReadsLines files readings faults last name (TellsEvents g instance_most) events_of (StopsEvents g instance_most) old new result

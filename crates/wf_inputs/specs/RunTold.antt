@@ -9,7 +9,7 @@ use Rattle.wf_io.specs.Lines.{Line, FileLines, AtEnd, Broken, LongFile, is_too_l
 use Rattle.wf_json.specs.Reading.{IsReading, HasNoReading}
 use Rattle.wf_events.specs.EventForm.{event_of}
 use Rattle.wf_message.specs.Endings.{End, Refused, ReadFault}
-use Rattle.wf_inputs.specs.Faults.{run_name}
+use Rattle.run_faults.specs.FaultNames.{run_name}
 
 -- the text is an event in JSON
 abbrev pub IsEventText : List ℕ → Event → Type 0

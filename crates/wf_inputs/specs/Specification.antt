@@ -2,7 +2,6 @@
 use Rattle.std.specs.Prelude.{◌≡◌, ◌⊎◌, ℕ, List, Ok, Err, codes}
 use Rattle.serde_json.specs.Data.{Data}
 use Rattle.wf_model.specs.declared.parts.Parts.{Parts}
-use Rattle.wf_model.specs.Grammar.{Grammar}
 use Rattle.wf_model.specs.Proper.{IsProper}
 use Rattle.wf_model.specs.Linear.{IsLinear}
 use Rattle.wf_spec.specs.Held.{HeldGrammar}
@@ -17,19 +16,13 @@ use Rattle.wf_check.specs.Improper.{IsFaultOf as IsFaultOfGrammar}
 use Rattle.wf_recur.specs.declared.fault.RecurFault.{RecurFault}
 use Rattle.wf_recur.specs.Loops.{IsFaultOf as HasTwoLoops}
 use Rattle.wf_version.specs.declared.fault.VersionFault.{VersionFault}
-use Rattle.wf_accept.specs.declared.fault.AcceptFault.{AcceptFault}
-use Rattle.wf_accept.specs.declared.fault.AcceptFault.TheVariants.{NotProper, NotLinear, VersionChanged, NoMemory}
 pub use Rattle.wf_accept.specs.Accepted.{KeepsItsCycles, AllKeepCycles}
 pub use Rattle.wf_accept.specs.Faults.{IsFirstChanged}
-use Rattle.wf_message.specs.Refusals.{check_text, recur_text, version_text}
-use Rattle.wf_inputs.specs.Faults.{shape_text, form_text}
-
--- why a grammar is not accepted
-abbrev pub accept_text : Grammar → AcceptFault → List ℕ
-accept_text g (NotProper f) = check_text g f
-accept_text g (NotLinear f) = recur_text g f
-accept_text g (VersionChanged n f) = version_text g n f
-accept_text g NoMemory = codes "NoMemory"
+use Rattle.wf_check.specs.FaultText.{check_text}
+use Rattle.wf_recur.specs.FaultText.{recur_text}
+use Rattle.wf_version.specs.FaultText.{version_text}
+use Rattle.wf_json.specs.FaultText.{shape_text}
+use Rattle.wf_form.specs.FaultText.{form_text}
 
 -- the bytes are a specification in JSON
 abbrev pub IsSpecText : List ℕ → Parts → Type 0

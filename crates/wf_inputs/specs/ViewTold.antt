@@ -14,8 +14,9 @@ use Rattle.wf_view.specs.Viewing.{view_of}
 use Rattle.wf_view.specs.Rules.{IsViewed, IsFaultOf}
 use Rattle.wf_safe.specs.declared.witness.Witness.{Witness}
 use Rattle.wf_safe.specs.Witness.{IsFirstWitness}
-use Rattle.wf_message.specs.Refusals.{unsafe_text}
-use Rattle.wf_inputs.specs.Faults.{shape_text, view_text}
+use Rattle.wf_safe.specs.WitnessText.{unsafe_text}
+use Rattle.wf_json.specs.FaultText.{shape_text}
+use Rattle.wf_view.specs.FaultText.{view_text}
 
 -- the bytes are a view in JSON
 abbrev pub IsViewText : List ℕ → ViewParts → Type 0

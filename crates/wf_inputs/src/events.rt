@@ -164,7 +164,7 @@ pub fn events_stage<H: Shelf>(
     g: &Grammar,
 ) -> Result<PlainRun, Stop>
     ensures run { IfOk result (λ r. IsTableOf g.now.core r) }
-    ensures reads { ReadsEvents H.files H.faults H.at_last name.now g.now.core shelf.old shelf.new result }
+    ensures reads { ReadsEvents H.files H.readings H.faults H.at_last name.now g.now.core shelf.old shelf.new result }
 {
     let Ok(mut lines) = Lines::open(alloc, name) else {
         return Err(Stop::NoMemory);

@@ -4,7 +4,7 @@ ghost use Rattle.label_model.specs.Files.{Entry};
 ghost use Rattle.label_file.specs.Stored.{AreHeldOf};
 ghost use Rattle.wf_message.specs.Endings.{end_of, Refused, NoMemory};
 ghost use Rattle.wf_stage.specs.Stages.{Declines, OfWhole};
-ghost use Rattle.wf_inputs.specs.Faults.{store_text};
+ghost use Rattle.label_file.specs.FaultText.{store_text};
 ghost use Rattle.wf_inputs.specs.LabelsTold.{TellsEntries, RefusesLabels};
 
 use crate::faults::store_refusal;

@@ -9,7 +9,6 @@ mod labels;
 mod reports;
 mod specification;
 mod view;
-mod viewed;
 
 pub use event_stop::{EventStop, events_stop};
 pub use events::{INSTANCES, events_stage};
@@ -19,4 +18,3 @@ pub use labels::store_of;
 pub use reports::Reporting;
 pub use specification::spec_stage;
 pub use view::view_stage;
-pub use viewed::Viewed;

@@ -1,14 +1,15 @@
 // SPEC: from bytes to a grammar, with the ranks of its modules and its cycles.
-ghost use Rattle.std.specs.Prelude.{◌≡◌, ◌⊎◌, None, IfOk, IfErr, codes};
+ghost use Rattle.std.specs.Prelude.{◌≡◌, ◌⊎◌, [], None, IfOk, IfErr, codes};
 ghost use Rattle.wf_form.specs.Forming.{held_of, HaveVersions, IsFormed};
 ghost use Rattle.wf_message.specs.Endings.{end_of, Refused, NoMemory};
 ghost use Rattle.wf_message.specs.Refusals.{refusal_text};
 ghost use Rattle.wf_stage.specs.Stages.{Declines, OfWhole};
 ghost use Rattle.wf_stage.specs.Promises.{Reads};
 ghost use Rattle.wf_accept.specs.Accepted.{IsAccepted};
-ghost use Rattle.wf_inputs.specs.Faults.{form_text};
+ghost use Rattle.wf_accept.specs.FaultText.{accept_text};
+ghost use Rattle.wf_form.specs.FaultText.{form_text};
 ghost use Rattle.wf_inputs.specs.Inputs.{spec_kind};
-ghost use Rattle.wf_inputs.specs.Specification.{accept_text, IsSpecText, TellsGrammar, RefusesSpec, RefusesParts, RefusesGrammar};
+ghost use Rattle.wf_inputs.specs.Specification.{IsSpecText, TellsGrammar, RefusesSpec, RefusesParts, RefusesGrammar};
 
 use crate::faults::{form_refusal, named, shape_refusal};
 use crate::kinds::SPEC;
@@ -17,7 +18,7 @@ use wf_accept::{AcceptFault, Accepted, Unaccepted, accept};
 use wf_form::{FormFault, build_with_key};
 use wf_io::Shelf;
 use wf_json::{JsonFault, read_spec};
-use wf_message::{Refusal, Stop, refused_whole};
+use wf_message::{Refusal, Stop, empty_text, refused_whole};
 use wf_spec::{Grammar, Parts};
 use wf_stage::read_file;
 
@@ -62,21 +63,18 @@ fn grammar_of_parts(alloc: Global, key: u64, parts: Parts) -> Result<Grammar, St
     }
 }
 
-/// The stop at a fault of a grammar.
-fn accept_stop(unaccepted: Unaccepted) -> Stop
-    ensures memory { unaccepted.fault ≡ AcceptFault.NoMemory → end_of result ≡ NoMemory }
-    ensures refused { (unaccepted.fault ≡ AcceptFault.NoMemory) ⊎ (end_of result ≡ Refused (codes "spec") None (accept_text unaccepted.grammar.core unaccepted.fault)) }
+/// The stop at a fault of a grammar, whose text is written into an empty one.
+fn accept_stop(unaccepted: &Unaccepted, mut text: Vec<u8>) -> Stop
+    requires { text.items ≡ [] }
+    ensures memory { unaccepted.now.fault ≡ AcceptFault.NoMemory → end_of result ≡ NoMemory }
+    ensures refused { (end_of result ≡ NoMemory) ⊎ (end_of result ≡ Refused (codes "spec") None (accept_text unaccepted.now.grammar.core unaccepted.now.fault)) }
 {
-    let Unaccepted { grammar, fault } = unaccepted;
-    match fault {
-        AcceptFault::NotProper(fault) => refused(Refusal::Check { grammar, fault }),
-        AcceptFault::NotLinear(fault) => refused(Refusal::Recur { grammar, fault }),
-        AcceptFault::VersionChanged { version, fault } => refused(Refusal::Version {
-            grammar,
-            version,
-            fault,
-        }),
-        AcceptFault::NoMemory => Stop::NoMemory,
+    if matches!(unaccepted.fault, AcceptFault::NoMemory) {
+        return Stop::NoMemory;
+    }
+    match unaccepted.fault.add_text(&mut text, &unaccepted.grammar) {
+        Ok(()) => refused(Refusal::Written { text }),
+        Err(_) => Stop::NoMemory,
     }
 }
 
@@ -86,12 +84,15 @@ fn accepted(alloc: Global, g: Grammar) -> Result<Accepted, Stop>
     ensures accepted { IfOk result (λ a. IsAccepted a) }
     ensures declines { IfErr result (λ e. Declines (codes "spec") (OfWhole RefusesGrammar g) (end_of e)) }
 {
+    let Ok(text) = empty_text(alloc) else {
+        return Err(Stop::NoMemory);
+    };
     match accept(alloc, g) {
         Ok(accepted) => {
             let _facts = accepted.grammar();
             Ok(accepted)
         }
-        Err(unaccepted) => Err(accept_stop(unaccepted)),
+        Err(unaccepted) => Err(accept_stop(&unaccepted, text)),
     }
 }
 
@@ -111,7 +112,7 @@ fn spec_of_bytes(alloc: Global, key: u64, bytes: &[u8]) -> Result<Accepted, Stop
 
 /// The grammar of SPEC.
 pub fn spec_stage<H: Shelf>(alloc: Global, shelf: &mut H, name: &str) -> Result<Accepted, Stop>
-    ensures reads { Reads H.files H.faults H.at_last spec_kind name.now TellsGrammar (λ s. s.grammar) (OfWhole RefusesSpec) shelf.old shelf.new result }
+    ensures reads { Reads H.files H.readings H.faults H.at_last spec_kind name.now TellsGrammar (λ s. s.grammar) (OfWhole RefusesSpec) shelf.old shelf.new result }
 {
     let bytes = read_file(alloc, shelf, name, SPEC)?;
     let key = shelf.hash_key();

@@ -18,7 +18,8 @@ first_parts g IsRun run = record {
     marks = λ k l. absurd (omega (arith, l));
     subjects = tt;
     expansions = λ k l. absurd (omega (arith, l));
-    applied = λ k l. absurd (omega (arith, l));
+    waiting = λ k l. absurd (omega (arith, l));
+    gone = λ k l. absurd (omega (arith, l));
     fits = record { begins = tt; many = refl; productions = λ i. refl };
   };
   none_ready = λ k l. absurd (omega (arith, l));
@@ -42,7 +43,8 @@ intake_still g h kept seen IsRun IsLater grammar later s here = subst (λ z. IsI
     marks = here.parts.marks;
     subjects = here.parts.subjects;
     expansions = here.parts.expansions;
-    applied = here.parts.applied;
+    waiting = here.parts.waiting;
+    gone = here.parts.gone;
     fits = here.parts.fits;
   };
   none_ready = here.none_ready;

@@ -1,20 +1,20 @@
 -- What is known on a subject, and which held reports are ready.
-use Rattle.std.proofs.Common.{◌≡◌, ℕ, zero, suc, ◌≤◌, ◌<◌, Bool, true, false, cond, List, [], ◌∷◌, ◌++◌, map, filter, length, Option, None, Some, option_map, refl, sym, ap, ◌∙◌, subst, arith}
-use Rattle.std.specs.Prelude.{bytes_eq}
+use Rattle.std.proofs.Common.{◌≡◌, ℕ, zero, suc, ◌≤◌, ◌<◌, Bool, true, false, cond, ◌||◌, List, [], ◌∷◌, ◌++◌, map, filter, length, Option, None, Some, option_map, refl, sym, ap, ◌∙◌, subst, arith, true≢false}
+use Rattle.std.specs.Prelude.{not, bytes_eq}
 use Rattle.std.specs.Option.{option_eq, option_or}
 use Rattle.std.specs.List.{find, slice_set}
 use Rattle.std.proofs.lemmas.List.Folds.{find-append}
-use Rattle.std.proofs.Math.Seq.{map-set_same}
 use Rattle.wf_model.specs.Lists.{IsIn, AllDiffer}
 use Rattle.wf_model.specs.Grammar.{Grammar}
 use Rattle.wf_model.specs.declared.event.Event.{Event}
 use Rattle.wf_model.specs.declared.event.Event.TheVariants.{Start, Expand}
-use Rattle.wf_model.specs.Run.{made, names_of}
+use Rattle.wf_model.specs.Run.{made, made_by, names_of}
 use Rattle.wf_model.specs.Faults.{is_one_of}
 use Rattle.report_model.specs.Reports.{Report, subject_of, same_subject, about}
 use Rattle.report_model.specs.Intake.{without_first, is_ready, ready_in}
-use Rattle.report_model.specs.Kept.{Kept, report_of, reports_of, is_held, kept_at, let_go, NoneReadyBefore, IsFirstReady, AreMarked}
-use Rattle.report_model.proofs.Events.{subjects_same, subject_itself}
+use Rattle.report_model.specs.Kept.{Kept, report_of, is_held, kept_at, let_go, NoneReadyBefore, IsFirstReady, AreMarked}
+use Rattle.report_model.proofs.Events.{subjects_same, same_subjects, subject_itself}
+use Rattle.report_model.proofs.Rounds.{ready_after}
 use Rattle.report_model.proofs.Marked.{IsBefore, none_marked, first_marked, find-map, without_first-map}
 use Rattle.wf_inbox.specs.Inboxes.{known_on, NoneReady}
 use Rattle.wf_intake.specs.Intakes.{subjects_of}
@@ -32,24 +32,54 @@ or_none (Some x) = refl
 pub known_more : (known : List Report) (r : Report) (x : Event) → find (about x) (known ++ r ∷ []) ≡ option_or (find (about x) known) (cond (same_subject r.event x) (Some r) None)
 known_more known r x = find-append (about x) known (r ∷ [])
 
--- a report that is kept is the one that is known on its subject
-pub kept_known : (kept : List Kept) (k : ℕ) → k < length kept → AllDiffer (subjects_of kept) → known_on kept (kept_at kept k).report.event ≡ Some (kept_at kept k).report
-kept_known [] k l d = absurd (omega (arith, l))
-kept_known (y ∷ kept) zero l d = ap (λ b. cond b (Some y.report) (find (about y.report.event) (reports_of kept))) (subject_itself y.report.event)
-kept_known (y ∷ kept) (suc k) l d = go (same_subject y.report.event (kept_at kept k).report.event) refl (kept_known kept k (omega (arith, l)) d.1)
-  where
-    go : (b : Bool) → same_subject y.report.event (kept_at kept k).report.event ≡ b → known_on kept (kept_at kept k).report.event ≡ Some (kept_at kept k).report → cond b (Some y.report) (known_on kept (kept_at kept k).report.event) ≡ Some (kept_at kept k).report
-    go true q e = absurd (d.0 (subst (λ z. IsIn z (subjects_of kept)) (sym (subjects_same y.report.event (kept_at kept k).report.event q)) (subject_in kept k (omega (arith, l)))))
-    go false q e = e
+-- the reports that are held
+abbrev pub held_of : List Kept → List Report
+held_of kept = map report_of (filter is_held kept)
 
--- nothing that is kept is known on a subject where none of the reports is about it
-pub none_kept : (kept : List Kept) (x : Event) → ((k : ℕ) → k < length kept → subject_of (kept_at kept k).report.event ≡ subject_of x → ⊥) → known_on kept x ≡ None
-none_kept [] x h = refl
-none_kept (y ∷ kept) x h = go (same_subject y.report.event x) refl (none_kept kept x (λ k l. h (suc k) (omega (arith, l))))
+-- the first of those that are held
+held_first : (y : Kept) (kept : List Kept) (x : Event) → find (about x) (held_of (y ∷ kept)) ≡ cond y.held (cond (same_subject y.report.event x) (Some y.report) (find (about x) (held_of kept))) (find (about x) (held_of kept))
+held_first y kept x = go y.held
   where
-    go : (b : Bool) → same_subject y.report.event x ≡ b → known_on kept x ≡ None → cond b (Some y.report) (known_on kept x) ≡ None
-    go true q e = absurd (h 0 (omega arith) (subjects_same y.report.event x q))
-    go false q e = e
+    go : (b : Bool) → find (about x) (map report_of (cond b (y ∷ filter is_held kept) (filter is_held kept))) ≡ cond b (cond (same_subject y.report.event x) (Some y.report) (find (about x) (held_of kept))) (find (about x) (held_of kept))
+    go true = refl
+    go false = refl
+
+-- a report that is held is the one that is held on its subject
+pub held_known : (kept : List Kept) (k : ℕ) → k < length kept → (kept_at kept k).held ≡ true → AllDiffer (subjects_of kept) → find (about (kept_at kept k).report.event) (held_of kept) ≡ Some (kept_at kept k).report
+held_known [] k l h d = absurd (omega (arith, l))
+held_known (y ∷ kept) zero l h d =
+    held_first y kept y.report.event ∙
+    (ap (λ b. cond b (cond (same_subject y.report.event y.report.event) (Some y.report) (find (about y.report.event) (held_of kept))) (find (about y.report.event) (held_of kept))) h ∙
+    ap (λ b. cond b (Some y.report) (find (about y.report.event) (held_of kept))) (subject_itself y.report.event))
+held_known (y ∷ kept) (suc k) l h d = held_first y kept x ∙ go y.held (same_subject y.report.event x) refl (held_known kept k (omega (arith, l)) h d.1)
+  where
+    x : Event
+    x = (kept_at kept k).report.event
+
+    go : (a b : Bool) → same_subject y.report.event x ≡ b → find (about x) (held_of kept) ≡ Some (kept_at kept k).report → cond a (cond b (Some y.report) (find (about x) (held_of kept))) (find (about x) (held_of kept)) ≡ Some (kept_at kept k).report
+    go false b q e = e
+    go true false q e = e
+    go true true q e = absurd (d.0 (subst (λ z. IsIn z (subjects_of kept)) (sym (subjects_same y.report.event x q)) (subject_in kept k (omega (arith, l)))))
+
+-- none is held on a subject where none of the reports that are held is about it
+pub none_held_on : (kept : List Kept) (x : Event) → ((k : ℕ) → k < length kept → (kept_at kept k).held ≡ true → subject_of (kept_at kept k).report.event ≡ subject_of x → ⊥) → find (about x) (held_of kept) ≡ None
+none_held_on [] x h = refl
+none_held_on (y ∷ kept) x h = held_first y kept x ∙ go y.held (same_subject y.report.event x) refl refl (none_held_on kept x (λ k l. h (suc k) (omega (arith, l))))
+  where
+    go : (a b : Bool) → y.held ≡ a → same_subject y.report.event x ≡ b → find (about x) (held_of kept) ≡ None → cond a (cond b (Some y.report) (find (about x) (held_of kept))) (find (about x) (held_of kept)) ≡ None
+    go false b p q e = e
+    go true false p q e = e
+    go true true p q e = absurd (h 0 (omega arith) p (subjects_same y.report.event x q))
+
+-- where each report on a subject is held, one is known on it as one is held
+pub held_as_kept : (kept : List Kept) (x : Event) → ((k : ℕ) → k < length kept → (kept_at kept k).held ≡ false → subject_of (kept_at kept k).report.event ≡ subject_of x → ⊥) → find (about x) (held_of kept) ≡ known_on kept x
+held_as_kept [] x h = refl
+held_as_kept (y ∷ kept) x h = held_first y kept x ∙ go y.held (same_subject y.report.event x) refl refl (held_as_kept kept x (λ k l. h (suc k) (omega (arith, l))))
+  where
+    go : (a b : Bool) → y.held ≡ a → same_subject y.report.event x ≡ b → find (about x) (held_of kept) ≡ known_on kept x → cond a (cond b (Some y.report) (find (about x) (held_of kept))) (find (about x) (held_of kept)) ≡ cond b (Some y.report) (known_on kept x)
+    go true b p q e = ap (λ o. cond b (Some y.report) o) e
+    go false false p q e = e
+    go false true p q e = absurd (h 0 (omega arith) p (subjects_same y.report.event x q))
 
 -- whether an event is ready is told by its subject
 pub ready_alike : (g : Grammar) (run : List Event) (x y : Event) → subject_of x ≡ subject_of y → is_ready g run x ≡ is_ready g run y
@@ -62,9 +92,47 @@ ready_alike g run (Expand i p ns) (Expand j q ms) e = let f : i ≡ j = cc in ap
 abbrev past : Kept
 past = record { report = record { line = 0; event = Start [] }; held = false; ready = false }
 
--- a report that is let go stays known
-pub reports_left : (kept : List Kept) (k : ℕ) → reports_of (slice_set kept k (let_go (kept_at kept k))) ≡ reports_of kept
-reports_left kept k = map-set_same report_of kept k (let_go (kept_at kept k)) past refl
+-- where a report is let go, on other subjects as before one is held
+pub held_without : (kept : List Kept) (k : ℕ) (x : Event) → k < length kept → same_subject (kept_at kept k).report.event x ≡ false → find (about x) (held_of (slice_set kept k (let_go (kept_at kept k)))) ≡ find (about x) (held_of kept)
+held_without [] k x l q = refl
+held_without (y ∷ kept) zero x l q = sym (held_first y kept x ∙ go y.held)
+  where
+    go : (a : Bool) → cond a (cond (same_subject y.report.event x) (Some y.report) (find (about x) (held_of kept))) (find (about x) (held_of kept)) ≡ find (about x) (held_of kept)
+    go false = refl
+    go true = ap (λ b. cond b (Some y.report) (find (about x) (held_of kept))) q
+held_without (y ∷ kept) (suc k) x l q =
+    held_first y (slice_set kept k (let_go (kept_at kept k))) x ∙
+    (ap (λ o. cond y.held (cond (same_subject y.report.event x) (Some y.report) o) o) (held_without kept k x (omega (arith, l)) q) ∙ sym (held_first y kept x))
+
+-- what is known without the reports on a subject
+pub known_without : (e x : Event) (known : List Report) → find (about x) (filter (λ (r : Report). not (about e r)) known) ≡ cond (same_subject e x) None (find (about x) known)
+known_without e x [] = go (same_subject e x)
+  where
+    go : (b : Bool) → None ≡ cond {A = Option Report} b None None
+    go true = refl
+    go false = refl
+known_without e x (r ∷ known) = go (same_subject r.event e) (same_subject r.event x) (same_subject e x) refl refl refl (known_without e x known)
+  where
+    rest : List Report
+    rest = filter (λ (y : Report). not (about e y)) known
+
+    go : (a b c : Bool) → same_subject r.event e ≡ a → same_subject r.event x ≡ b → same_subject e x ≡ c → find (about x) rest ≡ cond (same_subject e x) None (find (about x) known) →
+        find (about x) (cond (not (same_subject r.event e)) (r ∷ rest) rest) ≡ cond (same_subject e x) None (cond (same_subject r.event x) (Some r) (find (about x) known))
+    go true true true p q t ih = ap (λ z. find (about x) (cond (not z) (r ∷ rest) rest)) p ∙ (ih ∙ (ap (λ z. cond z None (find (about x) known)) t ∙ sym (ap (λ z. cond z None (cond (same_subject r.event x) (Some r) (find (about x) known))) t)))
+    go true true false p q t ih = absurd (true≢false (sym (same_subjects e x (sym (subjects_same r.event e p) ∙ subjects_same r.event x q)) ∙ t))
+    go true false c p q t ih = ap (λ z. find (about x) (cond (not z) (r ∷ rest) rest)) p ∙ (ih ∙ ap (λ z. cond (same_subject e x) None (cond z (Some r) (find (about x) known))) (sym q))
+    go false true true p q t ih = absurd (true≢false (sym (same_subjects r.event e (subjects_same r.event x q ∙ sym (subjects_same e x t))) ∙ p))
+    go false true false p q t ih =
+        ap (λ z. find (about x) (cond (not z) (r ∷ rest) rest)) p ∙
+        (ap (λ z. cond z (Some r) (find (about x) rest)) q ∙ sym (ap (λ z. cond z None (cond (same_subject r.event x) (Some r) (find (about x) known))) t ∙ ap (λ z. cond z (Some r) (find (about x) known)) q))
+    go false false c p q t ih =
+        ap (λ z. find (about x) (cond (not z) (r ∷ rest) rest)) p ∙
+        (ap (λ z. cond z (Some r) (find (about x) rest)) q ∙ (ih ∙ ap (λ z. cond (same_subject e x) None (cond z (Some r) (find (about x) known))) (sym q)))
+
+-- an expansion that is ready stays so
+pub ready_still : (g : Grammar) (run : List Event) (e x : Event) → (subject_of x ≡ None → ⊥) → is_ready g run x ≡ true → is_ready g (run ++ e ∷ []) x ≡ true
+ready_still g run e (Start r) n h = absurd (n refl)
+ready_still g run e (Expand i p names) n h = ready_after g run e i p names ∙ ap (λ b. b || is_one_of (names_of (made_by g g.start e)) i) h
 
 -- where one is let go, each has the report that it had
 pub report_left : (kept : List Kept) (k j : ℕ) → (kept_at (slice_set kept k (let_go (kept_at kept k))) j).report ≡ (kept_at kept j).report
@@ -74,13 +142,7 @@ report_left (x ∷ kept) zero (suc j) = refl
 report_left (x ∷ kept) (suc k) zero = refl
 report_left (x ∷ kept) (suc k) (suc j) = report_left kept k j
 
--- that one is held no longer
-pub held_left : (kept : List Kept) (k : ℕ) → k < length kept → (kept_at (slice_set kept k (let_go (kept_at kept k))) k).held ≡ false
-held_left [] k l = refl
-held_left (x ∷ kept) zero l = refl
-held_left (x ∷ kept) (suc k) l = held_left kept k (omega (arith, l))
-
--- and each other as it was
+-- and each other is held as it was
 pub held_others : (kept : List Kept) (k j : ℕ) → (j ≡ k → ⊥) → (kept_at (slice_set kept k (let_go (kept_at kept k))) j).held ≡ (kept_at kept j).held
 held_others [] k j n = refl
 held_others (x ∷ kept) zero zero n = absurd (n refl)

@@ -1,5 +1,5 @@
 -- A report that is taken: it repeats another, or contradicts it, or is held; or it is ready.
-use Rattle.std.proofs.Common.{◌≡◌, ℕ, zero, suc, ◌<◌, Bool, true, false, cond, List, [], ◌∷◌, ◌++◌, map, filter, length, ◌≤◌, Option, None, Some, refl, sym, ap, ◌∙◌, subst, inl, inr, ⊎_elim, arith}
+use Rattle.std.proofs.Common.{◌≡◌, ℕ, zero, suc, ◌<◌, Bool, true, false, cond, List, [], ◌∷◌, ◌++◌, map, filter, length, ◌≤◌, Option, None, Some, refl, sym, ap, ◌∙◌, subst, inl, inr, ⊎_elim, arith, true≢false}
 use Rattle.std.specs.Option.{option_or}
 use Rattle.std.specs.List.{find}
 use Rattle.std.proofs.lemmas.List.{map-append, length-append}
@@ -22,8 +22,8 @@ use Rattle.wf_intake.specs.declared.standing.Standing.TheVariants.{Same, Other, 
 use Rattle.wf_intake.specs.Reported.{ReportedSeen, noted}
 use Rattle.wf_intake.specs.Applied.{applied_on, IsStanding}
 use Rattle.wf_intake.specs.Intakes.{subjects_of, IsKeptAs, IsIntakeOf, IsWrittenOn}
-use Rattle.wf_intake.specs.Rounds.{names_given, all_marked, held_count, IsApplied, IsNotApplied, IsHalted, IsReportBegun, StopsWith, HaltsAtReport}
-use Rattle.wf_intake.proofs.KnownOn.{known_more}
+use Rattle.wf_intake.specs.Rounds.{names_given, all_marked, held_count, IsApplied, IsNotApplied, IsReportBegun, StopsWith}
+use Rattle.wf_intake.proofs.KnownOn.{known_more, held_as_kept, ready_alike}
 use Rattle.wf_intake.proofs.OnTheWay.{no_way}
 use Rattle.wf_intake.proofs.Places.{count_marked}
 use Rattle.wf_intake.proofs.Parts.{goes_beside, ready_refused, ready_applied, ready_way, ready_parts}
@@ -60,7 +60,7 @@ module _ (g : Grammar) (most : ℕ) (old : List Kept) (seen : ReportedSeen) (IsR
   contradicted k q e earlier l = taken_by g most s r (Stops s (Conflict r.line k.line)) (beside k q false e) ∙ ap (λ n. Stops s (Conflict r.line n)) l
 
   of_applied : (k : Report) → applied_on g s.run seen r.event ≡ Some k → find (about r.event) s.known ≡ Some k
-  of_applied k q = here.parts.known r.event ∙ ap (λ o. option_or o (known_on old r.event)) q
+  of_applied k q = here.parts.known r.event ∙ ap (λ o. option_or o (find (about r.event) s.held)) q
 
   module _ (written : List Event → List ℕ) (text : List ℕ) where
     abbrev Begun : List Kept → Type 0
@@ -86,13 +86,13 @@ module _ (g : Grammar) (most : ℕ) (old : List Kept) (seen : ReportedSeen) (IsR
         let e : Conflict r.line earlier ≡ f = cc in
         record { left = s; stops = contradicted a.0 (of_applied a.0 a.1) a.2 earlier a.3 ∙ ap (Stops s) e; run = here.parts.run; text = nothing }
 
-    -- memory is refused before any event is applied
-    pub halted_early : HaltsAtReport g most written IsRun text text s r
-    halted_early = inl (record { run = here.parts.run; text = refl })
-
     module _ (early : IsStanding g s.run seen r.event Early) where
+      -- each report that is about the same is held, since others were ready
+      all_held : (j : ℕ) → j < length old → (kept_at old j).held ≡ false → subject_of (kept_at old j).report.event ≡ subject_of r.event → ⊥
+      all_held j l h q = true≢false (sym (here.parts.gone j l h) ∙ (ready_alike g s.run (kept_at old j).report.event r.event q ∙ early.1))
+
       of_kept : (o : Option Report) → known_on old r.event ≡ o → find (about r.event) s.known ≡ o
-      of_kept o q = here.parts.known r.event ∙ (ap (λ z. option_or z (known_on old r.event)) early.0 ∙ q)
+      of_kept o q = here.parts.known r.event ∙ (ap (λ z. option_or z (find (about r.event) s.held)) early.0 ∙ (ap (find (about r.event)) here.parts.held ∙ (held_as_kept old r.event all_held ∙ q)))
 
       abbrev k : Kept
       k = newly_kept r false
@@ -106,12 +106,13 @@ module _ (g : Grammar) (most : ℕ) (old : List Kept) (seen : ReportedSeen) (IsR
         held = ap (λ l. l ++ r ∷ []) here.parts.held ∙ sym (ap (map report_of) (marked_last is_held is_held old k refl) ∙ map-append report_of (filter is_held old) (k ∷ []));
         known = λ x. known_more s.known r x ∙
             (ap (λ o. option_or o (find (about x) (r ∷ []))) (here.parts.known x) ∙
-            (or_assoc (applied_on g s.run seen x) (known_on old x) (find (about x) (r ∷ [])) ∙
-            ap (option_or (applied_on g s.run seen x)) (sym (ap (find (about x)) (map-append report_of old (k ∷ [])) ∙ find-append (about x) (reports_of old) (r ∷ [])))));
+            (or_assoc (applied_on g s.run seen x) (find (about x) s.held) (find (about x) (r ∷ [])) ∙
+            ap (option_or (applied_on g s.run seen x)) (sym (find-append (about x) s.held (r ∷ [])))));
         marks = each_more (λ (x : Kept). x.held ≡ true → x.ready ≡ ready_in g s.run x.report) old k here.parts.marks (λ h. sym early.1);
         subjects = subst AllDiffer (sym (map-append (λ (x : Kept). subject_of x.report.event) old (k ∷ []))) (differ_last (subjects_of old) (subject_of r.event) here.parts.subjects (new_subject old r none));
         expansions = each_more (λ (x : Kept). subject_of x.report.event ≡ None → ⊥) old k here.parts.expansions early.2;
-        applied = each_more (λ (x : Kept). applied_on g s.run seen x.report.event ≡ cond x.held None (Some x.report)) old k here.parts.applied early.0;
+        waiting = each_more (λ (x : Kept). x.held ≡ true → applied_on g s.run seen x.report.event ≡ None) old k here.parts.waiting (λ h. early.0);
+        gone = each_more (λ (x : Kept). x.held ≡ false → ready_in g s.run x.report ≡ true) old k here.parts.gone (λ h. absurd (true≢false h));
         fits = here.parts.fits;
       }
 
@@ -148,11 +149,6 @@ module _ (g : Grammar) (most : ℕ) (written : Grammar → List Event → List �
 
   is_held_so : hold s report ≡ GoesOn beside_it
   is_held_so = goes_beside g most old seen WasRun s here line e number stands
-
-  -- memory is refused before its event is applied, or behind it
-  pub halted_at_once : (IsRun : List Event → Type 0) (now : List ℕ) → IsHalted g most (written g) s.run e IsRun before now → HaltsAtReport g most (written g) IsRun before now s report
-  halted_at_once IsRun now (inl a) = inl a
-  halted_at_once IsRun now (inr a) = inr (beside_it, is_held_so, record { reached = _; on_the_way = ready_way g most old seen WasRun s here line e number stands a.extends; run = a.run; text = a.text })
 
   abbrev after : Intake
   after = record { run = s.run ++ e ∷ []; held = s.held; known = s.known ++ report ∷ [] }

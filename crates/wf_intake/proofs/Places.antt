@@ -129,15 +129,6 @@ pub held_reports : (names : List (List ℕ)) (kept : List Kept) → map report_o
 held_reports [] kept = refl
 held_reports (n ∷ names) kept = held_reports names (map (marked n) kept) ∙ held_reports_one n kept
 
-reports_one : (n : List ℕ) (kept : List Kept) → map report_of (map (marked n) kept) ≡ map report_of kept
-reports_one n [] = refl
-reports_one n (x ∷ kept) = let r = report_marked n x in let e = reports_one n kept in λ t. r t ∷ e t
-
--- nor those that are known
-pub known_reports : (names : List (List ℕ)) (kept : List Kept) → map report_of (all_marked names kept) ≡ map report_of kept
-known_reports [] kept = refl
-known_reports (n ∷ names) kept = known_reports names (map (marked n) kept) ∙ reports_one n kept
-
 subjects_one : (n : List ℕ) (kept : List Kept) → subjects_of (map (marked n) kept) ≡ subjects_of kept
 subjects_one n [] = refl
 subjects_one n (x ∷ kept) = let r = report_marked n x in let e = subjects_one n kept in λ t. subject_of (r t).event ∷ e t

@@ -1,5 +1,5 @@
 -- The rounds of the intake, and how they follow one another.
-use Rattle.std.proofs.Common.{◌≡◌, ℕ, List, [], ◌++◌, Option, Some, sym, ap, ◌∙◌, subst, arith, append_assoc, append-nil, inl, inr, refl}
+use Rattle.std.proofs.Common.{◌≡◌, ℕ, List, [], ◌++◌, Option, Some, sym, ap, ◌∙◌, subst, arith, append_assoc, append-nil, refl}
 use Rattle.std.specs.Prelude.{◌+◌, MatchOption}
 use Rattle.wf_model.specs.declared.event.RunFault.{RunFault}
 use Rattle.std.specs.List.{find, slice_set}
@@ -10,21 +10,20 @@ use Rattle.report_model.specs.Intake.{Intake, ReportFault, Refused, GoesOn, Stop
 use Rattle.report_model.specs.Kept.{Kept, kept_at, let_go, IsFirstReady}
 use Rattle.report_model.proofs.Rounds.{all_done}
 use Rattle.wf_inbox.specs.declared.inbox.Held.{Held}
-use Rattle.wf_inbox.specs.Inboxes.{IsNext, IsHeldNext, NoneReady}
+use Rattle.wf_inbox.specs.Inboxes.{IsNext, IsFirstHeld, IsFirstLetGo, NoneReady}
 use Rattle.wf_intake.specs.declared.fault.IntakeFault.{IntakeFault}
-use Rattle.wf_intake.specs.declared.fault.IntakeFault.TheVariants.{NoMemory}
 use Rattle.wf_intake.specs.Reported.{ReportedSeen, noted}
 use Rattle.wf_intake.specs.Applied.{number_of}
-use Rattle.wf_intake.specs.Intakes.{IsKeptAs, IsWrittenOn, fault_told}
-use Rattle.wf_intake.specs.Rounds.{names_given, all_marked, held_count, IsApplied, IsUntouched, IsNotApplied, IsHalted, ComesTo, StopsWith, HaltsAt, IsLetGo, Round, Stop, Halt}
+use Rattle.wf_intake.specs.Intakes.{IsKeptAs, IsWrittenOn, forgetting, fault_told}
+use Rattle.wf_intake.specs.Rounds.{names_given, all_marked, held_count, IsApplied, IsNotApplied, ComesTo, StopsWith, IsForgotten, Round, Stop}
 use Rattle.wf_intake.proofs.Places.{one_less, count_marked}
 use Rattle.wf_intake.proofs.KnownOn.{none_found}
-use Rattle.wf_intake.proofs.OnTheWay.{way_on, no_way}
-use Rattle.wf_intake.proofs.Parts.{next_refused, next_applied, next_way, next_parts}
+use Rattle.wf_intake.proofs.OnTheWay.{way_on}
+use Rattle.wf_intake.proofs.Parts.{next_refused, next_applied, next_way, next_parts, refused_parts}
 
--- the report that is let go
-pub next_held : (was left : List Kept) (o : Option Held) (h : Held) → o ≡ Some h → MatchOption o (NoneReady was) (IsHeldNext was left) → IsNext was left (record { line = h.line; event = h.event })
-next_held was left o h e next = subst (λ z. MatchOption z (NoneReady was) (IsHeldNext was left)) e next
+-- the first report that is ready is let go
+pub next_held : (was left : List Kept) (o : Option Held) (h : Held) → o ≡ Some h → MatchOption o (NoneReady was) (IsFirstHeld was) → IsFirstLetGo was left → IsNext was left (record { line = h.line; event = h.event })
+next_held was left o h e first gone = let f = subst (λ z. MatchOption z (NoneReady was) (IsFirstHeld was)) e first in (f.0, f.1, f.2, gone f.0 f.1)
 
 -- nothing more is written
 pub written_same : (written : List Event → List ℕ) (run : List Event) (old new : List ℕ) → new ≡ old → IsWrittenOn written run run old new
@@ -37,14 +36,6 @@ written_on written a b c x y z p q = (
   q.1 ∙ (ap (λ l. l ++ q.0) p.1 ∙ append_assoc x p.0 q.0),
   q.2 ∙ (ap (λ l. l ++ q.0) p.2 ∙ append_assoc (written a) p.0 q.0),
 )
-
--- where memory is refused before an event is applied
-pub untouched : (g : Grammar) (most : ℕ) (written : List Event → List ℕ) (IsRun : List Event → Type 0) (old new : List ℕ) (s : Intake) → IsUntouched s.run IsRun old new → HaltsAt g most written IsRun old new s
-untouched g most written IsRun old new s a = record { reached = s; on_the_way = no_way g most s; run = a.run; text = written_same written s.run old new a.text }
-
--- or before a round
-pub halted_before : (g : Grammar) (most : ℕ) (written : Grammar → List Event → List ℕ) (was : List Kept) (told : ReportedSeen) (IsRun : List Event → Type 0) (old : List ℕ) (f : IntakeFault) → Halt g most written was told IsRun old IsRun old f
-halted_before g most written was told IsRun old f t s here = untouched g most (written g) IsRun old old s (record { run = here.run; text = refl })
 
 module _ (g : Grammar) (most : ℕ) (written : List Event → List ℕ) (was : List Kept) (told : ReportedSeen) (WasRun IsRun : List Event → Type 0) (old new : List ℕ) (s : Intake) (here : IsKeptAs g was told WasRun s) (k : ℕ) (first : IsFirstReady was k) where
   abbrev event : Event
@@ -71,10 +62,6 @@ module _ (g : Grammar) (most : ℕ) (written : List Event → List ℕ) (was : L
     text = written_same written s.run old new a.untouched.text;
   }
 
-  halted : IsHalted g most written s.run event IsRun old new → HaltsAt g most written IsRun old new s
-  halted (inl a) = untouched g most written IsRun old new s a
-  halted (inr a) = record { reached = _; on_the_way = next_way g most was told WasRun s here k first a.extends; run = a.run; text = a.text }
-
 module _ (g : Grammar) (most : ℕ) (written : Grammar → List Event → List ℕ) (was left : List Kept) (told : ReportedSeen) (WasRun : List Event → Type 0) (line : ℕ) (e : Event) (next : IsNext was left (record { line = line; event = e })) (old new : List ℕ) where
   -- the event of the first report that is ready is applied
   pub round_applied : (kept : List Kept) (seen : ReportedSeen) (number : Option ℕ) (IsRun : List Event → Type 0) → kept ≡ all_marked (names_given e) left → seen ≡ noted told number line e →
@@ -94,9 +81,21 @@ module _ (g : Grammar) (most : ℕ) (written : Grammar → List Event → List �
       let b : held_count kept ≡ held_count (slice_set was next.0 (let_go (kept_at was next.0))) = ap held_count marks ∙ (count_marked (names_given e) left ∙ ap held_count next.3) in
       omega (arith, a, b)
 
-  -- where it is refused it is let go
-  pub round_left : (kept : List Kept) (r : ReportFault) → kept ≡ left → (fault : RunFault) × (r ≡ Refused line fault) → IsLetGo was kept r
-  round_left kept r same is = (record { line = line; event = e }, is.0, is.1, subst (λ z. IsNext was z (record { line = line; event = e })) (sym same) next)
+  -- where it is refused it is let go, and the parts are those without it
+  pub round_left : (seen : ReportedSeen) (IsRun : List Event → Type 0) (r : ReportFault) → seen ≡ told → ((events : List Event) → WasRun events → IsRun events) → (fault : RunFault) × (r ≡ Refused line fault) → IsForgotten g was told WasRun left seen IsRun r
+  round_left seen IsRun r same still is = record {
+    next = record { line = line; event = e };
+    fault = is.0;
+    is = is.1;
+    let_go = next;
+    lines = same;
+    parts = λ s here.
+        let l : (kept_at was next.0).report ≡ record { line = line; event = e } = next.2 in
+        subst (λ z. IsKeptAs g left z IsRun (forgetting g s e)) (sym same)
+        (subst (λ z. IsKeptAs g z told IsRun (forgetting g s e)) (sym next.3)
+        (subst (λ (z : Report). IsKeptAs g (slice_set was next.0 (let_go (kept_at was next.0))) told IsRun (forgetting g s z.event)) l
+        (refused_parts g most was told WasRun s here next.0 next.1 IsRun (still s.run here.run))));
+  }
 
   module _ (IsRun : List Event → Type 0) (f : IntakeFault) where
     -- or it is refused
@@ -104,12 +103,6 @@ module _ (g : Grammar) (most : ℕ) (written : Grammar → List Event → List �
     round_refused a r t s here =
         let l : (kept_at was next.0).report ≡ record { line = line; event = e } = next.2 in
         refused g most (written g) was told WasRun IsRun old new s here next.0 next.1 r (subst (λ (z : Report). IsNotApplied g most s.run z.event z.line r IsRun old new) (sym l) (a r t s.run here.run))
-
-    -- or memory is refused
-    pub round_halted : (f ≡ NoMemory → (events : List Event) → WasRun events → IsHalted g most (written g) events e IsRun old new) → Halt g most written was told WasRun old IsRun new f
-    round_halted a t s here =
-        let l : (kept_at was next.0).report ≡ record { line = line; event = e } = next.2 in
-        halted g most (written g) was told WasRun IsRun old new s here next.0 next.1 (subst (λ (z : Report). IsHalted g most (written g) s.run z.event IsRun old new) (sym l) (a t s.run here.run))
 
 -- where none is ready, all is done
 pub all_done_there : (g : Grammar) (most : ℕ) (kept : List Kept) (seen : ReportedSeen) (IsRun : List Event → Type 0) → NoneReady kept → (s : Intake) → IsKeptAs g kept seen IsRun s → apply_all g most s ≡ GoesOn s
@@ -127,10 +120,6 @@ module _ (g : Grammar) (most : ℕ) (written : List Event → List ℕ) (kept : 
   -- a refusal
   pub stops_on : (LastRun : List Event → Type 0) (z : List ℕ) (r : ReportFault) → StopsWith written LastRun before z a.later (apply_all g most a.later) r → StopsWith written LastRun x (y ++ z) s (apply_all g most s) r
   stops_on LastRun z r b = record { left = b.left; stops = a.same ∙ b.stops; run = b.run; text = then_written b.left.run z b.text }
-
-  -- want of memory
-  pub halts_on : (LastRun : List Event → Type 0) (z : List ℕ) → HaltsAt g most written LastRun before z a.later → HaltsAt g most written LastRun x (y ++ z) s
-  halts_on LastRun z b = record { reached = b.reached; on_the_way = way_on g most s a.later b.reached a.on_the_way b.on_the_way; run = b.run; text = then_written b.reached.run z b.text }
 
   -- a state later than it
   pub comes_on : (more : List Kept) (lines : ReportedSeen) (MoreRun : List Event → Type 0) (z : List ℕ) → ComesTo g most written more lines MoreRun before z a.later → ComesTo g most written more lines MoreRun x (y ++ z) s

@@ -1,14 +1,13 @@
 -- The reports of the events that were applied, as the run and the lines that reported them tell.
 use Rattle.std.specs.Prelude.{◌≡◌, ℕ, true, false, List, [], ◌∷◌, length, position, Option, Some, None, option_map, bytes_eq}
 use Rattle.std.specs.Option.{option_or}
+use Rattle.std.specs.List.{find}
 use Rattle.wf_model.specs.declared.event.Event.{Event}
 use Rattle.wf_model.specs.declared.event.Event.TheVariants.{Start, Expand}
 use Rattle.wf_model.specs.Grammar.{Grammar}
 use Rattle.wf_model.specs.Run.{Expanded, made, names_of, expanded_by}
-use Rattle.report_model.specs.Reports.{Report, subject_of, same_event}
+use Rattle.report_model.specs.Reports.{Report, subject_of, same_event, about}
 use Rattle.report_model.specs.Intake.{is_ready}
-use Rattle.report_model.specs.Kept.{Kept}
-use Rattle.wf_inbox.specs.Inboxes.{known_on}
 use Rattle.wf_intake.specs.declared.reported.ReportedBy.{ReportedBy}
 use Rattle.wf_intake.specs.declared.standing.Standing.{Standing}
 use Rattle.wf_intake.specs.declared.standing.Standing.TheVariants.{Same, Other, Ready, Early}
@@ -47,9 +46,9 @@ applied_to g run seen (Some i) = expansion_by i (expanded_by run i) (expansion_o
 abbrev pub applied_on : Grammar → List Event → ReportedSeen → Event → Option Report
 applied_on g run seen x = applied_to g run seen (subject_of x)
 
--- the report that was ever held on the subject of an event: that whose event was applied, or else one that is kept
-abbrev pub known_by : Grammar → List Event → ReportedSeen → List Kept → Event → Option Report
-known_by g run seen kept x = option_or (applied_on g run seen x) (known_on kept x)
+-- the report that is known on the subject of an event: that whose event was applied, or else one that is held
+abbrev pub known_by : Grammar → List Event → ReportedSeen → List Report → Event → Option Report
+known_by g run seen held x = option_or (applied_on g run seen x) (find (about x) held)
 
 -- a run that is not empty begins with a start event
 abbrev pub BeginsWell : List Event → Type 0

@@ -11,13 +11,12 @@ use Rattle.wf_model.specs.Faults.{fault_of}
 use Rattle.report_model.specs.Intake.{Intake, ReportFault, take_report}
 use Rattle.wf_inbox.specs.Inboxes.{InboxSeen}
 use Rattle.wf_intake.specs.declared.fault.IntakeFault.{IntakeFault}
-use Rattle.wf_intake.specs.declared.fault.IntakeFault.TheVariants.{NoMemory}
 use Rattle.wf_intake.specs.declared.standing.Standing.{Standing}
 use Rattle.wf_intake.specs.declared.standing.Standing.TheVariants.{Same, Other, Ready, Early}
 use Rattle.wf_intake.specs.Reported.{ReportedSeen}
 use Rattle.wf_intake.specs.Applied.{number_in, number_of, FitsRun, IsStanding}
 use Rattle.wf_intake.specs.Intakes.{IsIntakeOf, IsWrittenOn, fault_told}
-use Rattle.wf_intake.specs.Rounds.{IsApplied, IsNotApplied, IsHalted, IsReportBegun, StopsWith, HaltsAtReport, IsLetGo, Round, Stop, Halt}
+use Rattle.wf_intake.specs.Rounds.{IsApplied, IsNotApplied, IsReportBegun, StopsWith, IsForgotten, Round, Stop}
 
 module _ {Run : Type 0} (is_run : Run → List Event → Type 0) where
   -- a run of some events becomes that of one event more
@@ -52,6 +51,10 @@ module _ {Run : Type 0} (grammar : Run → Grammar) (is_run : Run → List Event
   abbrev pub StandsAs : Run → ReportedSeen → Event → Standing → Type 0
   StandsAs run seen e standing = (events : List Event) → is_run run events → FitsRun (grammar run) events seen → IsStanding (grammar run) events seen e standing
 
+  -- the report that is refused, if a fault is a refusal, was the first that was ready, and the parts go on without it
+  abbrev pub ForgetsRefused : InboxSeen → ReportedSeen → Run → InboxSeen → ReportedSeen → Run → IntakeFault → Type 0
+  ForgetsRefused was told old inbox seen new f = (r : ReportFault) → fault_told f ≡ Some r → IsForgotten (grammar old) was.kept told (is_run old) inbox.kept seen (is_run new) r
+
 module _ {Run : Type 0} (grammar : Run → Grammar) (most : Run → ℕ) (is_run : Run → List Event → Type 0) where
   -- an event has no fault after a run
   abbrev pub HasNoFault : Run → Event → Type 0
@@ -75,10 +78,6 @@ module _ {Run : Type 0} (grammar : Run → Grammar) (most : Run → ℕ) (is_run
   abbrev pub RefusesEvent : Run → Run → ℕ → Event → IntakeFault → Type 0
   RefusesEvent old new line e f = (r : ReportFault) → fault_told f ≡ Some r → (events : List Event) → is_run old events → IsNotApplied (grammar old) (most old) events e line r (is_run new) (text old) (text new)
 
-  -- the event is not applied or applied whole, if a fault is want of memory
-  abbrev pub HaltsAtEvent : Run → Run → Event → IntakeFault → Type 0
-  HaltsAtEvent old new e f = f ≡ NoMemory → (events : List Event) → is_run old events → IsHalted (grammar old) (most old) (written (grammar old)) events e (is_run new) (text old) (text new)
-
   -- rounds are done, from a state of these reports, lines and run to one of those
   abbrev pub DoesRounds : InboxSeen → ReportedSeen → Run → InboxSeen → ReportedSeen → Run → Type 0
   DoesRounds was told old inbox seen new = Round (grammar old) (most old) written was.kept told (is_run old) (text old) inbox.kept seen (is_run new) (text new)
@@ -86,10 +85,6 @@ module _ {Run : Type 0} (grammar : Run → Grammar) (most : Run → ℕ) (is_run
   -- a round ends in a refusal, if a fault is one
   abbrev pub StopsRounds : InboxSeen → ReportedSeen → Run → Run → IntakeFault → Type 0
   StopsRounds was told old new = Stop (grammar old) (most old) written was.kept told (is_run old) (text old) (is_run new) (text new)
-
-  -- or memory is refused in it
-  abbrev pub HaltsRounds : InboxSeen → ReportedSeen → Run → Run → IntakeFault → Type 0
-  HaltsRounds was told old new = Halt (grammar old) (most old) written was.kept told (is_run old) (text old) (is_run new) (text new)
 
   -- a report is begun
   abbrev pub BeginsReport : InboxSeen → ReportedSeen → Run → InboxSeen → ReportedSeen → Run → ℕ → Event → Type 0
@@ -102,18 +97,3 @@ module _ {Run : Type 0} (grammar : Run → Grammar) (most : Run → ℕ) (is_run
   StopsAtOne was told old new line e f =
       (r : ReportFault) → fault_told f ≡ Some r → (s : Intake) → IsIntakeOf (grammar old) was.kept told (is_run old) s →
       StopsWith (written (grammar old)) (is_run new) (text old) (text new) s (take_report (grammar old) (most old) s (record { line = line; event = e })) r
-
-  -- or memory is refused where it is begun
-  abbrev pub HaltsAtOne : InboxSeen → ReportedSeen → Run → Run → ℕ → Event → IntakeFault → Type 0
-  HaltsAtOne was told old new line e f =
-      f ≡ NoMemory → (s : Intake) → IsIntakeOf (grammar old) was.kept told (is_run old) s →
-      HaltsAtReport (grammar old) (most old) (written (grammar old)) (is_run new) (text old) (text new) s (record { line = line; event = e })
-
-module _ (was : InboxSeen) (told : ReportedSeen) (inbox : InboxSeen) (seen : ReportedSeen) where
-  -- where a fault is a refusal, the reports that are kept and the lines are as they were
-  abbrev pub LeavesReports : IntakeFault → Type 0
-  LeavesReports f = (r : ReportFault) → fault_told f ≡ Some r → (inbox.kept ≡ was.kept) × (seen ≡ told)
-
-  -- or the report that is refused is held no longer, and the lines are as they were
-  abbrev pub LeavesOthers : IntakeFault → Type 0
-  LeavesOthers f = (r : ReportFault) → fault_told f ≡ Some r → IsLetGo was.kept inbox.kept r × (seen ≡ told)

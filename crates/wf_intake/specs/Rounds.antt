@@ -1,5 +1,5 @@
 -- The rounds in which the events of held reports are applied.
-use Rattle.std.specs.Prelude.{◌≡◌, ◌⊎◌, ℕ, List, [], ◌∷◌, ◌++◌, map, filter, length, Some, None}
+use Rattle.std.specs.Prelude.{◌≡◌, ℕ, List, [], ◌∷◌, ◌++◌, map, filter, length, Some, None}
 use Rattle.wf_model.specs.declared.event.Event.{Event}
 use Rattle.wf_model.specs.declared.event.Event.TheVariants.{Start, Expand}
 use Rattle.wf_model.specs.declared.event.RunFault.{RunFault}
@@ -10,9 +10,8 @@ use Rattle.report_model.specs.Intake.{Intake, ReportFault, Refused, Taking, Goes
 use Rattle.report_model.specs.Kept.{Kept, is_held}
 use Rattle.wf_inbox.specs.Inboxes.{marked, IsNext}
 use Rattle.wf_intake.specs.declared.fault.IntakeFault.{IntakeFault}
-use Rattle.wf_intake.specs.declared.fault.IntakeFault.TheVariants.{NoMemory}
 use Rattle.wf_intake.specs.Reported.{ReportedSeen}
-use Rattle.wf_intake.specs.Intakes.{IsKeptAs, IsWrittenOn, fault_told}
+use Rattle.wf_intake.specs.Intakes.{IsKeptAs, IsWrittenOn, forgetting, fault_told}
 
 -- the names that an event gives to instances
 abbrev pub names_given : Event → List (List ℕ)
@@ -46,10 +45,6 @@ pub record IsNotApplied (g : Grammar) (most : ℕ) (events : List Event) (e : Ev
   pub told : r ≡ Refused line fault
   pub untouched : IsUntouched events IsRun old new
 
--- where memory is refused the event is not applied, or it is applied whole
-abbrev pub IsHalted : (g : Grammar) (most : ℕ) (written : List Event → List ℕ) (events : List Event) (e : Event) (IsRun : List Event → Type 0) (old new : List ℕ) → Type 0
-IsHalted g most written events e IsRun old new = IsUntouched events IsRun old new ⊎ IsApplied g most written events e IsRun old new
-
 -- A state comes to a later one: so many times the first held report that is ready is taken out and its event applied, and none is refused
 pub record IsOnTheWay (g : Grammar) (most : ℕ) (first reached : Intake) : Type 0 where
   pub rounds : ℕ
@@ -76,20 +71,14 @@ pub record StopsWith (written : List Event → List ℕ) (IsRun : List Event →
   pub run : IsRun left.run
   pub text : IsWrittenOn written s.run left.run old new
 
--- memory is refused on the way from a state; the run is that of a state that was come to, and the text is that of the events up to it
-pub record HaltsAt (g : Grammar) (most : ℕ) (written : List Event → List ℕ) (IsRun : List Event → Type 0) (old new : List ℕ) (first : Intake) : Type 0 where
-  pub reached : Intake
-  pub on_the_way : IsOnTheWay g most first reached
-  pub run : IsRun reached.run
-  pub text : IsWrittenOn written first.run reached.run old new
-
--- memory is refused where a report is begun: nothing is applied; or the report is held, and memory is refused on the way from there
-abbrev pub HaltsAtReport : (g : Grammar) (most : ℕ) (written : List Event → List ℕ) (IsRun : List Event → Type 0) (old new : List ℕ) → Intake → Report → Type 0
-HaltsAtReport g most written IsRun old new s r = IsUntouched s.run IsRun old new ⊎ ((first : Intake) × (hold s r ≡ GoesOn first) × HaltsAt g most written IsRun old new first)
-
--- the report that is refused, by its line, was the first that was ready, and is held no longer
-abbrev pub IsLetGo : List Kept → List Kept → ReportFault → Type 0
-IsLetGo was left r = (next : Report) × (fault : RunFault) × (r ≡ Refused next.line fault) × IsNext was left next
+-- The report that is refused, by its line, was the first that was ready. It is let go, and the lines are as they were; and from each state that the reports kept before and the lines are of, those are left of the state without it, so that others can be taken
+pub record IsForgotten (g : Grammar) (was : List Kept) (told : ReportedSeen) (WasRun : List Event → Type 0) (left : List Kept) (seen : ReportedSeen) (IsRun : List Event → Type 0) (r : ReportFault) : Type 0 where
+  pub next : Report
+  pub fault : RunFault
+  pub is : r ≡ Refused next.line fault
+  pub let_go : IsNext was left next
+  pub lines : seen ≡ told
+  pub parts : (s : Intake) → IsKeptAs g was told WasRun s → IsKeptAs g left seen IsRun (forgetting g s next.event)
 
 -- each state that the reports kept before, the lines and the run before are of comes to one that those of now are of
 abbrev pub Round : (g : Grammar) (most : ℕ) (written : Grammar → List Event → List ℕ) (was : List Kept) (told : ReportedSeen) (WasRun : List Event → Type 0) (before : List ℕ)
@@ -99,7 +88,3 @@ Round g most written was told WasRun before kept seen IsRun now = (s : Intake) �
 -- each such state comes to the refusal that a fault reports
 abbrev pub Stop : (g : Grammar) (most : ℕ) (written : Grammar → List Event → List ℕ) (was : List Kept) (told : ReportedSeen) (WasRun : List Event → Type 0) (before : List ℕ) (IsRun : List Event → Type 0) (now : List ℕ) → IntakeFault → Type 0
 Stop g most written was told WasRun before IsRun now f = (r : ReportFault) → fault_told f ≡ Some r → (s : Intake) → IsKeptAs g was told WasRun s → StopsWith (written g) IsRun before now s (apply_all g most s) r
-
--- where a fault is want of memory, it comes on the way from each such state
-abbrev pub Halt : (g : Grammar) (most : ℕ) (written : Grammar → List Event → List ℕ) (was : List Kept) (told : ReportedSeen) (WasRun : List Event → Type 0) (before : List ℕ) (IsRun : List Event → Type 0) (now : List ℕ) → IntakeFault → Type 0
-Halt g most written was told WasRun before IsRun now f = f ≡ NoMemory → (s : Intake) → IsKeptAs g was told WasRun s → HaltsAt g most (written g) IsRun before now s

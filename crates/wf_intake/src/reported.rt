@@ -1,6 +1,7 @@
 // Which lines reported the events that were applied.
-ghost use Rattle.std.specs.Prelude.{◌≡◌, ◌++◌, map, get_or, replicate, Some, None, IfOk, OnOk};
-ghost use Rattle.wf_intake.specs.Reported.{none_reported, reported_as, expansion_told, expanded_at, noted};
+ghost use Rattle.std.specs.Prelude.{◌≡◌, ◌++◌, map, length, get_or, replicate, Some, None, IfOk, OnOk, OnErr};
+ghost use Rattle.wf_intake.specs.Reported.{ReportedSeen, none_reported, expansion_told, with_places, IsKeptFor, SetsExpansion, noted};
+ghost use Rattle.wf_intake.specs.Rounds.{names_given};
 
 use std::alloc::{AllocError, Global};
 use std::marker::Model;
@@ -10,18 +11,18 @@ use wf_model::Event;
 #[derive(Clone, Copy, Drop)]
 pub struct ReportedBy {
     pub line: u32,
-    pub production: u32,
+    pub production: u64,
 }
 
 /// The place of an instance that is not expanded.
 const NOT_EXPANDED: ReportedBy = ReportedBy {
     line: 0,
-    production: u32::MAX,
+    production: 0,
 };
 
 /// An expansion as it is kept.
 ///
-/// The only error is that the line does not fit 32 bits, or the production is not below the greatest number of 32 bits.
+/// The only error is that the line is 0 or does not fit 32 bits.
 fn reported_by(line: u64, production: u64) -> Result<ReportedBy, AllocError>
     ensures line { IfOk result (λ by. by.line ≡ line) }
     ensures production { IfOk result (λ by. by.production ≡ production) }
@@ -30,10 +31,7 @@ fn reported_by(line: u64, production: u64) -> Result<ReportedBy, AllocError>
     let Ok(line) = u32::try_from(line) else {
         return Err(AllocError);
     };
-    let Ok(production) = u32::try_from(production) else {
-        return Err(AllocError);
-    };
-    if production == u32::MAX {
+    if line == 0 {
         return Err(AllocError);
     }
     Ok(ReportedBy { line, production })
@@ -44,35 +42,41 @@ fn expansion_in(places: &[ReportedBy], number: u32) -> Option<ReportedBy>
     ensures { result ≡ get_or (map expansion_told places.now) number None }
 {
     let by = *places.get(number as usize)?;
-    if by.production == u32::MAX {
+    if by.line == 0 {
         return None;
     }
     Some(by)
 }
 
-/// Notes the expansion of the instance of a number.
-fn set_expansion(
-    places: &mut Vec<ReportedBy>,
-    number: Option<u32>,
-    line: u64,
-    production: u64,
-) -> Result<(), AllocError>
-    ensures { OnOk result (map expansion_told places.new.items ≡ expanded_at (map expansion_told places.old.items) number (reported_as line production)) }
+/// An expansion by an event as it is kept. Of a start event nothing is.
+///
+/// The only error is that of `reported_by`.
+pub(crate) fn kept_for(line: u64, event: &Event) -> Result<ReportedBy, AllocError>
+    ensures { IfOk result (IsKeptFor line event.now) }
 {
-    let by = reported_by(line, production)?;
-    let Some(number) = number else {
-        return Ok(());
-    };
-    let place = number as usize;
-    if place < places.len() {
-        places[place] = by;
+    match event {
+        Event::Start { .. } => Ok(NOT_EXPANDED),
+        Event::Expand { production, .. } => reported_by(line, *production),
     }
-    Ok(())
 }
 
-/// Adds places of instances that are not expanded.
+/// Notes the expansion of the instance of a number, which is none of the last `count`.
+fn set_expansion(places: &mut Vec<ReportedBy>, count: usize, number: Option<u32>, by: ReportedBy)
+    ensures { SetsExpansion (map expansion_told places.old.items) count number by (map expansion_told places.new.items) }
+{
+    let Some(number) = number else {
+        return;
+    };
+    let place = number as usize;
+    if place < places.len().saturating_sub(count) {
+        places[place] = by;
+    }
+}
+
+/// Adds places of instances that are not expanded. After an error the places are as they were.
 fn add_places(places: &mut Vec<ReportedBy>, count: usize) -> Result<(), AllocError>
-    ensures { OnOk result (map expansion_told places.new.items ≡ map expansion_told places.old.items ++ replicate count None) }
+    ensures added { OnOk result (map expansion_told places.new.items ≡ map expansion_told places.old.items ++ replicate count None) }
+    ensures same { OnErr result (map expansion_told places.new.items ≡ map expansion_told places.old.items) }
 {
     let Some(all) = places.len().checked_add(count) else {
         return Err(AllocError);
@@ -121,36 +125,31 @@ impl Reported {
         expansion_in(&self.places, number)
     }
 
-    /// Makes room for the places of so many instances.
-    pub(crate) fn reserve(&mut self, instances: usize) -> Result<(), AllocError>
-        ensures { self.new ≡ self.old }
+    /// Adds the places of so many instances, which are not expanded. After an error all is as it was.
+    pub(crate) fn add(&mut self, count: usize) -> Result<(), AllocError>
+        ensures added { OnOk result (self.new ≡ with_places self.old count) }
+        ensures same { OnErr result (self.new ≡ self.old) }
     {
-        self.places.reserve(instances)
+        add_places(&mut self.places, count)
     }
 
-    /// Notes the line that reported an event that was applied; the number is that of the instance that it expands. Takes no memory where there is room.
-    ///
-    /// Errors: memory is refused, which comes also for the line of an expansion past 4,294,967,295. Then not all of it may be noted.
-    pub(crate) fn note(
-        &mut self,
-        number: Option<u32>,
-        line: u64,
-        event: &Event,
-    ) -> Result<(), AllocError>
-        ensures { OnOk result (self.new ≡ noted self.old number line event.now) }
+    /// Takes the places of so many instances out that were added last. Takes no memory.
+    pub(crate) fn drop_last(&mut self, count: usize)
+        ensures { (seen : ReportedSeen) → self.old ≡ with_places seen count → self.new ≡ seen }
+    {
+        let left = self.places.len().saturating_sub(count);
+        self.places.truncate(left);
+    }
+
+    /// Notes the line that reported an event that was applied, behind whose instances' places nothing was added; the number is that of the instance that it expands, and the expansion is that which is kept for it. Takes no memory.
+    pub(crate) fn note(&mut self, number: Option<u32>, line: u64, event: &Event, by: ReportedBy)
+        requires { IsKeptFor line event.now by }
+        ensures { (seen : ReportedSeen) → self.old ≡ with_places seen (length (names_given event.now)) → self.new ≡ noted seen number line event.now }
     {
         match event {
-            Event::Start { .. } => {
-                self.start = line;
-                add_places(&mut self.places, 1)
-            }
-            Event::Expand {
-                production,
-                names,
-                ..
-            } => {
-                set_expansion(&mut self.places, number, line, *production)?;
-                add_places(&mut self.places, names.items().len())
+            Event::Start { .. } => self.start = line,
+            Event::Expand { names, .. } => {
+                set_expansion(&mut self.places, names.items().len(), number, by);
             }
         }
     }

@@ -54,7 +54,7 @@ fn expand_standing<R: Grows>(
             number: Some(number),
         };
     };
-    if by.production as u64 == production && run.are_children(number, names) {
+    if by.production == production && run.are_children(number, names) {
         return Standing::Same;
     }
     Standing::Other {

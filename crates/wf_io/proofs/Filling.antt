@@ -3,6 +3,7 @@ use Rattle.std.proofs.Common.{◌≡◌, ◌<◌, ◌≤◌, ◌+◌, ◌-◌, �
 use Rattle.std.proofs.lemmas.Bool.{le-ltb}
 use Rattle.std.proofs.lemmas.Bool.Decides.{nat_tests}
 use Rattle.std.proofs.lemmas.List.{nil_from_length, drop_all, take-append-drop}
+use Rattle.wf_io.specs.declared.limits.TheConstants.{LINE_MOST}
 use Rattle.wf_io.specs.Told.{File}
 use Rattle.wf_io.specs.Windows.{Grows}
 use Rattle.wf_io.specs.Lines.{is_too_long, Broken, LongFile, lines_within}
@@ -43,7 +44,7 @@ stands_longer file r held kept n grows s =
 
 -- what is held is not too long for a line
 short : (r : Reader) → Dry r → is_too_long r.kept ≡ false
-short r dry = le-ltb 65536 (length r.kept) dry.short
+short r dry = le-ltb LINE_MOST (length r.kept) dry.short
 
 -- a file that breaks behind what is held gives no more lines
 pub stops_broken : (file : File) (r : Reader) → Dry r → Sound r → length file.bytes ≤ r.place + length r.kept → file.broken ≡ true → Stands file r → Ends (left_in file r) Broken

@@ -4,6 +4,7 @@ use Rattle.std.proofs.lemmas.Bool.{lt-ltb, le-ltb, ltb-true}
 use Rattle.std.proofs.lemmas.Bool.Decides.{nat_tests}
 use Rattle.std.proofs.lemmas.List.{take-append-le}
 use Rattle.std.proofs.Math.Seq.{take-append-add}
+use Rattle.wf_io.specs.declared.limits.TheConstants.{LINE_MOST}
 use Rattle.wf_io.specs.Lines.{Line, FileLines, Tail, AtEnd, Broken, LongFile, is_given, is_too_long, text_of, parts_of, with_line, lines_from, last_number, lines_before, tail_of, is_at_end, lines_within}
 use Rattle.wf_io.specs.Readers.{Ends}
 use Rattle.wf_io.proofs.Cutting.{Lacks, cut_at, uncut, some_part, begins}
@@ -100,7 +101,7 @@ too_long_left most k broken raw more none long within =
     let parts : parts_of (take most (raw ++ more)) ≡ (raw ++ b.0) ∷ b.1 = ap parts_of (take_begun most raw more within) ∙ b.2 in
     let tail = tail_of (nat_lt most (length (raw ++ more))) broken (last_number k (parts_of (take most (raw ++ more)))) in
     let size = length-append raw b.0 in
-    let above = ltb-true 65536 (length raw) long in
-    let longer : is_too_long (raw ++ b.0) ≡ true = lt-ltb 65536 (length (raw ++ b.0)) (omega (arith, size, above)) in
+    let above = ltb-true LINE_MOST (length raw) long in
+    let longer : is_too_long (raw ++ b.0) ≡ true = lt-ltb LINE_MOST (length (raw ++ b.0)) (omega (arith, size, above)) in
     let f = long_first (is_at_end tail) k (raw ++ b.0) b.1 longer in
     (record { number = k; raw = raw ++ b.0 }, f.0, ap (lines_from (is_at_end tail) k) parts ∙ f.1, longer, refl)

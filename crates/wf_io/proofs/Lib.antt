@@ -7,3 +7,4 @@ pub mod Seeking
 pub mod Filling
 pub mod Appending
 pub mod FirstBytes
+pub mod Onward

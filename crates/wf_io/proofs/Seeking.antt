@@ -3,7 +3,7 @@ use Rattle.std.proofs.Common.{◌≡◌, ◌<◌, ◌≤◌, ◌+◌, ◌-◌, �
 use Rattle.std.proofs.lemmas.List.Quantifiers.{position-Some}
 use Rattle.wf_io.specs.Told.{File}
 use Rattle.wf_io.specs.Lines.{FileLines, AtEnd, is_given, is_too_long, with_line, text_of}
-use Rattle.wf_io.specs.Readers.{Reader, Stands, left_in, left_over, file_most, Lends, Refuses, Ends}
+use Rattle.wf_io.specs.Readers.{Reader, Stands, left_in, left_over, file_most, Lends, Refuses, Ends, TellsLine, reached}
 use Rattle.wf_io.specs.Steps.{behind, refused, wanting, HasNoNewline, Sound, Skips, Lent, Refused, Takes, Sought}
 use Rattle.wf_io.specs.declared.lines.LineFault.{LineFault}
 use Rattle.wf_io.specs.declared.lines.LineFault.TheVariants.{LineTooLong}
@@ -13,7 +13,7 @@ use Rattle.wf_io.proofs.Standing.{stands_behind, left_behind, left_last, left_no
 
 -- nothing was passed
 pub skips_none : (r : Reader) → Skips r r
-skips_none r = record { stands = λ file s. s; left = λ file s. refl; name = refl; live = refl; line = refl; ended = refl; less = omega arith }
+skips_none r = record { stands = λ file s. s; left = λ file s. refl; name = refl; live = refl; line = refl; number = omega arith; reached = refl; ended = refl; less = omega arith }
 
 -- nor is anything where it only wants bytes
 pub skips_wanting : (r : Reader) (wants : Bool) → Skips r (wanting wants r)
@@ -23,6 +23,8 @@ skips_wanting r wants = record {
   name = refl;
   live = refl;
   line = refl;
+  number = omega arith;
+  reached = refl;
   ended = refl;
   less = omega arith;
 }
@@ -35,6 +37,8 @@ skips_twice a b c p q = record {
   name = q.name ∙ p.name;
   live = q.live ∙ p.live;
   line = q.line ∙ p.line;
+  number = omega (arith, p.number, q.number);
+  reached = q.reached ∙ p.reached;
   ended = q.ended ∙ p.ended;
   less = omega (arith, p.less, q.less);
 }
@@ -47,6 +51,10 @@ lent_after a b c p q = record {
   name = q.name ∙ p.name;
   live = q.live ∙ p.live;
   later = omega (arith, p.line, q.later);
+  line = omega (arith, p.number, q.line);
+  next = q.next;
+  reached = q.reached ∙ p.reached;
+  ended = q.ended ∙ p.ended;
   wants = q.wants;
   less = omega (arith, p.less, q.less);
 }
@@ -57,6 +65,10 @@ refused_after a b c p q = record {
   refuses = λ file s. subst (λ l. Refuses l c) (p.left file s) (q.refuses file (p.stands file s));
   name = q.name ∙ p.name;
   live = q.live;
+  number = omega (arith, p.number, q.number);
+  line = q.line;
+  reached = q.reached ∙ p.reached;
+  ended = q.ended ∙ p.ended;
   less = omega (arith, p.less, q.less);
 }
 
@@ -69,6 +81,10 @@ sought_after a b c (Err why) p q = (q.0, refused_after a b c p q.1)
 -- how much is left to do behind a line
 less_behind : (r : Reader) (given : Bool) (size whole : ℕ) → 0 < whole → whole ≤ length r.kept → Sound r → left_over (behind given size whole r) < left_over r
 less_behind r given size whole some held sound = omega (arith, length-drop whole r.kept, some, held, sound.within)
+
+-- behind a line that was held, as much of the file is read
+reached_behind : (r : Reader) (given : Bool) (size whole : ℕ) → whole ≤ length r.kept → reached (behind given size whole r) ≡ reached r
+reached_behind r given size whole held = omega (arith, length-drop whole r.kept, held)
 
 -- a line that is lent, since it is given
 lends_first : (old new : FileLines) (k : ℕ) (raw : List ℕ) (r : Reader) → old ≡ put_line (is_given raw) k raw new → is_given raw ≡ true → is_too_long raw ≡ false → r.held ≡ text_of raw → r.line ≡ k → Lends old r new
@@ -92,6 +108,10 @@ lent_line r n e sound live short given =
       name = refl;
       live = refl;
       later = sound.later live;
+      line = omega arith;
+      next = refl;
+      reached = reached_behind r true n (n + 1) held;
+      ended = refl;
       wants = refl;
       less = less_behind r true n (n + 1) (omega arith) held sound;
     }
@@ -108,6 +128,8 @@ skips_line r n e sound given =
       name = refl;
       live = refl;
       line = refl;
+      number = omega arith;
+      reached = reached_behind r false n (n + 1) held;
       ended = refl;
       less = omega (arith, less);
     }
@@ -128,6 +150,10 @@ refused_line r n e sound long = record {
   };
   name = refl;
   live = refl;
+  number = omega arith;
+  line = refl;
+  reached = refl;
+  ended = refl;
   less = omega arith;
 }
 
@@ -139,6 +165,10 @@ refused_begun r none sound long = record {
       record { first = l.0; later = l.1; left = ap (λ f. f.lines) (left_held file r s) ∙ l.2; long = l.3; number = l.4 };
   name = refl;
   live = refl;
+  number = omega arith;
+  line = refl;
+  reached = refl;
+  ended = refl;
   less = omega arith;
 }
 
@@ -161,6 +191,10 @@ sought_last old new size (Ok true) all some none ended sound live t =
       name = refl;
       live = refl;
       later = sound.later live;
+      line = omega arith;
+      next = refl;
+      reached = reached_behind old true size size (omega (arith, all));
+      ended = refl;
       wants = refl;
       less = less_behind old true size size some (omega (arith, all)) sound;
     } in
@@ -176,6 +210,8 @@ sought_last old new size (Ok false) all some none ended sound live t =
       name = refl;
       live = refl;
       line = refl;
+      number = omega arith;
+      reached = reached_behind old false size size (omega (arith, all));
       ended = refl;
       less = omega (arith, less);
     } in
@@ -204,3 +240,9 @@ holds_after start at again new n result skips same e sound live t = after result
     after (Ok true) h = lent_after start at new skips h
     after (Ok false) h = skips_twice start at new skips h
     after (Err why) h = (h.0, refused_after start at new skips h.1)
+
+-- what all that is held gives tells which line was lent or refused last
+pub sought_tells : (old new : Reader) (result : Result Bool LineFault) → Sought old new result → TellsLine old new result
+sought_tells old new (Ok true) h = (h.line, h.next)
+sought_tells old new (Ok false) h = (h.0.number, h.0.line)
+sought_tells old new (Err why) h = subst (λ f. TellsLine old new (Err f)) (sym h.0) (h.1.number, h.1.line)

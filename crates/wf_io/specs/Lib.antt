@@ -1,4 +1,5 @@
 pub mod Told
+pub mod Readings
 pub mod Stored
 pub mod Lines
 pub mod Windows

@@ -2,6 +2,7 @@
 use Rattle.std.specs.Prelude.{ℕ, suc, Bool, true, false, cond, ◌||◌, ◌&&◌, ◌==◌, nat_lt, List, [], ◌∷◌, length, take}
 use Rattle.std.specs.Str.Lines.{strip_carriage_return}
 use Rattle.wf_io.specs.Told.{File}
+use Rattle.wf_io.specs.declared.limits.TheConstants.{LINE_MOST}
 
 -- a line: its number, from 1, and its bytes before the newline
 pub record Line : Type 0 where
@@ -24,7 +25,7 @@ text_of raw = strip_carriage_return raw
 
 -- a line is too long where it has more than 65,536 bytes before its newline, a carriage return among them
 abbrev pub is_too_long : List ℕ → Bool
-is_too_long raw = nat_lt 65536 (length raw)
+is_too_long raw = nat_lt LINE_MOST (length raw)
 
 -- a line is given where it is too long or its text has a byte
 abbrev pub is_given : List ℕ → Bool

@@ -1,6 +1,7 @@
 -- A reader of the lines of a file, and what is left of the file.
-use Rattle.std.specs.Prelude.{◌≡◌, ◌+◌, ◌-◌, ◌≤◌, ℕ, Bool, true, false, cond, List, ◌∷◌, [], ◌++◌, length, drop}
+use Rattle.std.specs.Prelude.{◌≡◌, ◌⊎◌, ◌+◌, ◌-◌, ◌<◌, ◌≤◌, ℕ, Bool, true, false, cond, List, ◌∷◌, [], ◌++◌, length, drop, Option, Result, Ok, Err}
 use Rattle.wf_io.specs.Told.{File}
+use Rattle.wf_io.specs.Readings.{Reading, read_to, IsReadOnce}
 use Rattle.wf_io.specs.Lines.{Line, FileLines, Tail, AtEnd, Broken, LongFile, is_too_long, text_of, lines_within}
 use Rattle.wf_io.specs.declared.lines.LineFault.{LineFault}
 use Rattle.wf_io.specs.declared.lines.LineFault.TheVariants.{LineTooLong, FileTooLong, Fault}
@@ -73,3 +74,36 @@ Seeks false old r new = (new ≡ old) × (r.wants ≡ false → Ends old AtEnd)
 abbrev pub Advances : Bool → FileLines → Reader → FileLines → Type 0
 Advances true old r new = Lends old r new
 Advances false old r new = Ends old AtEnd
+
+-- Which line is the one that was lent or refused last, by what a call of the reader answers, whatever the shelf tells. Where a line is lent, the next one begins behind it. Where the file is at its end, or reading failed, it is the one from before. Where a line is refused, it is the one that begins where the reader stands
+abbrev pub TellsLine : Reader → Reader → Result Bool LineFault → Type 0
+TellsLine old new (Ok true) = (old.number ≤ new.line) × (new.number ≡ new.line + 1)
+TellsLine old new (Ok false) = (old.number ≤ new.number) × (new.line ≡ old.line)
+TellsLine old new (Err LineTooLong) = (old.number ≤ new.number) × (new.line ≡ new.number)
+TellsLine old new (Err FileTooLong) = (old.number ≤ new.number) × (new.line ≡ new.number)
+TellsLine old new (Err Fault) = (old.number ≤ new.number) × (new.line ≡ old.line)
+
+-- so where a piece of the file is read: no line is lent
+abbrev pub FillsLine : Reader → Reader → Result (Unit {0}) LineFault → Type 0
+FillsLine old new (Ok x) = TellsLine old new (Ok false)
+FillsLine old new (Err fault) = TellsLine old new (Err fault)
+
+-- the place in the file behind the bytes that the reader holds: up to there it has read
+abbrev pub reached : Reader → ℕ
+reached r = r.place + length r.kept
+
+-- What the reader has read of its file, of a shelf that told these readings when the reader was opened: nothing yet; or all bytes from the beginning on up to where it is now
+abbrev pub HasReadTo : Reader → Option (List Reading) → Option (List Reading) → Type 0
+HasReadTo r opened now = ((now ≡ opened) × (reached r ≡ 0)) ⊎ ((now ≡ read_to r.name (reached r) opened) × (reached r ≡ 0 → r.ended ≡ true))
+
+-- it has read its file so, whatever was told when it was opened
+abbrev pub IsReading : Reader → Option (List Reading) → Type 0
+IsReading r now = (opened : Option (List Reading)) × HasReadTo r opened now
+
+-- it goes on so
+abbrev pub GoesOnReading : Reader → Reader → Option (List Reading) → Option (List Reading) → Type 0
+GoesOnReading old new before after = (opened : Option (List Reading)) → HasReadTo old opened before → HasReadTo new opened after
+
+-- since it was opened it has read its file once at most
+abbrev pub HasReadOnce : Reader → Option (List Reading) → Option (List Reading) → Type 0
+HasReadOnce old before after = (opened : Option (List Reading)) → HasReadTo old opened before → IsReadOnce old.name opened after

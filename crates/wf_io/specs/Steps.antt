@@ -1,9 +1,11 @@
 -- What the steps of a reader make of it. No public clause cites this module.
-use Rattle.std.specs.Prelude.{◌≡◌, ◌+◌, ◌<◌, ◌≤◌, ◌==◌, ℕ, Bool, true, false, cond, List, [], length, take, drop, position, None, Result, Ok, Err, nat_eq}
+use Rattle.std.specs.Prelude.{◌≡◌, ◌+◌, ◌<◌, ◌≤◌, ◌==◌, ℕ, Bool, true, false, cond, List, [], length, take, drop, position, None, Option, Result, Ok, Err, OnOk, nat_eq}
 use Rattle.wf_io.specs.Told.{File}
+use Rattle.wf_io.specs.Readings.{Reading, IsReadOn}
 use Rattle.wf_io.specs.Windows.{Grows}
 use Rattle.wf_io.specs.Lines.{is_too_long, is_given, text_of, AtEnd}
-use Rattle.wf_io.specs.Readers.{Reader, file_most, Stands, left_in, left_over, Lends, Refuses, Ends}
+use Rattle.wf_io.specs.Readers.{Reader, file_most, Stands, left_in, left_over, Lends, Refuses, Ends, reached}
+use Rattle.wf_io.specs.declared.limits.TheConstants.{LINE_MOST}
 use Rattle.wf_io.specs.declared.lines.LineFault.{LineFault}
 use Rattle.wf_io.specs.declared.lines.LineFault.TheVariants.{LineTooLong, FileTooLong, Fault}
 
@@ -14,7 +16,7 @@ HasNoNewline bytes = position (λ b. b == 10) bytes ≡ None
 -- no line is held, and the file goes on
 pub record Dry (r : Reader) : Type 0 where
   pub none : HasNoNewline r.kept
-  pub short : length r.kept ≤ 65536
+  pub short : length r.kept ≤ LINE_MOST
   pub unended : r.ended ≡ false
 
 -- what is true of every reader
@@ -81,6 +83,8 @@ pub record Skips (old new : Reader) : Type 0 where
   pub name : new.name ≡ old.name
   pub live : new.live ≡ old.live
   pub line : new.line ≡ old.line
+  pub number : old.number ≤ new.number
+  pub reached : reached new ≡ reached old
   pub ended : new.ended ≡ old.ended
   pub less : left_over new ≤ left_over old
 
@@ -91,6 +95,10 @@ pub record Lent (old new : Reader) : Type 0 where
   pub name : new.name ≡ old.name
   pub live : new.live ≡ old.live
   pub later : old.line < new.line
+  pub line : old.number ≤ new.line
+  pub next : new.number ≡ new.line + 1
+  pub reached : reached new ≡ reached old
+  pub ended : new.ended ≡ old.ended
   pub wants : new.wants ≡ false
   pub less : left_over new < left_over old
 
@@ -99,6 +107,10 @@ pub record Refused (old new : Reader) : Type 0 where
   pub refuses : (file : File) → Stands file old → Refuses (left_in file old) new
   pub name : new.name ≡ old.name
   pub live : new.live ≡ false
+  pub number : old.number ≤ new.number
+  pub line : new.line ≡ new.number
+  pub reached : reached new ≡ reached old
+  pub ended : new.ended ≡ old.ended
   pub less : left_over new ≤ left_over old
 
 -- what the lines that are held with their newlines give
@@ -164,3 +176,7 @@ Grew most old new (Err why) = (why ≡ Fault) × (new ≡ stopped old.line [] ol
 abbrev pub GrewIn : File → ℕ → Reader → Reader → Result (Unit {0}) LineFault → Type 0
 GrewIn file at old new (Ok _) = (n : ℕ) × Grows file at old.kept new.kept n × (new.ended ≡ nat_eq n 0)
 GrewIn file at old new (Err why) = (length file.bytes ≤ at) × (file.broken ≡ true)
+
+-- a call of the shelf read on from a place: so many bytes more are held, where it gave no fault
+abbrev pub HasReadOn : {T E : Type 0} → Reader → Reader → ℕ → Result T E → Option (List Reading) → Option (List Reading) → Type 0
+HasReadOn old new at result before after = (count : ℕ) × IsReadOn old.name at count before after × OnOk result (length new.kept ≡ length old.kept + count)

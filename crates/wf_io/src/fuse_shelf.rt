@@ -44,6 +44,8 @@ impl FuseShelf {
 impl Shelf for FuseShelf {
     ghost files = { λ _. None };
 
+    ghost readings = { λ _. None };
+
     ghost faults = { λ s. s.stock.faults };
 
     ghost at_last = { λ s. nat_eq s.stock.faults (2 ^ 64 - 1) };

@@ -2,6 +2,7 @@
 #![tactic(auto)]
 
 mod fuse_shelf;
+mod limits;
 mod lines;
 mod mem_shelf;
 mod mem_sink;
@@ -13,6 +14,7 @@ mod whole;
 mod window;
 
 pub use fuse_shelf::FuseShelf;
+pub use limits::{LINE_MOST, PIECE};
 pub use lines::{LineFault, Lines};
 pub use mem_shelf::{MemFile, MemShelf};
 pub use mem_sink::MemSink;

@@ -1,11 +1,14 @@
 // The lines of a file, as they are read.
-ghost use Rattle.std.specs.Prelude.{◌≡◌, ◌≢◌, ◌<◌, ◌≤◌, ◌+◌, ◌==◌, ℕ, List, [], true, false, position, length, take, MatchResult, IfOk, IfErr, OnOk, OnErr, Some};
+ghost use Rattle.std.specs.Prelude.{◌≡◌, ◌≢◌, ◌<◌, ◌≤◌, ◌+◌, ◌==◌, ℕ, List, [], true, false, position, length, take, Option, MatchResult, IfOk, IfErr, OnOk, OnErr, Some};
 ghost use Rattle.wf_io.specs.Told.{File, Rose};
+ghost use Rattle.wf_io.specs.Readings.{Reading, IsOnward};
 ghost use Rattle.wf_io.specs.Lines.{text_of};
 ghost use Rattle.wf_io.specs.Readers.{file_most, Stands, left_in, left_over, Refuses, Seeks, Stops, Advances};
-ghost use Rattle.wf_io.specs.Steps.{HasNoNewline, Dry, Sound, refused, wanting, Takes, Holds, Sought, SeesEnd, EndsAt, Grew, GrewIn};
+ghost use Rattle.wf_io.specs.Readers.{TellsLine, FillsLine, IsReading, GoesOnReading, HasReadOnce};
+ghost use Rattle.wf_io.specs.Steps.{HasNoNewline, Dry, Sound, refused, wanting, Takes, Holds, Sought, SeesEnd, EndsAt, Grew, GrewIn, HasReadOn};
 ghost use Rattle.wf_io.specs.declared.lines.LineFault.TheVariants.{LineTooLong, Fault};
 
+use crate::limits::LINE_MOST;
 use crate::outside::Shelf;
 use crate::window::Window;
 use memchr::memchr;
@@ -26,9 +29,6 @@ pub enum LineFault {
     #[error("reading failed")]
     Fault,
 }
-
-/// The most bytes of a line before its newline.
-const LINE_MOST: usize = 65536;
 
 /// The most bytes that are read of a file.
 const FILE_MOST: u64 = 1073741824;
@@ -280,7 +280,8 @@ impl<'n> Lines<'n> {
         ensures less { IfOk result (λ lent. lent ≡ true → left_over self.new < left_over self.old) }
         ensures no_more { left_over self.new ≤ left_over self.old }
         ensures later { IfOk result (λ lent. lent ≡ true → self.old.line < self.new.line) }
-        ensures line { IfOk result (λ lent. lent ≡ false → self.new.line ≡ self.old.line) }
+        ensures line { TellsLine self.old self.new result }
+        ensures reading { (now : Option (List Reading)) → GoesOnReading self.old self.new now now }
     {
         if self.lend_held()? {
             return Ok(true);
@@ -290,6 +291,8 @@ impl<'n> Lines<'n> {
 
     /// Looks whether the file ends at the place `at`, behind what is held.
     fn see_end<H: Shelf>(&mut self, shelf: &mut H, at: u64) -> Result<(), LineFault>
+        requires onward { IsOnward self.old.name at (H.readings shelf.old) }
+        ensures read { HasReadOn self.old self.new at result (H.readings shelf.old) (H.readings shelf.new) }
         ensures reader { SeesEnd self.old self.new result }
         ensures bytes { (f : List ℕ → File) → H.files shelf.old ≡ Some f → EndsAt (f self.old.name) at result }
         ensures same { H.files shelf.new ≡ H.files shelf.old }
@@ -319,9 +322,11 @@ impl<'n> Lines<'n> {
 
     /// Reads a piece of the file from the place `at` on, behind what is held.
     fn read_on<H: Shelf>(&mut self, shelf: &mut H, at: u64, most: u64) -> Result<(), LineFault>
-        requires short { length self.old.kept ≤ 65536 }
+        requires short { length self.old.kept ≤ LINE_MOST }
         requires some { 0 < most }
         requires place { self.old.place + length self.old.kept + most ≤ file_most }
+        requires onward { IsOnward self.old.name at (H.readings shelf.old) }
+        ensures read { HasReadOn self.old self.new at result (H.readings shelf.old) (H.readings shelf.new) }
         ensures reader { Grew most self.old self.new result }
         ensures bytes { (f : List ℕ → File) → H.files shelf.old ≡ Some f → GrewIn (f self.old.name) at self.old self.new result }
         ensures same { H.files shelf.new ≡ H.files shelf.old }
@@ -346,10 +351,13 @@ impl<'n> Lines<'n> {
         }
     }
 
-    /// Reads a piece of the file behind what is held, or sees that the file is at its end.
+    /// Reads a piece of the file behind what is held, or sees that the file is at its end. Each byte is asked for once, from the beginning of the file onward.
     pub fn fill<H: Shelf>(&mut self, shelf: &mut H) -> Result<(), LineFault>
         requires live { self.old.live ≡ true }
         requires wants { self.old.wants ≡ true }
+        requires reading { IsReading self.old (H.readings shelf.old) }
+        ensures reading { OnOk result (GoesOnReading self.old self.new (H.readings shelf.old) (H.readings shelf.new)) }
+        ensures once { HasReadOnce self.old (H.readings shelf.old) (H.readings shelf.new) }
         ensures lines { (f : List ℕ → File) → H.files shelf.old ≡ Some f → Stands (f self.old.name) self.old
             → MatchResult result
             (λ _. left_in (f self.old.name) self.new ≡ left_in (f self.old.name) self.old)
@@ -360,7 +368,7 @@ impl<'n> Lines<'n> {
         ensures name { self.new.name ≡ self.old.name }
         ensures live { OnOk result (self.new.live ≡ true) }
         ensures dead { OnErr result (self.new.live ≡ false) }
-        ensures line { OnOk result (self.new.line ≡ self.old.line) }
+        ensures line { FillsLine self.old self.new result }
         ensures less { OnOk result (left_over self.new < left_over self.old) }
         ensures same { H.files shelf.new ≡ H.files shelf.old }
         ensures later { H.faults shelf.old ≤ H.faults shelf.new }
@@ -380,6 +388,10 @@ impl<'n> Lines<'n> {
     /// Cost: linear in the bytes that are read, whatever the pieces are that the shelf gives. Takes no memory.
     pub fn advance<H: Shelf>(&mut self, shelf: &mut H) -> Result<bool, LineFault>
         requires live { self.old.live ≡ true }
+        requires reading { IsReading self.old (H.readings shelf.old) }
+        ensures line { TellsLine self.old self.new result }
+        ensures reading { OnOk result (GoesOnReading self.old self.new (H.readings shelf.old) (H.readings shelf.new)) }
+        ensures once { HasReadOnce self.old (H.readings shelf.old) (H.readings shelf.new) }
         ensures lines { (f : List ℕ → File) → H.files shelf.old ≡ Some f → Stands (f self.old.name) self.old
             → MatchResult result
             (λ lent. Advances lent (left_in (f self.old.name) self.old) self.new (left_in (f self.old.name) self.new))
@@ -410,7 +422,9 @@ impl<'n> Lines<'n> {
     /// Lends the next line, and None at the end of the file. It is `advance` and then `held`.
     pub fn next<'l, H: Shelf>(&'l mut self, shelf: &mut H) -> Result<Option<&'l [u8]>, LineFault>
         requires live { self.old.live ≡ true }
-        ensures* after_borrow { sem 𝓛 (RestsNext (H.files shelf.old) self.entry self.old result) }
+        requires reading { IsReading self.old (H.readings shelf.old) }
+        ensures* after_borrow { sem 𝓛 (RestsNext (H.files shelf.old) (H.readings shelf.old) (H.readings shelf.new) self.entry self.old result) }
+        ensures once { HasReadOnce self.old (H.readings shelf.old) (H.readings shelf.new) }
         ensures same { H.files shelf.new ≡ H.files shelf.old }
         ensures later { H.faults shelf.old ≤ H.faults shelf.new }
         ensures ok { OnOk result (H.faults shelf.new ≡ H.faults shelf.old) }

@@ -1,5 +1,5 @@
 // A shelf in memory, for trying how a program meets small pieces and faults.
-ghost use Rattle.std.specs.Prelude.{◌≡◌, ◌+◌, ◌-◌, ◌^◌, ◌≤◌, min, nat_eq, [], List, ℕ, length, MatchOption, IfOk, IfErr, OnErr, OnOk, IsErr, Some, true};
+ghost use Rattle.std.specs.Prelude.{◌≡◌, ◌+◌, ◌-◌, ◌^◌, ◌≤◌, min, nat_eq, [], List, ℕ, length, MatchOption, IfOk, IfErr, OnErr, OnOk, IsErr, None, Some, true};
 ghost use Rattle.wf_io.specs.Stored.{stored};
 ghost use Rattle.wf_io.specs.Told.{File, Rose, Reads};
 
@@ -113,6 +113,8 @@ fn read(
 
 impl Shelf for MemShelf {
     ghost files = { λ s. Some (stored s.files) };
+
+    ghost readings = { λ _. None };
 
     ghost faults = { λ s. s.faults };
 

@@ -1,6 +1,7 @@
 // A shelf of files and a sink.
 ghost use Rattle.std.specs.Prelude.{◌≡◌, ◌<◌, ◌≤◌, ◌++◌, ℕ, Bool, List, length, take, Option, Some, option_map, IfOk, OnOk, IsErr};
 ghost use Rattle.wf_io.specs.Told.{File, Rose, Reads};
+ghost use Rattle.wf_io.specs.Readings.{Reading, IsOnward, IsReadOn, bytes_read};
 
 /// A call to the outside failed.
 #[derive(Clone, Copy, Debug, PartialEq, Eq)]
@@ -11,6 +12,9 @@ pub trait Shelf {
     /// The file of each name, where the shelf tells its files.
     ghost files: { Self → Option (List ℕ → File) };
 
+    /// How its files were read, the last reading first, where the shelf tells this.
+    ghost readings: { Self → Option (List Reading) };
+
     /// How often a call failed. It starts at 0 and may stay at a last value.
     ghost faults: { Self → ℕ };
 
@@ -19,11 +23,16 @@ pub trait Shelf {
 
     /// Reads bytes of the file `name` from the place `at` on into the beginning of `buf`, and gives their number.
     ///
+    /// A call begins to read the file at its beginning, or goes on where the call before it stopped in the same file. So
+    /// a pipe may stand for a file that is begun once.
+    ///
     /// Before the end of a file it gives at least one byte where `buf` has room. 0 is the end of the file. A call fails
     /// only where the count of faults rises; of a file that is told, only at the end of a broken one.
     fn read_at(&mut self, name: &str, at: u64, buf: &mut [u8]) -> Result<usize, Failed>
+        requires onward { IsOnward name.now at (readings self.old) }
         ensures bound { IfOk result (λ n. n ≤ length buf.old) }
         ensures empty { length buf.old ≡ 0 → result ≡ Ok 0 }
+        ensures moved { IsReadOn name.now at (bytes_read result) (readings self.old) (readings self.new) }
         ensures same { files self.new ≡ files self.old }
         ensures later { faults self.old ≤ faults self.new }
         ensures ok { OnOk result (faults self.new ≡ faults self.old) }

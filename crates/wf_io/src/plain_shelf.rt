@@ -1,5 +1,5 @@
 // A shelf of whole files in memory, which never fails.
-ghost use Rattle.std.specs.Prelude.{◌≡◌, ◌≤◌, [], List, ℕ, length, MatchOption, IfOk, IsOk, Some, false};
+ghost use Rattle.std.specs.Prelude.{◌≡◌, ◌≤◌, [], List, ℕ, length, MatchOption, IfOk, IsOk, None, Some, false};
 ghost use Rattle.wf_io.specs.Stored.{stored_whole};
 ghost use Rattle.wf_io.specs.Told.{File, Reads};
 
@@ -57,6 +57,8 @@ fn find<'a>(files: &'a [PlainFile], name: &str) -> Option<&'a PlainFile>
 
 impl Shelf for PlainShelf {
     ghost files = { λ s. Some (stored_whole s) };
+
+    ghost readings = { λ _. None };
 
     ghost faults = { λ _. 0 };
 

@@ -1,8 +1,10 @@
 // Reading a whole file.
-ghost use Rattle.std.specs.Prelude.{◌≡◌, ◌<◌, ◌≤◌, ◌++◌, ℕ, true, false, List, length, Option, Some, IfOk, OnOk, IsErrOf};
+ghost use Rattle.std.specs.Prelude.{◌≡◌, ◌<◌, ◌≤◌, ◌+◌, ◌++◌, ℕ, true, false, List, length, Option, Some, IfOk, OnOk, IsErrOf};
 ghost use Rattle.wf_io.specs.Told.{File, Rose, Begins};
+ghost use Rattle.wf_io.specs.Readings.{IsOnward, IsReadOn, IsReadOnce};
 ghost use Rattle.wf_io.specs.declared.whole.ReadFault.TheVariants.{Fault, NoMemory};
 
+use crate::limits::PIECE;
 use crate::outside::{Failed, Shelf};
 use std::alloc::{AllocError, Global};
 use thiserror::Error;
@@ -37,9 +39,6 @@ impl From<Failed> for ReadFault {
     }
 }
 
-/// How many bytes a call asks of the shelf.
-const PIECE: usize = 65536;
-
 /// A buffer of this length.
 fn buffer(alloc: Global, size: usize) -> Result<Vec<u8>, AllocError>
     ensures { IfOk result (λ v. length v.items ≡ size) }
@@ -60,6 +59,9 @@ fn more<H: Shelf>(
     requires room { 0 < length chunk.old }
     requires short { length bytes.old.items ≤ most }
     requires begun { Begins (H.files shelf.old) name.now bytes.old.items }
+    requires onward { IsOnward name.now (length bytes.old.items) (H.readings shelf.old) }
+    ensures moved { (count : ℕ) × IsReadOn name.now (length bytes.old.items) count (H.readings shelf.old) (H.readings shelf.new) ×
+        IfOk result (λ is_more. length bytes.new.items ≡ length bytes.old.items + count) }
     ensures same { H.files shelf.new ≡ H.files shelf.old }
     ensures later { H.faults shelf.old ≤ H.faults shelf.new }
     ensures count { OnOk result (H.faults shelf.new ≡ H.faults shelf.old) }
@@ -90,7 +92,8 @@ fn more<H: Shelf>(
 /// The whole file `name` of a shelf, where it has at most `most` bytes.
 ///
 /// Of a shelf that tells its files it gives exactly the file's bytes. TooLong comes where the file has more than `most`
-/// bytes, broken or not; Fault where it is broken and has at most `most` bytes. NoMemory may come at any time.
+/// bytes, broken or not; Fault where it is broken and has at most `most` bytes. NoMemory may come at any time. Each byte is
+/// asked for once, from the beginning of the file onward.
 ///
 /// Cost: time linear in the bytes that are read, in pieces of 65,536 bytes. Takes memory for the file and one piece.
 pub fn read_all<H: Shelf>(
@@ -102,6 +105,7 @@ pub fn read_all<H: Shelf>(
     ensures ok { IfOk result (λ v. (f : List ℕ → File) → H.files shelf.old ≡ Some f
         → (v.items ≡ (f name.now).bytes) × ((f name.now).broken ≡ false) × (length (f name.now).bytes ≤ most)) }
     ensures short { IfOk result (λ v. length v.items ≤ most) }
+    ensures once { IsReadOnce name.now (H.readings shelf.old) (H.readings shelf.new) }
     ensures count { OnOk result (H.faults shelf.new ≡ H.faults shelf.old) }
     ensures same { H.files shelf.new ≡ H.files shelf.old }
     ensures later { H.faults shelf.old ≤ H.faults shelf.new }

@@ -1,17 +1,16 @@
 // The bytes of a file that were read and are still to be passed.
 ghost use Rattle.std.specs.Prelude.{◌≡◌, ◌<◌, ◌≤◌, ◌+◌, ◌-◌, ◌++◌, ℕ, List, [], length, take, drop, Some, IfOk, OnOk, OnErr, IsErr};
 ghost use Rattle.wf_io.specs.Told.{File, Rose, Reads};
+ghost use Rattle.wf_io.specs.Readings.{IsOnward, IsReadOn, bytes_read};
 ghost use Rattle.wf_io.specs.Windows.{IsMore};
 
+use crate::limits::{LINE_MOST, PIECE};
 use crate::outside::{Failed, Shelf};
 use std::alloc::{AllocError, Global};
 use std::marker::Model;
 
-/// How many bytes a call asks of the shelf, at most.
-const PIECE: usize = 65536;
-
 /// The length of the buffer: room for a piece behind the bytes of the longest line, and they are moved once a piece at most.
-const SIZE: usize = 262144;
+const SIZE: usize = 4 * PIECE;
 
 /// Bytes of a file, one behind the other: a part of a buffer.
 #[derive(Drop)]
@@ -23,22 +22,23 @@ pub(crate) struct Window {
 
 impl Model for Window {
     ghost use Rattle.std.specs.Prelude.{◌≡◌, ◌≤◌, ◌-◌, List, ℕ, length, take, drop};
+    ghost use Rattle.wf_io.specs.declared.window.TheConstants.{SIZE};
 
     ghost Value = { List ℕ };
 
     ghost view = { λ w. take (w.end - w.start) (drop w.start w.buffer.items) };
 
-    ghost invariant = { λ w. (w.start ≤ w.end) × (w.end ≤ length w.buffer.items) × (length w.buffer.items ≡ 262144) };
+    ghost invariant = { λ w. (w.start ≤ w.end) × (w.end ≤ length w.buffer.items) × (length w.buffer.items ≡ SIZE) };
 }
 
 /// Moves the bytes of a buffer from `start` to `end` to its beginning, where less room than for a piece is behind them. It gives where they begin then.
 fn make_room(buffer: &mut [u8], start: usize, end: usize) -> usize
     requires ordered { start ≤ end }
     requires within { end ≤ length buffer.old }
-    requires size { length buffer.old ≡ 262144 }
-    requires short { end - start ≤ 65536 }
+    requires size { length buffer.old ≡ SIZE }
+    requires short { end - start ≤ LINE_MOST }
     ensures same { take (end - start) (drop result buffer.new) ≡ take (end - start) (drop start buffer.old) }
-    ensures room { result + (end - start) + 65536 ≤ length buffer.new }
+    ensures room { result + (end - start) + PIECE ≤ length buffer.new }
 {
     if buffer.len() - end >= PIECE {
         return start;
@@ -57,6 +57,8 @@ fn read_behind<H: Shelf>(
     size: usize,
 ) -> Result<usize, Failed>
     requires room { from + size ≤ length buffer.old }
+    requires onward { IsOnward name.now at (H.readings shelf.old) }
+    ensures moved { IsReadOn name.now at (bytes_read result) (H.readings shelf.old) (H.readings shelf.new) }
     ensures before { take from buffer.new ≡ take from buffer.old }
     ensures bound { IfOk result (λ n. n ≤ size) }
     ensures same { H.files shelf.new ≡ H.files shelf.old }
@@ -105,8 +107,10 @@ impl Window {
         at: u64,
         most: usize,
     ) -> Result<usize, Failed>
-        requires room { length self.old ≤ 65536 }
+        requires room { length self.old ≤ LINE_MOST }
         requires some { 0 < most }
+        requires onward { IsOnward name.now at (H.readings shelf.old) }
+        ensures moved { IsReadOn name.now at (bytes_read result) (H.readings shelf.old) (H.readings shelf.new) }
         ensures more { IfOk result (λ n. (n ≤ most) × (length self.new ≡ length self.old + n)) }
         ensures begins { OnOk result (take (length self.old) self.new ≡ self.old) }
         ensures same { H.files shelf.new ≡ H.files shelf.old }

@@ -7,18 +7,22 @@ use Rattle.wf_model.proofs.Lists.{in_map, in_at, at_is, at_below}
 use Rattle.wf_model.specs.Grammar.{Grammar, Module, Position, Inner, Production, module_at, production_at}
 use Rattle.wf_model.specs.Items.{dotted}
 use Rattle.wf_model.specs.Versions.{version_of, IsVersion}
-use Rattle.wf_json.specs.Canonical.{text_in_quotes, list_of, pair_text, position_at, position_text, input_text, output_text, edge_text, entry_text, exit_text, entries_of, exits_of, module_there, module_text, production_text, canonical_of}
-use Rattle.wf_json.specs.Writing.{first_text}
+use Rattle.wf_json.specs.Canonical.{text_in_quotes, list_of, pair_text, position_at, position_text, input_text, output_text, edge_text, entry_text, exit_text, entries_of, exits_of, module_there, module_text, production_text, members_of, canonical_of}
+use Rattle.wf_json.specs.Writing.{first_members, first_text}
 
--- the parts of a text
-abbrev whole_text : List ℕ → List Module → List ℕ → List ℕ
-whole_text start modules productions =
-    codes "{\"start\":" ++ text_in_quotes start ++ codes ",\"modules\":" ++ list_of module_text modules ++ codes ",\"productions\":" ++ productions ++ codes "}"
+-- the parts of the members of a grammar
+abbrev member_parts : List ℕ → List Module → List ℕ → List ℕ
+member_parts start modules productions =
+    codes "\"start\":" ++ text_in_quotes start ++ codes ",\"modules\":" ++ list_of module_text modules ++ codes ",\"productions\":" ++ productions
 
--- with all modules and all productions it is the text of the grammar
+-- with all modules and all productions they are those of the grammar
+pub first_members-all : (g : Grammar) → first_members g (length g.modules) (length g.productions) ≡ members_of g
+first_members-all g =
+    ap₂ (λ ms ps. member_parts (module_at g g.start).name ms (list_of (production_text g) ps)) (take_all (length g.modules) g.modules (omega arith)) (take_all (length g.productions) g.productions (omega arith))
+
+-- and the text is that of the grammar
 pub first_text-all : (g : Grammar) → first_text g (length g.modules) (length g.productions) ≡ canonical_of g
-first_text-all g =
-    ap₂ (λ ms ps. whole_text (module_at g g.start).name ms (list_of (production_text g) ps)) (take_all (length g.modules) g.modules (omega arith)) (take_all (length g.productions) g.productions (omega arith))
+first_text-all g = ap (λ t. codes "{" ++ t ++ codes "}") (first_members-all g)
 
 others_same : {A : Type 0} (f h : A → List ℕ) (xs : List A) → ((x : A) → IsIn x xs → f x ≡ h x) → flat_map (λ x. codes "," ++ f x) xs ≡ flat_map (λ x. codes "," ++ h x) xs
 others_same f h [] same = refl
@@ -89,7 +93,7 @@ first_text-version g m p is =
     let v = version_of g m p in
     let same : (k : ℕ) → k < m → module_at g k ≡ module_at v k = λ k below. sym (get_or-take m g.modules k (record { name = []; inputs = []; outputs = [] }) below) in
     let start = is.start in
-    ap₂ (λ (z : Module) ps. whole_text z.name (take m g.modules) ps) (same g.start is.start)
+    ap₂ (λ (z : Module) ps. codes "{" ++ member_parts z.name (take m g.modules) ps ++ codes "}") (same g.start is.start)
     (list_of-same (production_text g) (production_text v) (take p g.productions) (λ r there.
     let q = first_production g p r is.productions there in
     production_same g v m (omega arith) same r (subst (λ (z : Production). z.head < m) q.2 (is.heads q.0 q.1))

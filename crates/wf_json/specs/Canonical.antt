@@ -74,10 +74,13 @@ production_text g r =
     ++ codes ",\"out\":" ++ list_of (exit_text g r) (exits_of g r)
     ++ codes "}"
 
--- a grammar, with its members `start`, `modules` and `productions`
-abbrev pub canonical_of : Grammar → List ℕ
-canonical_of g =
-    codes "{\"start\":" ++ text_in_quotes (module_at g g.start).name
+-- the members `start`, `modules` and `productions` of a grammar
+abbrev pub members_of : Grammar → List ℕ
+members_of g =
+    codes "\"start\":" ++ text_in_quotes (module_at g g.start).name
     ++ codes ",\"modules\":" ++ list_of module_text g.modules
     ++ codes ",\"productions\":" ++ list_of (production_text g) g.productions
-    ++ codes "}"
+
+-- a grammar, with these members
+abbrev pub canonical_of : Grammar → List ℕ
+canonical_of g = codes "{" ++ members_of g ++ codes "}"

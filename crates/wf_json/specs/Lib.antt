@@ -8,3 +8,4 @@ pub mod SpecRest
 pub mod ViewForm
 pub mod Digests
 pub mod Hashing
+pub mod FaultText

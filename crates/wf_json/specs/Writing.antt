@@ -48,10 +48,13 @@ input_name g r i = dotted (position_at r i.position).name (get_or (module_there 
 abbrev pub output_name : Grammar → Production → Inner → List ℕ
 output_name g r i = dotted (position_at r i.position).name (get_or (module_there g r i.position).outputs i.port [])
 
--- the canonical text of a grammar with its first m modules and its first p productions alone
-abbrev pub first_text : Grammar → ℕ → ℕ → List ℕ
-first_text g m p =
-    codes "{\"start\":" ++ text_in_quotes (module_at g g.start).name
+-- the members of a grammar with its first m modules and its first p productions alone
+abbrev pub first_members : Grammar → ℕ → ℕ → List ℕ
+first_members g m p =
+    codes "\"start\":" ++ text_in_quotes (module_at g g.start).name
     ++ codes ",\"modules\":" ++ list_of module_text (take m g.modules)
     ++ codes ",\"productions\":" ++ list_of (production_text g) (take p g.productions)
-    ++ codes "}"
+
+-- its canonical text
+abbrev pub first_text : Grammar → ℕ → ℕ → List ℕ
+first_text g m p = codes "{" ++ first_members g m p ++ codes "}"

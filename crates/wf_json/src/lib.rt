@@ -1,7 +1,8 @@
-//! Specifications and views in JSON: reading them, and the canonical text of a grammar with the digests of the grammar and of its earlier versions.
+//! Specifications and views in JSON: reading them, writing the members of a grammar, and its canonical text with the digests of the grammar and of its earlier versions.
 #![tactic(auto)]
 
 mod fault;
+mod fault_text;
 mod form;
 mod hashed_text;
 mod hashing;
@@ -17,5 +18,6 @@ pub use form::{FromJson, member, member_list, pair};
 pub use hashing::{digest, digests};
 pub use reading::{TextFault, read_value};
 pub use spec::read_spec;
+pub use text_sink::TextSink;
 pub use view::read_view;
-pub use writing::canonical;
+pub use writing::{canonical, put_list, put_members, put_quoted};

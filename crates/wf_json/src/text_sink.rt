@@ -5,7 +5,7 @@ ghost use Rattle.wf_json.specs.Writing.{Takes};
 use std::alloc::AllocError;
 
 /// What takes a text, piece by piece.
-pub(crate) trait TextSink {
+pub trait TextSink {
     /// This text was taken.
     ghost holds: { Self → List ℕ → Type 0 };
 

@@ -3,7 +3,7 @@ use Rattle.std.specs.Prelude.{◌≡◌, ℕ, ◌≤◌, Bool, List, [], ◌++�
 use Rattle.wf_model.specs.declared.numbers.Side.{Side}
 use Rattle.wf_model.specs.declared.numbers.Side.TheVariants.{Input as InputSide, Output as OutputSide}
 use Rattle.wf_model.specs.Lists.{IsIn, numbers_from}
-use Rattle.wf_model.specs.Grammar.{Grammar, Inner, Edge, module_at, body_of, alternative_of}
+use Rattle.wf_model.specs.Grammar.{Grammar, Inner, Edge, module_at, body_of, alternative_of, production_at}
 use Rattle.wf_model.specs.declared.event.Event.{Event}
 use Rattle.wf_model.specs.Items.{Item, dotted, input_items, output_items}
 use Rattle.bit_pack.specs.Bits.{packed}
@@ -11,6 +11,7 @@ use Rattle.label_model.specs.Files.{Entry, entry_of}
 use Rattle.label_model.specs.Labels.{Label, Input, Output, label_bits, ending_bits}
 use Rattle.label_model.specs.RunLabels.{labelled_by}
 use Rattle.label_model.specs.Bound.{most_bits}
+use Rattle.wf_run.specs.Runs.{Prefix}
 use Rattle.wf_labeller.specs.declared.entry.Entry.{Entry as EntryHeld}
 
 -- an entry
@@ -49,3 +50,7 @@ body_output_name g p from = get_or (module_at g (get_or (body_of g p) from.posit
 -- the entry of the item of an edge of a production: its label is the prefix of the instance that is expanded, and the ending
 abbrev pub edge_entry : Grammar → ℕ → List (List ℕ) → List Bool → Option ℕ → Edge × ℕ → Entry
 edge_entry g p names bits chain t = record { name = dotted (get_or names t.0.from.position []) (body_output_name g p t.0.from); label = packed (bits ++ ending_bits chain (alternative_of g p) t.1) }
+
+-- the entries of the items of all edges of a production, where an instance with this prefix is expanded by it into instances of these names
+abbrev pub expansion_entries : Grammar → ℕ → List (List ℕ) → Prefix → List Entry
+expansion_entries g p names x = map (edge_entry g p names x.bits x.chain) (numbered_edges 0 (production_at g p).edges)

@@ -9,7 +9,7 @@ use Rattle.wf_model.specs.Items.{Item}
 use Rattle.label_model.specs.Labels.{Label, label_bits, ending_bits}
 use Rattle.label_model.specs.RunLabels.{labelled_by}
 use Rattle.label_model.specs.Bound.{most_bits}
-use Rattle.wf_run.specs.Runs.{RunSeen, node_at}
+use Rattle.wf_run.specs.Runs.{Prefix, RunSeen, node_at}
 use Rattle.wf_labeller.specs.declared.group.Maker.{Maker}
 use Rattle.wf_labeller.specs.declared.group.Maker.TheVariants.{Root, Expansion}
 use Rattle.wf_labeller.specs.declared.group.Group.{Group}
@@ -37,6 +37,10 @@ root_bits g = ports_bits InputSide (inputs_of g g.start) ++ ports_bits OutputSid
 -- the labels of the edges of a production, where an instance with this prefix is expanded by it
 abbrev pub edges_bits : Grammar → ℕ → List Bool → Option ℕ → List (List Bool)
 edges_bits g p bits chain = map (λ k. bits ++ ending_bits chain (alternative_of g p) k) (numbers_from 0 (length (production_at g p).edges))
+
+-- so of a prefix as one value
+abbrev pub expansion_bits : Grammar → ℕ → Prefix → List (List Bool)
+expansion_bits g p x = edges_bits g p x.bits x.chain
 
 -- the labels of the items that an event makes, from what the run keeps of the instance
 abbrev pub bits_by : RunSeen → Maker → List (List Bool)

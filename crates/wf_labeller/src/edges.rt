@@ -1,12 +1,13 @@
 // The entries of the edges of a production.
-ghost use Rattle.std.specs.Prelude.{◌≡◌, ◌<◌, ◌≤◌, ◌^◌, ℕ, List, map, length, OnOk};
+ghost use Rattle.std.specs.Prelude.{◌≡◌, ◌<◌, ◌≤◌, ◌^◌, ℕ, List, length, OnOk};
 ghost use Rattle.wf_model.specs.Lists.{IsIn};
-ghost use Rattle.wf_model.specs.Grammar.{body_of, production_at};
+ghost use Rattle.wf_model.specs.Grammar.{body_of};
 ghost use Rattle.wf_model.specs.Meaning.{inner_of};
 ghost use Rattle.wf_model.specs.WellFormed.{IsInnerOutput};
-ghost use Rattle.bit_pack.specs.Written.{first_bits, IsFilled};
-ghost use Rattle.wf_labeller.specs.Entries.{body_output_name, edge_entry, numbered_edges};
+ghost use Rattle.bit_pack.specs.Written.{IsFilled};
+ghost use Rattle.wf_labeller.specs.Entries.{body_output_name, expansion_entries};
 ghost use Rattle.wf_labeller.specs.Keeping.{Adds, HasMore};
+ghost use Rattle.wf_run.specs.Growing.{prefix_of};
 
 use crate::keeper::Keeper;
 use bit_pack::BitWriter;
@@ -42,9 +43,7 @@ pub(crate) fn keep_edges<K: Keeper>(
     requires short { (n : List ℕ) → IsIn n names.now → length n ≤ 64 }
     requires filled { IsFilled prefix.bytes.now prefix.length }
     requires few { prefix.length < 2 ^ 17 }
-    ensures ok { OnOk result (Adds K.parts_of (K.kept to.old) (K.kept to.new)
-        (map (edge_entry g.now.core production.0 names.now (first_bits prefix.entry.bytes.now prefix.entry.length) prefix.entry.chain)
-        (numbered_edges 0 (production_at g.now.core production.0).edges))) }
+    ensures ok { OnOk result (Adds K.parts_of (K.kept to.old) (K.kept to.new) (expansion_entries g.now.core production.0 names.now (prefix_of prefix.entry))) }
     ensures more { HasMore (K.kept to.old) (K.kept to.new) }
 {
     let rule = g.production(production);

@@ -1,12 +1,12 @@
 // A run of which each item can be labelled by its number.
-ghost use Rattle.std.specs.Prelude.{◌≡◌, ◌⊎◌, ◌<◌, ◌≤◌, ◌++◌, ◌∷◌, [], List, Some, None, length, get_or, vec_len, vec_capacity, IfOk, IfErr, IfSome, IsNone, OnOk, OnErr};
+ghost use Rattle.std.specs.Prelude.{◌≡◌, ◌<◌, ◌++◌, ◌∷◌, [], Some, None, length, get_or, vec_len, vec_capacity, IfOk, IfErr, IfSome, IsNone, OnOk, OnErr};
 ghost use Rattle.wf_model.specs.declared.event.Event.{Event};
 ghost use Rattle.wf_model.specs.declared.event.RunFault.TheVariants.{NoMemory};
-ghost use Rattle.wf_model.specs.Faults.{fault_of};
-ghost use Rattle.label_model.specs.RunLabels.{labelled_by};
-ghost use Rattle.wf_run.specs.Runs.{IsRunOf, GoesOn};
+ghost use Rattle.wf_run.specs.Runs.{GoesOn};
 ghost use Rattle.wf_run.specs.Found.{IsFoundFor};
-ghost use Rattle.wf_labeller.specs.Groups.{AreLabelsWithin, IsGrouped, IsMeasureOf, IsThere, all_bits, bits_by, bits_of_items, longest_of};
+ghost use Rattle.wf_run.specs.Taking.{IsRunAfter, RunTakes, RunRejects, RunRefuses};
+ghost use Rattle.wf_labeller.specs.Groups.{IsGrouped, IsMeasureOf, IsThere, all_bits, bits_by, longest_of};
+ghost use Rattle.wf_labeller.specs.Taking.{AddsLabels, AreLabelsOfTaken, AreBounded};
 
 use crate::group::{Group, Maker, begin_of, group_with};
 use crate::labeller::{look_up, place};
@@ -42,9 +42,8 @@ impl<'a> Model for LabelledRun<'a> {
 fn maker_of(run: &Run<'_>, found: Option<NodeNo>, event: &Event) -> Option<Maker>
     requires found { IsFoundFor run.now event.now found }
     ensures there { IfSome result (λ m. IsThere run.now m) }
-    ensures labels { IfSome result (λ m. (events : List Event) → IsRunOf run.now events → fault_of run.now.grammar.core run.now.most events event.now ≡ None →
-        bits_by run.now m ≡ bits_of_items (labelled_by run.now.grammar.core (events ++ event.now ∷ []) event.now)) }
-    ensures none { IsNone result → (events : List Event) → IsRunOf run.now events → fault_of run.now.grammar.core run.now.most events event.now ≡ None → ⊥ }
+    ensures labels { IfSome result (λ m. AreLabelsOfTaken (bits_by run.now m) run.now event.now) }
+    ensures none { IsNone result → RunRejects run.now event.now }
 {
     // A grammar is well-formed.
     let _formed = run.grammar().start();
@@ -115,11 +114,10 @@ fn put(groups: &mut Vec<Group>, group: Group)
 /// Takes an event whose instance was looked up. After an error the run is as it was.
 fn take_event(run: &mut Run<'_>, found: Option<NodeNo>, event: &Event) -> Result<(), RunFault>
     requires found { IsFoundFor run.old event.now found }
-    ensures taken { OnOk result ((events : List Event) → IsRunOf run.old events → IsRunOf run.new (events ++ event.now ∷ [])) }
-    ensures extends { OnOk result ((events : List Event) → IsRunOf run.old events → fault_of run.old.grammar.core run.old.most events event.now ≡ None) }
+    ensures taken { OnOk result (IsRunAfter run.old event.now run.new) }
+    ensures extends { OnOk result (RunTakes run.old event.now) }
     ensures goes_on { OnOk result (GoesOn run.old run.new) }
-    ensures refused { IfErr result (λ f. (f ≡ NoMemory) ⊎
-        ((events : List Event) → IsRunOf run.old events → fault_of run.old.grammar.core run.old.most events event.now ≡ Some f)) }
+    ensures refused { IfErr result (RunRefuses run.old event.now) }
     ensures unchanged { OnErr result (run.new ≡ run.old) }
 {
     match event {
@@ -147,14 +145,12 @@ fn take_group(
     event: &Event,
 ) -> Result<(), RunFault>
     requires kept { IsGrouped run.old groups.old.items longest.old }
-    ensures taken { OnOk result ((events : List Event) → IsRunOf run.old events → IsRunOf run.new (events ++ event.now ∷ [])) }
-    ensures labels { OnOk result ((events : List Event) → IsRunOf run.old events → all_bits run.new groups.new.items ≡
-        all_bits run.old groups.old.items ++ bits_of_items (labelled_by run.old.grammar.core (events ++ event.now ∷ []) event.now)) }
-    ensures extends { OnOk result ((events : List Event) → IsRunOf run.old events → fault_of run.old.grammar.core run.old.most events event.now ≡ None) }
+    ensures taken { OnOk result (IsRunAfter run.old event.now run.new) }
+    ensures labels { OnOk result (AddsLabels (all_bits run.old groups.old.items) (all_bits run.new groups.new.items) run.old event.now) }
+    ensures extends { OnOk result (RunTakes run.old event.now) }
     ensures goes_on { OnOk result (GoesOn run.old run.new) }
     ensures kept { OnOk result (IsGrouped run.new groups.new.items longest.new) }
-    ensures refused { IfErr result (λ f. (f ≡ NoMemory) ⊎
-        ((events : List Event) → IsRunOf run.old events → fault_of run.old.grammar.core run.old.most events event.now ≡ Some f)) }
+    ensures refused { IfErr result (RunRefuses run.old event.now) }
     ensures same_run { OnErr result (run.new ≡ run.old) }
     ensures same_groups { OnErr result (groups.new.items ≡ groups.old.items) }
     ensures same_longest { OnErr result (longest.new ≡ longest.old) }
@@ -202,15 +198,12 @@ impl<'a> LabelledRun<'a> {
     ///
     /// Cost: that of the event in the run, and linear in the bits of what the labels of the items begin with, with one gamma code more for each. No address is walked.
     pub fn take(&mut self, event: &Event) -> Result<(), RunFault>
-        ensures taken { OnOk result ((events : List Event) → IsRunOf self.old.run events → IsRunOf self.new.run (events ++ event.now ∷ [])) }
-        ensures labels { OnOk result ((events : List Event) → IsRunOf self.old.run events →
-            self.new.labels ≡ self.old.labels ++ bits_of_items (labelled_by self.old.run.grammar.core (events ++ event.now ∷ []) event.now)) }
-        ensures bound { OnOk result ((events : List Event) → IsRunOf self.old.run events →
-            AreLabelsWithin self.new.run.grammar.core (events ++ event.now ∷ []) event.now self.new.run.expands) }
-        ensures extends { OnOk result ((events : List Event) → IsRunOf self.old.run events → fault_of self.old.run.grammar.core self.old.run.most events event.now ≡ None) }
+        ensures taken { OnOk result (IsRunAfter self.old.run event.now self.new.run) }
+        ensures labels { OnOk result (AddsLabels self.old.labels self.new.labels self.old.run event.now) }
+        ensures bound { OnOk result (AreBounded self.old.run self.new.run event.now) }
+        ensures extends { OnOk result (RunTakes self.old.run event.now) }
         ensures goes_on { OnOk result (GoesOn self.old.run self.new.run) }
-        ensures refused { IfErr result (λ f. (f ≡ NoMemory) ⊎
-            ((events : List Event) → IsRunOf self.old.run events → fault_of self.old.run.grammar.core self.old.run.most events event.now ≡ Some f)) }
+        ensures refused { IfErr result (RunRefuses self.old.run event.now) }
         ensures unchanged { OnErr result (self.new ≡ self.old) }
     {
         // The bound holds since the grammar is well-formed and strictly linear.

@@ -1,18 +1,15 @@
 // A run whose items are labelled as they are made.
-ghost use Rattle.std.specs.Prelude.{◌≡◌, ◌⊎◌, ◌<◌, ◌≤◌, ◌++◌, ◌∷◌, [], ℕ, List, Some, None, length, map, flat_map, position, bytes_eq, IfErr, IfSome, IsNone, OnOk, OnErr};
+ghost use Rattle.std.specs.Prelude.{◌≡◌, ◌<◌, ◌≤◌, ℕ, List, Some, None, length, position, bytes_eq, IfErr, IfSome, IsNone, OnOk, OnErr};
 ghost use Rattle.wf_model.specs.declared.event.Event.{Event};
 ghost use Rattle.wf_model.specs.declared.event.Event.TheVariants.{Start, Expand};
 ghost use Rattle.wf_model.specs.declared.event.RunFault.TheVariants.{NoMemory};
 ghost use Rattle.wf_model.specs.Lists.{IsIn};
-ghost use Rattle.wf_model.specs.Faults.{fault_of};
-ghost use Rattle.wf_model.specs.Grammar.{body_of};
-ghost use Rattle.label_model.specs.Files.{entry_of, entry_bytes};
-ghost use Rattle.label_model.specs.RunLabels.{labelled_by};
+ghost use Rattle.label_model.specs.Files.{entry_bytes};
 ghost use Rattle.wf_run.specs.Runs.{IsRunOf, GoesOn};
 ghost use Rattle.wf_run.specs.Found.{IsFoundAs, IsFoundFor};
-ghost use Rattle.wf_labeller.specs.Entries.{HaveLabelsWithin};
-ghost use Rattle.wf_labeller.specs.Groups.{AreLabelsWithin};
-ghost use Rattle.wf_labeller.specs.Keeping.{Adds, HasMore};
+ghost use Rattle.wf_run.specs.Taking.{IsRunAfter, RunTakes, RunRejects, RunRefuses};
+ghost use Rattle.wf_labeller.specs.Keeping.{HasMore};
+ghost use Rattle.wf_labeller.specs.Taking.{entries_behind, AddsEntries, AddsEntriesOfTaken, AreBounded, AreEntriesBounded, IsNumberOf};
 
 use crate::edges::keep_edges;
 use crate::entry::Records;
@@ -66,15 +63,12 @@ impl<'a> Labeller<'a> {
     ///
     /// Cost: that of the event in the run, and linear in the bytes of the entries. No address is walked.
     pub fn take(&mut self, event: &Event, into: &mut Records) -> Result<(), RunFault>
-        ensures taken { OnOk result ((events : List Event) → IsRunOf self.old events → IsRunOf self.new (events ++ event.now ∷ [])) }
-        ensures entries { OnOk result ((events : List Event) → IsRunOf self.old events →
-            into.new ≡ map entry_of (labelled_by self.old.grammar.core (events ++ event.now ∷ []) event.now)) }
-        ensures bound { OnOk result ((events : List Event) → IsRunOf self.old events →
-            HaveLabelsWithin self.new.grammar.core (events ++ event.now ∷ []) event.now self.new.expands into.new) }
-        ensures extends { OnOk result ((events : List Event) → IsRunOf self.old events → fault_of self.old.grammar.core self.old.most events event.now ≡ None) }
+        ensures taken { OnOk result (IsRunAfter self.old event.now self.new) }
+        ensures entries { OnOk result ((events : List Event) → IsRunOf self.old events → into.new ≡ entries_behind self.old.grammar.core events event.now) }
+        ensures bound { OnOk result (AreEntriesBounded self.old self.new event.now into.new) }
+        ensures extends { OnOk result (RunTakes self.old event.now) }
         ensures goes_on { OnOk result (GoesOn self.old self.new) }
-        ensures refused { IfErr result (λ f. (f ≡ NoMemory) ⊎
-            ((events : List Event) → IsRunOf self.old events → fault_of self.old.grammar.core self.old.most events event.now ≡ Some f)) }
+        ensures refused { IfErr result (RunRefuses self.old event.now) }
         ensures run { OnErr result (self.new ≡ self.old) }
         ensures into { OnErr result (into.new ≡ into.old) }
     {
@@ -99,15 +93,12 @@ impl<'a> Labeller<'a> {
         into: &mut Vec<u8>,
     ) -> Result<(), RunFault>
         requires found { IsFoundFor self.old event.now found }
-        ensures taken { OnOk result ((events : List Event) → IsRunOf self.old events → IsRunOf self.new (events ++ event.now ∷ [])) }
-        ensures entries { OnOk result ((events : List Event) → IsRunOf self.old events →
-            into.new.items ≡ into.old.items ++ flat_map entry_bytes (map entry_of (labelled_by self.old.grammar.core (events ++ event.now ∷ []) event.now))) }
-        ensures bound { OnOk result ((events : List Event) → IsRunOf self.old events →
-            AreLabelsWithin self.new.grammar.core (events ++ event.now ∷ []) event.now self.new.expands) }
-        ensures extends { OnOk result ((events : List Event) → IsRunOf self.old events → fault_of self.old.grammar.core self.old.most events event.now ≡ None) }
+        ensures taken { OnOk result (IsRunAfter self.old event.now self.new) }
+        ensures entries { OnOk result (AddsEntries entry_bytes into.old.items into.new.items self.old event.now) }
+        ensures bound { OnOk result (AreBounded self.old self.new event.now) }
+        ensures extends { OnOk result (RunTakes self.old event.now) }
         ensures goes_on { OnOk result (GoesOn self.old self.new) }
-        ensures refused { IfErr result (λ f. (f ≡ NoMemory) ⊎
-            ((events : List Event) → IsRunOf self.old events → fault_of self.old.grammar.core self.old.most events event.now ≡ Some f)) }
+        ensures refused { IfErr result (RunRefuses self.old event.now) }
         ensures run { OnErr result (self.new ≡ self.old) }
         ensures into { OnErr result (into.new.items ≡ into.old.items) }
     {
@@ -131,14 +122,12 @@ impl<'a> Labeller<'a> {
         to: &mut K,
     ) -> Result<(), RunFault>
         requires found { IsFoundFor self.old event.now found }
-        ensures taken { OnOk result ((events : List Event) → IsRunOf self.old events → IsRunOf self.new (events ++ event.now ∷ [])) }
-        ensures entries { OnOk result ((events : List Event) → IsRunOf self.old events →
-            Adds K.parts_of (K.kept to.old) (K.kept to.new) (map entry_of (labelled_by self.old.grammar.core (events ++ event.now ∷ []) event.now))) }
+        ensures taken { OnOk result (IsRunAfter self.old event.now self.new) }
+        ensures entries { OnOk result (AddsEntries K.parts_of (K.kept to.old) (K.kept to.new) self.old event.now) }
         ensures more { HasMore (K.kept to.old) (K.kept to.new) }
-        ensures extends { OnOk result ((events : List Event) → IsRunOf self.old events → fault_of self.old.grammar.core self.old.most events event.now ≡ None) }
+        ensures extends { OnOk result (RunTakes self.old event.now) }
         ensures goes_on { OnOk result (GoesOn self.old self.new) }
-        ensures refused { IfErr result (λ f. (f ≡ NoMemory) ⊎
-            ((events : List Event) → IsRunOf self.old events → fault_of self.old.grammar.core self.old.most events event.now ≡ Some f)) }
+        ensures refused { IfErr result (RunRefuses self.old event.now) }
         ensures run { OnErr result (self.new ≡ self.old) }
     {
         match event {
@@ -177,14 +166,12 @@ fn start<K: Keeper>(
     name: &[u8],
     to: &mut K,
 ) -> Result<(), RunFault>
-    ensures taken { OnOk result ((events : List Event) → IsRunOf run.old events → IsRunOf run.new (events ++ Start name.now ∷ [])) }
-    ensures entries { OnOk result ((events : List Event) → IsRunOf run.old events →
-        Adds K.parts_of (K.kept to.old) (K.kept to.new) (map entry_of (labelled_by run.old.grammar.core (events ++ Start name.now ∷ []) (Start name.now)))) }
+    ensures taken { OnOk result (IsRunAfter run.old (Start name.now) run.new) }
+    ensures entries { OnOk result (AddsEntries K.parts_of (K.kept to.old) (K.kept to.new) run.old (Start name.now)) }
     ensures more { HasMore (K.kept to.old) (K.kept to.new) }
-    ensures extends { OnOk result ((events : List Event) → IsRunOf run.old events → fault_of run.old.grammar.core run.old.most events (Start name.now) ≡ None) }
+    ensures extends { OnOk result (RunTakes run.old (Start name.now)) }
     ensures goes_on { OnOk result (GoesOn run.old run.new) }
-    ensures refused { IfErr result (λ f. (f ≡ NoMemory) ⊎
-        ((events : List Event) → IsRunOf run.old events → fault_of run.old.grammar.core run.old.most events (Start name.now) ≡ Some f)) }
+    ensures refused { IfErr result (RunRefuses run.old (Start name.now)) }
     ensures unchanged { OnErr result (run.new ≡ run.old) }
 {
     keep_root(run.grammar(), bits, name, to)?;
@@ -203,18 +190,12 @@ fn expand<K: Keeper>(
     to: &mut K,
 ) -> Result<(), RunFault>
     requires found { IsFoundAs run.old instance.now found }
-    ensures taken { OnOk result ((events : List Event) → IsRunOf run.old events → IsRunOf run.new (events ++ Expand instance.now production names.now ∷ [])) }
-    ensures entries { OnOk result ((events : List Event) → IsRunOf run.old events →
-        Adds K.parts_of (K.kept to.old) (K.kept to.new)
-        (map entry_of (labelled_by run.old.grammar.core (events ++ Expand instance.now production names.now ∷ [])
-        (Expand instance.now production names.now)))) }
+    ensures taken { OnOk result (IsRunAfter run.old (Expand instance.now production names.now) run.new) }
+    ensures entries { OnOk result (AddsEntries K.parts_of (K.kept to.old) (K.kept to.new) run.old (Expand instance.now production names.now)) }
     ensures more { HasMore (K.kept to.old) (K.kept to.new) }
-    ensures extends { OnOk result ((events : List Event) → IsRunOf run.old events →
-        fault_of run.old.grammar.core run.old.most events (Expand instance.now production names.now) ≡ None) }
+    ensures extends { OnOk result (RunTakes run.old (Expand instance.now production names.now)) }
     ensures goes_on { OnOk result (GoesOn run.old run.new) }
-    ensures refused { IfErr result (λ f. (f ≡ NoMemory) ⊎
-        ((events : List Event) → IsRunOf run.old events →
-        fault_of run.old.grammar.core run.old.most events (Expand instance.now production names.now) ≡ Some f)) }
+    ensures refused { IfErr result (RunRefuses run.old (Expand instance.now production names.now)) }
     ensures unchanged { OnErr result (run.new ≡ run.old) }
 {
     keep_inner(run, bits, found, instance, production, names, to)?;
@@ -233,11 +214,7 @@ fn keep_inner<K: Keeper>(
     to: &mut K,
 ) -> Result<(), AllocError>
     requires found { IsFoundAs run.now instance.now found }
-    ensures ok { OnOk result ((events : List Event) → IsRunOf run.now events →
-        fault_of run.now.grammar.core run.now.most events (Expand instance.now production names.now) ≡ None →
-        Adds K.parts_of (K.kept to.old) (K.kept to.new)
-        (map entry_of (labelled_by run.now.grammar.core (events ++ Expand instance.now production names.now ∷ [])
-        (Expand instance.now production names.now)))) }
+    ensures ok { OnOk result (AddsEntriesOfTaken K.parts_of (K.kept to.old) (K.kept to.new) run.now (Expand instance.now production names.now)) }
     ensures more { HasMore (K.kept to.old) (K.kept to.new) }
 {
     let Some((n, number)) = place(run, found, instance, production, names) else {
@@ -261,11 +238,9 @@ pub(crate) fn place(
     requires found { IsFoundAs run.now instance.now found }
     ensures place { IfSome result (λ t. (events : List Event) → IsRunOf run.now events → position (bytes_eq instance.now) run.now.names ≡ Some t.0.0) }
     ensures there { IfSome result (λ t. t.0.0 < length run.now.nodes) }
-    ensures production { IfSome result (λ t. (t.1.0 ≡ production) × (production < length run.now.grammar.core.productions) ×
-        (length names.now ≡ length (body_of run.now.grammar.core production))) }
+    ensures production { IfSome result (λ t. IsNumberOf run.now.grammar.core production names.now t.1.0) }
     ensures short { IfSome result (λ _. (n : List ℕ) → IsIn n names.now → length n ≤ 64) }
-    ensures none { IsNone result → (events : List Event) → IsRunOf run.now events →
-        fault_of run.now.grammar.core run.now.most events (Expand instance.now production names.now) ≡ None → ⊥ }
+    ensures none { IsNone result → RunRejects run.now (Expand instance.now production names.now) }
 {
     let Some(n) = found else {
         return None;

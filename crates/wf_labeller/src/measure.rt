@@ -1,8 +1,9 @@
 // The labels that an event makes, each written in place of the one before, and how long the longest of them is.
 ghost use Rattle.std.specs.Prelude.{◌≡◌, ◌<◌, ◌≤◌, ◌^◌, [], length, get_or, max, IfOk, OnOk};
 ghost use Rattle.wf_model.specs.Grammar.{production_at};
-ghost use Rattle.bit_pack.specs.Written.{first_bits, IsFilled};
-ghost use Rattle.wf_labeller.specs.Groups.{IsMeasureOf, longest_of, ports_bits, root_bits, edges_bits};
+ghost use Rattle.bit_pack.specs.Written.{IsFilled};
+ghost use Rattle.wf_labeller.specs.Groups.{IsMeasureOf, longest_of, ports_bits, root_bits, expansion_bits};
+ghost use Rattle.wf_run.specs.Growing.{prefix_of};
 
 use crate::ports::write_port;
 use bit_pack::BitWriter;
@@ -65,7 +66,7 @@ pub(crate) fn measure_edges(
     requires production { production.0 < length g.now.core.productions }
     requires filled { IsFilled prefix.bytes.now prefix.length }
     requires few { prefix.length < 2 ^ 17 }
-    ensures { IfOk result (IsMeasureOf (edges_bits g.now.core production.0 (first_bits prefix.entry.bytes.now prefix.entry.length) prefix.entry.chain)) }
+    ensures { IfOk result (IsMeasureOf (expansion_bits g.now.core production.0 (prefix_of prefix.entry))) }
 {
     let rule = g.production(production);
     let count = rule.edges().len();
@@ -110,7 +111,7 @@ pub(crate) fn write_edge(
     requires filled { IsFilled prefix.bytes.now prefix.length }
     requires few { prefix.length < 2 ^ 17 }
     requires in_range { k < length (production_at g.now.core production.0).edges }
-    ensures ok { OnOk result (bits.new ≡ get_or (edges_bits g.now.core production.0 (first_bits prefix.entry.bytes.now prefix.entry.length) prefix.entry.chain) k []) }
+    ensures ok { OnOk result (bits.new ≡ get_or (expansion_bits g.now.core production.0 (prefix_of prefix.entry)) k []) }
     ensures few { OnOk result (length bits.new ≤ 391551) }
 {
     let rule = g.production(production);

@@ -1,13 +1,11 @@
 // The entries of the ports of the root.
 ghost use Rattle.std.specs.Prelude.{◌≡◌, ◌≤◌, ℕ, List, map, length, OnOk};
-ghost use Rattle.wf_model.specs.declared.event.Event.{Event};
-ghost use Rattle.wf_model.specs.declared.event.Event.TheVariants.{Start};
 ghost use Rattle.wf_model.specs.Lists.{IsIn};
 ghost use Rattle.label_model.specs.Files.{entry_of};
 ghost use Rattle.label_model.specs.Labels.{label_bits};
-ghost use Rattle.label_model.specs.RunLabels.{labelled_by};
 ghost use Rattle.wf_labeller.specs.Entries.{port_label, labelled_ports};
 ghost use Rattle.wf_labeller.specs.Keeping.{Adds, HasMore};
+ghost use Rattle.wf_labeller.specs.Taking.{AddsRootEntries};
 
 use crate::keeper::Keeper;
 use crate::room::has_room;
@@ -56,8 +54,7 @@ pub(crate) fn keep_root<K: Keeper>(
     root: &[u8],
     to: &mut K,
 ) -> Result<(), AllocError>
-    ensures ok { OnOk result (length root.now ≤ 64 → (events : List Event) →
-        Adds K.parts_of (K.kept to.old) (K.kept to.new) (map entry_of (labelled_by g.now.core events (Start root.now)))) }
+    ensures ok { OnOk result (AddsRootEntries K.parts_of (K.kept to.old) (K.kept to.new) g.now.core root.now) }
     ensures more { HasMore (K.kept to.old) (K.kept to.new) }
 {
     if !has_room(root) {

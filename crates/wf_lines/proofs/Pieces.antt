@@ -5,7 +5,7 @@ use Rattle.wf_lines.specs.BegunLines.{BegunLine, MakesAtOnce, BeginsEach}
 use Rattle.wf_lines.specs.Taking.{IsDue, IsStoppedBy}
 use Rattle.wf_lines.specs.declared.fault.LinesFault.{LinesFault}
 use Rattle.wf_lines.specs.declared.fault.LinesFault.TheVariants.{Stopped, Halted}
-use Rattle.wf_lines.proofs.Dues.{due_begun, due_put, due_later, due_more}
+use Rattle.wf_lines.proofs.Dues.{due_cut, due_put, due_later, due_more}
 
 module _ (due far later : List ℕ) (a b : Option (List ℕ)) (is : IsDue (due ++ far) later a b) where
   -- what is due behind the pieces so far
@@ -20,7 +20,7 @@ module _ (due far later : List ℕ) (a b : Option (List ℕ)) (is : IsDue (due +
   pub stopped_further : {E F : Type 0} (Stops : E → List ℕ → Type 0) (Begins : List ℕ → Type 0) (end_of : F → Option E) (f : LinesFault F) (c : Option (List ℕ)) →
       IsStoppedBy (λ e piece. Stops e (far ++ piece)) (λ piece. Begins (far ++ piece)) end_of later f b c → IsStoppedBy Stops Begins end_of due f a c
   stopped_further Stops Begins end_of (Stopped f) c why = (far ++ why.0, why.1, why.2, due_put (due ++ (far ++ why.0)) (later ++ why.0) a b c (behind why.0) why.3)
-  stopped_further Stops Begins end_of (Halted h) c why = (why.0, (far ++ why.1.0, why.1.1, due_begun (due ++ (far ++ why.1.0)) (later ++ why.1.0) a b c (behind why.1.0) why.1.2))
+  stopped_further Stops Begins end_of (Halted h) c why = (why.0, (far ++ why.1.0, why.1.1, due_cut (due ++ (far ++ why.1.0)) (later ++ why.1.0) a b c (behind why.1.0) why.1.2))
 
 -- what is made at once begins what a line makes, where it is taken in one way
 module _ {S E : Type 0} (IsSound : S → Type 0) (Takes : S → ℕ → List ℕ → S → List ℕ → Type 0) (Stops : S → ℕ → List ℕ → E → List ℕ → Type 0) (one : IsOneWay IsSound Takes Stops) where

@@ -1,8 +1,8 @@
 -- A reader of a file by its name.
-use Rattle.std.proofs.Common.{◌≡◌, ℕ, Bool, true, false, List, sym, subst, true≢false}
+use Rattle.std.proofs.Common.{◌≡◌, ℕ, Bool, true, false, List, Ok, sym, subst, true≢false}
 use Rattle.wf_io.specs.Told.{File}
 use Rattle.wf_io.specs.Lines.{FileLines, AtEnd}
-use Rattle.wf_io.specs.Readers.{Reader, Stands, Lends, Ends, Seeks, Advances, left_in}
+use Rattle.wf_io.specs.Readers.{Reader, Stands, Lends, Ends, Seeks, Advances, TellsLine, left_in}
 
 module _ (f : List ℕ → File) (m n : List ℕ) (same : m ≡ n) (x y : Reader) where
   -- what stands on in the file of one name stands on in that of the same name
@@ -27,3 +27,8 @@ advanced_lends false old r new is h = absurd (true≢false (sym is))
 pub advanced_ends : (lent : Bool) (old : FileLines) (r : Reader) (new : FileLines) → lent ≡ false → Advances lent old r new → Ends old AtEnd
 advanced_ends true old r new is h = absurd (true≢false is)
 advanced_ends false old r new is h = h
+
+-- where no line is lent, the line that was lent last is the one from before
+pub none_lent : (lent : Bool) (old new : Reader) → lent ≡ false → TellsLine old new (Ok lent) → new.line ≡ old.line
+none_lent true old new is h = absurd (true≢false is)
+none_lent false old new is h = h.1

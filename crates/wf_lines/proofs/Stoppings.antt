@@ -1,10 +1,10 @@
 -- How the lines of a file stop, and how they are all taken, after those that are taken so far.
-use Rattle.std.proofs.Common.{◌≡◌, ℕ, List, [], ◌∷◌, ◌++◌, ◌⊎◌, Option, Some, None, refl, sym, ap, ◌∙◌, subst, inl, inr, append_assoc, append-nil, true≢false}
+use Rattle.std.proofs.Common.{◌≡◌, ◌<◌, ℕ, List, [], ◌∷◌, ◌++◌, ◌⊎◌, length, Option, Some, None, refl, sym, ap, ◌∙◌, subst, inl, inr, arith, length-append, append_assoc, append-nil, true≢false}
 use Rattle.wf_io.specs.Told.{Appended}
 use Rattle.wf_io.specs.Lines.{Line, FileLines, Tail, AtEnd, text_of}
 use Rattle.wf_io.specs.Readers.{Reader, Lends, Ends}
 use Rattle.wf_lines.specs.LineStages.{LineEnds, StopsLine, AllTaken, OfLines, IsOneWay, IsClosedOneWay, ClosesOrGoesOn}
-use Rattle.wf_lines.specs.Taking.{IsBegun, Halts, IsPutAt, halt_end, end_at, IsStoppedBy, IsStoppedAtEnd, AreTaken, AreStopped}
+use Rattle.wf_lines.specs.Taking.{IsBegun, IsCut, Halts, IsPutAt, halt_end, end_at, IsStoppedBy, IsStoppedAtEnd, IsWritingFault, AreTaken, AreStopped}
 use Rattle.wf_lines.specs.BegunLines.{BegunLine, begun_line, BeginsEach}
 use Rattle.wf_lines.specs.declared.fault.Halt.{Halt}
 use Rattle.wf_lines.specs.declared.fault.Halt.TheVariants.{LineTooLong, FileTooLong, ReadFault, WriteFault}
@@ -12,7 +12,7 @@ use Rattle.wf_lines.specs.declared.fault.LinesFault.{LinesFault}
 use Rattle.wf_lines.specs.declared.fault.LinesFault.TheVariants.{Stopped, Halted}
 use Rattle.std.proofs.lemmas.Option.{same_Some}
 use Rattle.wf_lines.proofs.LineStages.{lines_on, sound_on, lines_begin, stopped_here}
-use Rattle.wf_lines.proofs.Dues.{due_begun, due_put, due_more}
+use Rattle.wf_lines.proofs.Dues.{due_begun, due_put, due_more, due_some}
 use Rattle.wf_lines.proofs.Makings.{told_or}
 use Rattle.wf_lines.proofs.SoFar.{IsTakenSoFar, begun_of, all_begun}
 
@@ -34,21 +34,38 @@ module _ {S E : Type 0} (ends : LineEnds E) (Takes : S → ℕ → List ℕ → 
   sound : IsSound far.state
   sound = sound_on ends Takes Stops IsSound one far.lines s far.state far.text ok far.taken
 
+  -- what lines make begins with what those so far made, and goes on with what is left
+  behind_far : (e : E) (t : List ℕ) → Going s all.lines all.tail e t → (more : List ℕ) × (t ≡ far.text ++ more) × Going far.state left.lines left.tail e more
+  behind_far e t going =
+      let here : Going s (far.lines ++ left.lines) left.tail e t = subst (λ z. Going s (far.lines ++ left.lines) z e t) (sym far.tail) (subst (λ ls. Going s ls all.tail e t) far.split going) in
+      lines_begin ends Takes Stops IsSound one (ClosesOrGoesOn Finishes StopsAtEnd) left.tail far.lines left.lines s far.state far.text ok far.taken e t here
+
   -- how what is left stops is how all stop
-  from_here : (end : Option E) →
+  from_here : (end : Option E) (Failed : Type 0) →
       ((e : E) → end ≡ Some e → (t : List ℕ) × Stopping far.state left.lines left.tail e t × Appended (far.text ++ t) old new) →
       ((e : E) (t : List ℕ) → Going far.state left.lines left.tail e t → IsBegun (far.text ++ t) old new) →
-      AreStopped (Stopping s all.lines all.tail) (Going s all.lines all.tail) end old new
-  from_here end whole begun = record {
+      (Failed → (e : E) (t : List ℕ) → Going far.state left.lines left.tail e t → 0 < length (far.text ++ t)) →
+      AreStopped (Stopping s all.lines all.tail) (Going s all.lines all.tail) end Failed old new
+  from_here end Failed whole begun some = record {
     whole = λ e is.
         let r = whole e is in
         let stopping : Stopping s (far.lines ++ left.lines) left.tail e (far.text ++ r.0) = lines_on ends Takes Stops StopsAtEnd left.tail far.lines left.lines s far.state far.text far.taken e r.0 r.1 in
         (far.text ++ r.0, subst (λ z. Stopping s all.lines z e (far.text ++ r.0)) far.tail (subst (λ ls. Stopping s ls left.tail e (far.text ++ r.0)) (sym far.split) stopping), r.2);
-    begun = λ e t going.
-        let here : Going s (far.lines ++ left.lines) left.tail e t = subst (λ z. Going s (far.lines ++ left.lines) z e t) (sym far.tail) (subst (λ ls. Going s ls all.tail e t) far.split going) in
-        let r = lines_begin ends Takes Stops IsSound one (ClosesOrGoesOn Finishes StopsAtEnd) left.tail far.lines left.lines s far.state far.text ok far.taken e t here in
-        subst (λ x. IsBegun x old new) (sym r.1) (begun e r.0 r.2);
+    begun = λ e t going. let r = behind_far e t going in subst (λ x. IsBegun x old new) (sym r.1) (begun e r.0 r.2);
+    some = λ failed e t going. let r = behind_far e t going in subst (λ x. 0 < length x) (sym r.1) (some failed e r.0 r.2);
   }
+
+  -- something is due of the text so far, or behind it
+  some_due : (t : List ℕ) → 0 < length due → 0 < length (far.text ++ t)
+  some_due t some = let a = due_some far.text due old now far.due some in let e = length-append far.text t in omega (arith, a, e)
+
+  some_behind : (piece t more : List ℕ) → t ≡ piece ++ more → 0 < length (due ++ piece) → 0 < length (far.text ++ t)
+  some_behind piece t more is some =
+      let a = due_some (far.text ++ piece) (due ++ piece) old now (due_more far.text due piece old now far.due) some in
+      let e = ap (length {A = ℕ}) is ∙ length-append piece more in
+      let x = length-append far.text t in
+      let y = length-append far.text piece in
+      omega (arith, a, e, x, y)
 
   -- all that is made so far was put
   all_put : Appended due now new → Appended far.text old new
@@ -69,23 +86,27 @@ module _ {S E : Type 0} (ends : LineEnds E) (Takes : S → ℕ → List ℕ → 
   put_nothing_more put = subst (λ x. Appended x old new) (sym (append-nil far.text)) (all_put put)
 
   -- what is left halts whatever takes it
-  pub halt_stops : (h : Halt) → Halts left h → IsPutAt h due now new → AreStopped (Stopping s all.lines all.tail) (Going s all.lines all.tail) (halt_end ends h) old new
+  pub halt_stops : (h : Halt) → Halts left h → IsPutAt h due now new → AreStopped (Stopping s all.lines all.tail) (Going s all.lines all.tail) (halt_end ends h) (h ≡ WriteFault) old new
   halt_stops (LineTooLong n) why put =
-      from_here (Some (ends.too_long n))
+      from_here (Some (ends.too_long n)) (LineTooLong n ≡ WriteFault)
       (λ e is. ([], subst (λ ls. Stopping far.state ls left.tail e []) (sym why.2) (inl (inl (why.3, sym (same_Some _ e is) ∙ ap ends.too_long why.4, refl))), put_nothing_more put))
       (λ e t going. begins_each put t)
+      (λ failed. absurd (cc))
   halt_stops (FileTooLong n) why put =
-      from_here (Some (ends.long_file n))
+      from_here (Some (ends.long_file n)) (FileTooLong n ≡ WriteFault)
       (λ e is. ([], subst (λ ls. Stopping far.state ls left.tail e []) (sym why.0) (subst (λ z. Stopping far.state [] z e []) (sym why.1) (sym (same_Some _ e is), refl)), put_nothing_more put))
       (λ e t going. begins_each put t)
+      (λ failed. absurd (cc))
   halt_stops ReadFault why put =
-      from_here (Some ends.broken)
+      from_here (Some ends.broken) (ReadFault ≡ WriteFault)
       (λ e is. ([], subst (λ ls. Stopping far.state ls left.tail e []) (sym why.0) (subst (λ z. Stopping far.state [] z e []) (sym why.1) (sym (same_Some _ e is), refl)), put_nothing_more put))
       (λ e t going. begins_each put t)
-  halt_stops WriteFault why begun =
-      from_here None
+      (λ failed. absurd (cc))
+  halt_stops WriteFault why cut =
+      from_here None (WriteFault ≡ WriteFault)
       (λ e is. absurd (none_some is))
-      (λ e t going. begun_of far.text (far.text ++ t) t old new refl (due_begun far.text due old now new far.due begun))
+      (λ e t going. begun_of far.text (far.text ++ t) t old new refl (due_begun far.text due old now new far.due cut.begun))
+      (λ failed e t going. some_due t cut.some)
 
   module _ (r : Reader) (next : FileLines) (lends : Lends left r next) where
     -- the text of the next line stops the lines
@@ -119,11 +140,15 @@ module _ {S E : Type 0} (ends : LineEnds E) (Takes : S → ℕ → List ℕ → 
           begun_of (far.text ++ piece) (far.text ++ t) m.0 old new (ap (λ x. far.text ++ x) m.1 ∙ sym (append_assoc far.text piece m.0)) (begun_behind piece begun)
 
       -- the next line is not taken
-      pub line_stops : {F : Type 0} (end_of : F → Option E) (f : LinesFault F) → IsStoppedBy (Stops far.state r.line r.held) (λ piece. Begins (begun_line far.state r.line r.held piece)) end_of due f now new → AreStopped (Stopping s all.lines all.tail) (Going s all.lines all.tail) (end_at ends end_of f) old new
-      line_stops end_of (Stopped f) why = from_here (end_of f)
+      pub line_stops : {F : Type 0} (end_of : F → Option E) (f : LinesFault F) → IsStoppedBy (Stops far.state r.line r.held) (λ piece. Begins (begun_line far.state r.line r.held piece)) end_of due f now new → AreStopped (Stopping s all.lines all.tail) (Going s all.lines all.tail) (end_at ends end_of f) (IsWritingFault f) old new
+      line_stops end_of (Stopped f) why = from_here (end_of f) ⊥
           (λ e is. (why.0, subst (λ ls. Stopping far.state ls left.tail e why.0) (sym lends.left) (inl (stopped_line e why.0 (why.1 e is))), put_behind why.0 why.3))
           (begun_put why.0 (told_or (λ d. Stops far.state r.line r.held d why.0) end_of f why.1 why.2) (all_begun (due ++ why.0) now new why.3))
-      line_stops end_of (Halted h) why = subst (λ z. AreStopped (Stopping s all.lines all.tail) (Going s all.lines all.tail) (halt_end ends z) old new) (sym why.0) (from_here None (λ e is. absurd (none_some is)) (begun_put why.1.0 why.1.1 why.1.2))
+          (λ failed. absurd failed)
+      line_stops end_of (Halted h) why = subst (λ z. AreStopped (Stopping s all.lines all.tail) (Going s all.lines all.tail) (halt_end ends z) (z ≡ WriteFault) old new) (sym why.0) (from_here None (WriteFault ≡ WriteFault)
+          (λ e is. absurd (none_some is))
+          (begun_put why.1.0 why.1.1 why.1.2.begun)
+          (λ failed e t going. let m = made_begins why.1.0 why.1.1 e t going in some_behind why.1.0 t m.0 m.1 why.1.2.some))
 
   module _ (at_end : Ends left AtEnd) where
     -- what is left is the end of a whole file
@@ -141,19 +166,21 @@ module _ {S E : Type 0} (ends : LineEnds E) (Takes : S → ℕ → List ℕ → 
     finished_begins last is e t (inr other) = (other.1, other.3 ∙ ap (λ x. x ++ other.1) (closed.finished far.state other.0 last sound other.2 is))
 
     -- the end of the file is not taken
-    pub end_stops : {F : Type 0} (end_of : F → Option E) (f : LinesFault F) → IsStoppedAtEnd Finishes StopsAtEnd end_of far.state due f now new → AreStopped (Stopping s all.lines all.tail) (Going s all.lines all.tail) (end_at ends end_of f) old new
-    end_stops end_of (Stopped f) why = from_here (end_of f)
+    pub end_stops : {F : Type 0} (end_of : F → Option E) (f : LinesFault F) → IsStoppedAtEnd Finishes StopsAtEnd end_of far.state due f now new → AreStopped (Stopping s all.lines all.tail) (Going s all.lines all.tail) (end_at ends end_of f) (IsWritingFault f) old new
+    end_stops end_of (Stopped f) why = from_here (end_of f) ⊥
         (λ e is. (why.0, subst (λ ls. Stopping far.state ls left.tail e why.0) (sym at_end.0) (subst (λ z. Stopping far.state [] z e why.0) (sym at_end.1) (why.1 e is)), put_behind why.0 why.3))
         (λ e t going. told (end_of f) refl e t (closing e t going))
+        (λ failed. absurd failed)
       where
         told : (o : Option E) → end_of f ≡ o → (e : E) (t : List ℕ) → ClosesOrGoesOn Finishes StopsAtEnd far.state e t → IsBegun (far.text ++ t) old new
         told None is e t going = begun_of (far.text ++ why.0) (far.text ++ t) t old new (ap (λ x. x ++ t) (sym (append-nil far.text) ∙ ap (λ x. far.text ++ x) (sym (why.2 is)))) (all_begun (far.text ++ why.0) old new (put_behind why.0 why.3))
         told (Some d) is e t going = subst (λ x. IsBegun (far.text ++ x) old new) (sym (stopped_end d why.0 (why.1 d is) e t going)) (all_begun (far.text ++ why.0) old new (put_behind why.0 why.3))
-    end_stops end_of (Halted h) why = subst (λ z. AreStopped (Stopping s all.lines all.tail) (Going s all.lines all.tail) (halt_end ends z) old new) (sym why.0) (from_here None
+    end_stops end_of (Halted h) why = subst (λ z. AreStopped (Stopping s all.lines all.tail) (Going s all.lines all.tail) (halt_end ends z) (z ≡ WriteFault) old new) (sym why.0) (from_here None (WriteFault ≡ WriteFault)
         (λ e is. absurd (none_some is))
         (λ e t going.
         let m = ends_begin why.1.1 e t (closing e t going) in
-        begun_of (far.text ++ why.1.0) (far.text ++ t) m.0 old new (ap (λ x. far.text ++ x) m.1 ∙ sym (append_assoc far.text why.1.0 m.0)) (begun_behind why.1.0 why.1.2)))
+        begun_of (far.text ++ why.1.0) (far.text ++ t) m.0 old new (ap (λ x. far.text ++ x) m.1 ∙ sym (append_assoc far.text why.1.0 m.0)) (begun_behind why.1.0 why.1.2.begun))
+        (λ failed e t going. let m = ends_begin why.1.1 e t (closing e t going) in some_behind why.1.0 t m.0 m.1 why.1.2.some))
       where
         ends_begin : (Finishes far.state why.1.0 ⊎ (((e : E) × StopsAtEnd far.state e why.1.0) ⊎ (why.1.0 ≡ []))) → (e : E) (t : List ℕ) → ClosesOrGoesOn Finishes StopsAtEnd far.state e t → (more : List ℕ) × (t ≡ why.1.0 ++ more)
         ends_begin (inl is) e t going = finished_begins why.1.0 is e t going

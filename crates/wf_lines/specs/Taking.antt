@@ -1,5 +1,5 @@
 -- What taking the lines of a file promises.
-use Rattle.std.specs.Prelude.{◌≡◌, ◌⊎◌, ℕ, Bool, true, List, [], ◌∷◌, ◌++◌, take, Option, Some, None}
+use Rattle.std.specs.Prelude.{◌≡◌, ◌⊎◌, ◌<◌, ℕ, Bool, true, List, [], ◌∷◌, ◌++◌, length, take, Option, Some, None}
 use Rattle.wf_io.specs.Told.{Rose, Appended}
 use Rattle.wf_io.specs.Lines.{Line, FileLines, Tail, AtEnd, Broken, LongFile, is_too_long}
 use Rattle.wf_io.specs.Readers.{Ends}
@@ -20,6 +20,11 @@ pub record IsDue (text due : List ℕ) (old new : Option (List ℕ)) : Type 0 wh
 -- a beginning of the text was put
 abbrev pub IsBegun : List ℕ → Option (List ℕ) → Option (List ℕ) → Type 0
 IsBegun text old new = (k : ℕ) × Appended (take k text) old new
+
+-- writing a text failed: the text has a byte, and a beginning of it was put
+pub record IsCut (text : List ℕ) (old new : Option (List ℕ)) : Type 0 where
+  pub some : 0 < length text
+  pub begun : IsBegun text old new
 
 -- the halt that a fault of lines is, at the line of a number
 abbrev pub halt_at : ℕ → LineFault → Halt
@@ -51,7 +56,7 @@ abbrev pub IsPutAt : Halt → List ℕ → Option (List ℕ) → Option (List �
 IsPutAt (LineTooLong n) due old new = Appended due old new
 IsPutAt (FileTooLong n) due old new = Appended due old new
 IsPutAt ReadFault due old new = Appended due old new
-IsPutAt WriteFault due old new = IsBegun due old new
+IsPutAt WriteFault due old new = IsCut due old new
 
 -- what must be so where lines halted, by the counts of faults of the shelf and of out before and after
 abbrev pub IsCauseOfHalt : ℕ → ℕ → Bool → ℕ → ℕ → Bool → Halt → Type 0
@@ -74,19 +79,24 @@ abbrev pub IsStoppedBy : {E F : Type 0} → (E → List ℕ → Type 0) → (Lis
 IsStoppedBy Stops Begins end_of due (Stopped f) old new =
     (piece : List ℕ) × ((e : _) → end_of f ≡ Some e → Stops e piece) × (end_of f ≡ None → Begins piece) × Appended (due ++ piece) old new
 IsStoppedBy Stops Begins end_of due (Halted h) old new =
-    (h ≡ WriteFault) × ((piece : List ℕ) × (((e : _) × Stops e piece) ⊎ Begins piece) × IsBegun (due ++ piece) old new)
+    (h ≡ WriteFault) × ((piece : List ℕ) × (((e : _) × Stops e piece) ⊎ Begins piece) × IsCut (due ++ piece) old new)
 
 -- so where the end of a whole file stopped what takes it
 abbrev pub IsStoppedAtEnd : {S E F : Type 0} → (S → List ℕ → Type 0) → (S → E → List ℕ → Type 0) → (F → Option E) → S → List ℕ → LinesFault F → Option (List ℕ) → Option (List ℕ) → Type 0
 IsStoppedAtEnd Finishes StopsAtEnd end_of s due (Stopped f) old new =
     (last : List ℕ) × ((e : _) → end_of f ≡ Some e → StopsAtEnd s e last) × (end_of f ≡ None → last ≡ []) × Appended (due ++ last) old new
 IsStoppedAtEnd Finishes StopsAtEnd end_of s due (Halted h) old new =
-    (h ≡ WriteFault) × ((last : List ℕ) × (Finishes s last ⊎ (((e : _) × StopsAtEnd s e last) ⊎ (last ≡ []))) × IsBegun (due ++ last) old new)
+    (h ≡ WriteFault) × ((last : List ℕ) × (Finishes s last ⊎ (((e : _) × StopsAtEnd s e last) ⊎ (last ≡ []))) × IsCut (due ++ last) old new)
 
 -- what stopped the lines is such a fault of what takes them
 abbrev pub IsStoppedAs : {F : Type 0} → (F → Type 0) → LinesFault F → Type 0
 IsStoppedAs IsFault (Stopped f) = IsFault f
 IsStoppedAs IsFault (Halted h) = Unit {0}
+
+-- writing failed
+abbrev pub IsWritingFault : {F : Type 0} → LinesFault F → Type 0
+IsWritingFault (Stopped f) = ⊥
+IsWritingFault (Halted h) = h ≡ WriteFault
 
 -- memory is wanting
 abbrev pub IsWanting : {F E : Type 0} → (F → Option E) → LinesFault F → Type 0
@@ -104,7 +114,8 @@ pub record AreTaken {S : Type 0} (All : S → List ℕ → Type 0) (Finishes : S
   pub at : IsAt state
   pub put : Appended (text ++ last) old new
 
--- lines were stopped: what they made up to there was put, if an end is told, and a beginning of each text that they may make, whatever stopped them
-pub record AreStopped {E : Type 0} (Makes : E → List ℕ → Type 0) (Begins : E → List ℕ → Type 0) (end : Option E) (old new : Option (List ℕ)) : Type 0 where
+-- lines were stopped: what they made up to there was put, if an end is told, and a beginning of each text that they may make, whatever stopped them. Where writing failed, each of these texts has a byte
+pub record AreStopped {E : Type 0} (Makes : E → List ℕ → Type 0) (Begins : E → List ℕ → Type 0) (end : Option E) (Failed : Type 0) (old new : Option (List ℕ)) : Type 0 where
   pub whole : (e : E) → end ≡ Some e → (text : List ℕ) × Makes e text × Appended text old new
   pub begun : (e : E) (text : List ℕ) → Begins e text → IsBegun text old new
+  pub some : Failed → (e : E) (text : List ℕ) → Begins e text → 0 < length text

@@ -1,21 +1,21 @@
 // The lines of a file, taken one after the other.
 ghost use Rattle.std.specs.Prelude.{◌≡◌, ◌≤◌, ◌+◌, ℕ, List, [], ◌++◌, true, false, cond, None, Some, length, MatchResult, IfOk, IfErr, OnOk, IsErr};
 ghost use Rattle.wf_io.specs.Told.{File, Rose, Appended};
-ghost use Rattle.wf_io.specs.Readers.{Stands, left_in};
+ghost use Rattle.wf_io.specs.Readers.{Stands, left_in, IsReading, HasReadOnce};
 ghost use Rattle.wf_lines.specs.LineStages.{AllTaken, OfLines, ClosesOrGoesOn, IsOneWay, IsClosedOneWay};
 ghost use Rattle.wf_lines.specs.BegunLines.{BegunLine, begun_line, further, BeginsEach};
-ghost use Rattle.wf_lines.specs.Taking.{IsDue, IsBegun, IsCauseOf, IsWritingCauseOf, IsStoppedBy, IsStoppedAtEnd, IsStoppedAs, IsWanting, AreTaken, AreStopped, end_at};
+ghost use Rattle.wf_lines.specs.Taking.{IsDue, IsCut, IsCauseOf, IsWritingCauseOf, IsStoppedBy, IsStoppedAtEnd, IsStoppedAs, IsWanting, IsWritingFault, AreTaken, AreStopped, end_at};
 
 use crate::due::Due;
 use crate::fault::{Halt, LinesFault};
 use crate::next::next_line;
 use crate::taker::Taker;
-use wf_io::{Failed, Lines, Shelf, Sink};
+use wf_io::{Failed, Lines, PIECE, Shelf, Sink};
 
 /// Puts what is due, and behind it what was made last.
 fn put_made<T: Taker, O: Sink>(taker: &T, due: &mut Due, out: &mut O) -> Result<(), Failed>
     ensures put { OnOk result (Appended (due.old ++ T.made taker.now) (O.put_bytes out.old) (O.put_bytes out.new)) }
-    ensures begun { IsErr result → IsBegun (due.old ++ T.made taker.now) (O.put_bytes out.old) (O.put_bytes out.new) }
+    ensures begun { IsErr result → IsCut (due.old ++ T.made taker.now) (O.put_bytes out.old) (O.put_bytes out.new) }
     ensures same { OnOk result (O.faults out.new ≡ O.faults out.old) }
     ensures later { O.faults out.old ≤ O.faults out.new }
     ensures cause { IsErr result → Rose (O.faults out.old) (O.faults out.new) (O.at_last out.new) }
@@ -36,7 +36,7 @@ fn begin_line<T: Taker, O: Sink>(
     ensures ready { OnOk result (T.is_ready taker.new) }
     ensures known { (k : T.Known) → T.is_known taker.old k → T.is_known taker.new k }
     ensures left { OnOk result (T.left taker.old ≤ T.left taker.new) }
-    ensures short { OnOk result (length due.new ≤ 65536) }
+    ensures short { OnOk result (length due.new ≤ PIECE) }
     ensures within { OnOk result ((s : T.State) → T.is_at taker.old s → (piece : List ℕ) ×
         T.is_within taker.new (begun_line s number text.now piece) × IsDue (due.old ++ piece) due.new (O.put_bytes out.old) (O.put_bytes out.new)) }
     ensures stopped { IfErr result (λ f. (s : T.State) → T.is_at taker.old s →
@@ -69,7 +69,7 @@ fn go_on<T: Taker, O: Sink>(
     ensures ready { OnOk result (T.is_ready taker.new) }
     ensures known { (k : T.Known) → T.is_known taker.old k → T.is_known taker.new k }
     ensures one { IfOk result (λ more. T.left taker.old ≡ T.left taker.new + cond more 1 0) }
-    ensures short { OnOk result (length due.new ≤ 65536) }
+    ensures short { OnOk result (length due.new ≤ PIECE) }
     ensures within { IfOk result (λ more. more ≡ true → (p : BegunLine T.State) → T.is_within taker.old p → (piece : List ℕ) ×
         T.is_within taker.new (further p piece) × IsDue (due.old ++ piece) due.new (O.put_bytes out.old) (O.put_bytes out.new)) }
     ensures taken { IfOk result (λ more. more ≡ false → (p : BegunLine T.State) → T.is_within taker.old p → (q : T.State) × (piece : List ℕ) ×
@@ -107,7 +107,7 @@ fn take_line<T: Taker, O: Sink>(
     ensures known { (k : T.Known) → T.is_known taker.old k → T.is_known taker.new k }
     ensures taken { OnOk result ((s : T.State) → T.is_at taker.old s → (q : T.State) × (piece : List ℕ) ×
         T.takes s number text.now q piece × T.is_at taker.new q × IsDue (due.old ++ piece) due.new (O.put_bytes out.old) (O.put_bytes out.new)) }
-    ensures short { OnOk result (length due.new ≤ 65536) }
+    ensures short { OnOk result (length due.new ≤ PIECE) }
     ensures stopped { IfErr result (λ f. (s : T.State) → T.is_at taker.old s →
         IsStoppedBy (T.stops s number text.now) (λ piece. T.begins (begun_line s number text.now piece)) T.end_of due.old f (O.put_bytes out.old) (O.put_bytes out.new)) }
     ensures fault { IfErr result (IsStoppedAs T.is_fault) }
@@ -173,6 +173,8 @@ pub fn take_lines<T: Taker, H: Shelf, O: Sink>(
     requires live { lines.old.live ≡ true }
     requires ready { T.is_ready taker.old }
     requires none { due.old ≡ [] }
+    requires reading { IsReading lines.old (H.readings shelf.old) }
+    ensures once { HasReadOnce lines.old (H.readings shelf.old) (H.readings shelf.new) }
     ensures taken { IfOk result (λ n. (f : List ℕ → File) → H.files shelf.old ≡ Some f →
         Stands (f lines.old.name) lines.old → (s : T.State) → T.is_at taker.old s →
         AreTaken (AllTaken T.ends T.takes T.stops s (left_in (f lines.old.name) lines.old).lines) T.finishes
@@ -184,7 +186,7 @@ pub fn take_lines<T: Taker, H: Shelf, O: Sink>(
         let left = left_in (f lines.old.name) lines.old in
         AreStopped (OfLines T.ends T.takes T.stops T.stops_at_end s left.lines left.tail)
         (OfLines T.ends T.takes T.stops (ClosesOrGoesOn T.finishes T.stops_at_end) s left.lines left.tail)
-        (end_at T.ends T.end_of fault) (O.put_bytes out.old) (O.put_bytes out.new)) }
+        (end_at T.ends T.end_of fault) (IsWritingFault fault) (O.put_bytes out.old) (O.put_bytes out.new)) }
     ensures known { (k : T.Known) → T.is_known taker.old k → T.is_known taker.new k }
     ensures fault { IfErr result (IsStoppedAs T.is_fault) }
     ensures memory { IfErr result (λ fault. IsWanting T.end_of fault → T.wants_memory) }

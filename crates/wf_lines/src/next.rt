@@ -1,7 +1,7 @@
 // The next line of a file, before which what is due is put.
 ghost use Rattle.std.specs.Prelude.{◌≡◌, ◌<◌, ◌≤◌, ℕ, List, [], true, Some, MatchResult, IfOk, IfErr, OnOk};
 ghost use Rattle.wf_io.specs.Told.{File, Rose, Appended};
-ghost use Rattle.wf_io.specs.Readers.{Stands, left_in, left_over, Advances};
+ghost use Rattle.wf_io.specs.Readers.{Stands, left_in, left_over, Advances, IsReading, GoesOnReading, HasReadOnce};
 ghost use Rattle.wf_lines.specs.Taking.{IsDue, IsPutAt, IsCauseOfHalt, Halts, halt_at};
 
 use crate::due::Due;
@@ -43,6 +43,9 @@ pub(crate) fn next_line<H: Shelf, O: Sink>(
     out: &mut O,
 ) -> Result<bool, Halt>
     requires live { lines.old.live ≡ true }
+    requires reading { IsReading lines.old (H.readings shelf.old) }
+    ensures reading { OnOk result (GoesOnReading lines.old lines.new (H.readings shelf.old) (H.readings shelf.new)) }
+    ensures once { HasReadOnce lines.old (H.readings shelf.old) (H.readings shelf.new) }
     ensures lines { (f : List ℕ → File) → H.files shelf.old ≡ Some f → Stands (f lines.old.name) lines.old →
         MatchResult result (λ lent. Advances lent (left_in (f lines.old.name) lines.old) lines.new (left_in (f lines.old.name) lines.new))
         (Halts (left_in (f lines.old.name) lines.old)) }

@@ -1,6 +1,6 @@
 // How the program ends, with the place of a refusal.
 ghost use Rattle.std.specs.Prelude.{◌≡◌, Some, None};
-ghost use Rattle.wf_message.specs.Endings.{end_of, Refused};
+ghost use Rattle.wf_message.specs.Endings.{end_of, end_by, end_after, Refused};
 ghost use Rattle.wf_message.specs.Refusals.{refusal_text};
 
 use crate::refusal::Refusal;
@@ -60,5 +60,16 @@ pub fn refused_line(place: Place, line: u64, refusal: Refusal) -> Stop
         place,
         line: Some(line),
         refusal,
+    }
+}
+
+/// The ending of a command, by how its work ended.
+pub fn ending_after(ended: Result<(), Stop>) -> Ending
+    ensures ends { end_by result ≡ end_after ended }
+    ensures command { result ≡ Ending.Usage → ⊥ }
+{
+    match ended {
+        Ok(()) => Ending::Done,
+        Err(stop) => Ending::Stopped { stop },
     }
 }

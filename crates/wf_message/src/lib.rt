@@ -3,16 +3,12 @@
 
 mod ending;
 mod line;
-mod names;
 mod pieces;
 mod refusal;
 mod status;
 mod told;
-mod told_view;
 
-pub use ending::{Ending, Place, Stop, refused_line, refused_whole};
+pub use ending::{Ending, Place, Stop, ending_after, refused_line, refused_whole};
 pub use line::{status_of, tell};
-pub use names::{input_name, module_name, output_name, position_name};
-pub use pieces::{put, put_numbered, put_numbers, put_two};
-pub use refusal::Refusal;
+pub use refusal::{Refusal, empty_text};
 pub use status::Status;

@@ -1,11 +1,11 @@
 // Why a file, a line of it or a label is refused.
-use wf_check::CheckFault;
-use wf_recur::RecurFault;
-use wf_safe::Witness;
-use wf_spec::Grammar;
-use wf_version::VersionFault;
+ghost use Rattle.std.specs.Prelude.{◌≡◌, [], IfOk};
+
+use std::alloc::{AllocError, Global};
 
 /// Why a file, a line of it or a label is refused, as messages tell it. Want of memory is none of these: it is an ending of its own.
+///
+/// No variant is that of one fault. The crate that finds a fault has its words: a name alone, or with a word or a part and its number; or it writes the text.
 #[derive(Drop)]
 pub enum Refusal {
     /// The name of the fault tells it, as `NotJson`.
@@ -23,25 +23,18 @@ pub enum Refusal {
         part: &'static [u8],
         number: u64,
     },
-    /// The grammar is not proper. It is kept for the names of its modules.
-    Check {
-        grammar: Grammar,
-        fault: CheckFault,
+    /// The text was written when the fault was found, as `Unreachable Align`: it has names of the file, several numbers, or a list.
+    Written {
+        text: Vec<u8>,
     },
-    /// The grammar is proper, and not strictly linear. It is kept for the names of its modules and positions.
-    Recur {
-        grammar: Grammar,
-        fault: RecurFault,
-    },
-    /// The grammar is strictly linear, and the version of this number does not keep its cycles. The grammar is kept for the names of its modules.
-    Version {
-        grammar: Grammar,
-        version: u64,
-        fault: VersionFault,
-    },
-    /// The view is not safe. The grammar is kept for the names of its modules and ports.
-    Unsafe {
-        grammar: Grammar,
-        witness: Witness,
-    },
+}
+
+/// The room of an empty text, in bytes.
+const ROOM: usize = 512;
+
+/// An empty text for a refusal that is to be written, with room for 512 bytes: for some words, numbers, and names of 64 bytes. It is taken before what may be refused is tried, so that a text without a list needs no memory when it is written.
+pub fn empty_text(alloc: Global) -> Result<Vec<u8>, AllocError>
+    ensures { IfOk result (λ text. text.items ≡ []) }
+{
+    Vec::with_capacity(alloc, ROOM)
 }

@@ -1,8 +1,10 @@
-//! Names and their numbers: a table in which a name is found by hashing. Hashing with a key, for this and all other tables of names.
+//! Names and their numbers: a table in which a name is found by hashing, for names of their own and for names in an arena. Hashing with a key, for this and all other tables of names.
 #![tactic(auto)]
 
+mod held_name;
 mod keyed;
 mod names;
 
+pub use held_name::HeldName;
 pub use keyed::{KeyedHash, NameKey};
 pub use names::Names;

@@ -1,65 +1,84 @@
 // Names and their numbers.
-ghost use Rattle.std.specs.Prelude.{◌≡◌, ◌<◌, ◌++◌, ◌∷◌, [], List, ℕ, Option, Some, None, false, length, take, map, position, IfOk, OnOk, OnErr, IfSome, bytes_eq};
+ghost use Rattle.std.specs.Prelude.{◌≡◌, ◌<◌, ◌++◌, ◌∷◌, [], List, ℕ, Option, Some, None, false, not, length, take, map, get_or, position, IfOk, OnOk, OnErr, IfSome, bytes_eq};
+ghost use Rattle.std.specs.Bool.{OnTrue, OnFalse};
 ghost use Rattle.wf_model.specs.Faults.{is_one_of, some_twice};
-ghost use Rattle.wf_names.specs.Names.{bytes_of};
 
-use crate::keyed::KeyedHash;
+use crate::held_name::{HeldKey, HeldName};
+use crate::keyed::{KeyedHash, NameKey};
 use indexmap::IndexSet;
 use std::alloc::{AllocError, Global};
 use std::marker::Model;
 use wf_model::Name;
 
-fn holds(names: &IndexSet<Vec<u8>, KeyedHash>, name: &[u8]) -> bool
-    ensures { result ≡ is_one_of (bytes_of names.now.keys) name.now }
+fn has<K: HeldName>(keys: &IndexSet<HeldKey<K>, KeyedHash>, name: &[u8]) -> bool
+    ensures { result ≡ is_one_of (map (λ k. K.name k.held) keys.now.keys) name.now }
 {
-    names.contains(name)
+    let key = NameKey { bytes: name };
+    keys.contains(&key)
 }
 
-fn put(
-    alloc: Global,
-    names: &mut IndexSet<Vec<u8>, KeyedHash>,
+fn put<K: HeldName>(
+    room: &K::Room,
+    keys: &mut IndexSet<HeldKey<K>, KeyedHash>,
     name: &[u8],
-) -> Result<(), AllocError>
-    requires { is_one_of (bytes_of names.old.keys) name.now ≡ false }
-    ensures added { OnOk result (bytes_of names.new.keys ≡ bytes_of names.old.keys ++ name.now ∷ []) }
-    ensures err { OnErr result (names.new.keys ≡ names.old.keys) }
+) -> Result<bool, AllocError>
+    ensures is_new { IfOk result (λ is_new. is_new ≡ not (is_one_of (map (λ k. K.name k.held) keys.old.keys) name.now)) }
+    ensures added { IfOk result (λ is_new. OnTrue is_new (map (λ k. K.name k.held) keys.new.keys ≡ map (λ k. K.name k.held) keys.old.keys ++ name.now ∷ [])) }
+    ensures taken { IfOk result (λ is_new. OnFalse is_new (keys.new.keys ≡ keys.old.keys)) }
+    ensures err { OnErr result (keys.new.keys ≡ keys.old.keys) }
 {
-    let key = Vec::from_slice(alloc, name)?;
-    names.insert(key)?;
-    Ok(())
+    let held = K::hold(room, name)?;
+    let is_new = keys.insert(HeldKey { held })?;
+    Ok(is_new)
 }
 
-/// Names, numbered from 0 in the order in which they were added.
+/// Names, numbered from 0 in the order in which they were added. Each stands once, and is found by hashing. A table of names of their own is a `Names`; `Names<K>` holds what `K` is of them.
 #[derive(Drop)]
-pub struct Names {
-    alloc: Global,
-    numbers: IndexSet<Vec<u8>, KeyedHash>,
+pub struct Names<K: HeldName = Name> {
+    room: K::Room,
+    keys: IndexSet<HeldKey<K>, KeyedHash>,
 }
 
-impl Model for Names {
+impl<K: HeldName> Model for Names<K> {
     ghost use Rattle.std.specs.Prelude.{ℕ, List, map};
 
     ghost Value = { List (List ℕ) };
 
-    ghost view = { λ t. map (λ k. k.items) t.numbers.keys };
+    ghost view = { λ t. map (λ k. K.name k.held) t.keys.keys };
 }
 
-impl Names {
-    /// No names, in a table with the key 0.
+impl Names<Name> {
+    /// No names, in a table with the key 0. Takes no memory.
     pub fn new(alloc: Global) -> Names
         ensures { result ≡ [] }
     {
         Names::with_key(alloc, 0)
     }
 
-    /// No names, in a table with this key.
+    /// No names, in a table with this key. Takes no memory.
     pub fn with_key(alloc: Global, key: u64) -> Names
         ensures { result ≡ [] }
     {
+        Names::with_room(alloc, key, alloc)
+    }
+}
+
+impl<K: HeldName> Names<K> {
+    /// No names, in a table with this key, and a room for those to come. Takes no memory.
+    pub fn with_room(alloc: Global, key: u64, room: K::Room) -> Names<K>
+        ensures { result ≡ [] }
+    {
         Names {
-            alloc,
-            numbers: IndexSet::with_hasher(alloc, KeyedHash::new(key)),
+            room,
+            keys: IndexSet::with_hasher(alloc, KeyedHash::new(key)),
         }
+    }
+
+    /// How many names there are.
+    pub fn count(&self) -> usize
+        ensures { result ≡ length self.now }
+    {
+        self.keys.len()
     }
 
     /// The number of a name.
@@ -67,14 +86,23 @@ impl Names {
         ensures place { result ≡ position (bytes_eq name.now) self.now }
         ensures within { IfSome result (λ i. i < length self.now) }
     {
-        self.numbers.get_index_of(name)
+        let key = NameKey { bytes: name };
+        self.keys.get_index_of(&key)
     }
 
     /// Whether a name has a number.
     pub fn holds(&self, name: &[u8]) -> bool
         ensures { result ≡ is_one_of self.now name.now }
     {
-        holds(&self.numbers, name)
+        has(&self.keys, name)
+    }
+
+    /// What is held of the name of a number.
+    pub fn name_at(&self, i: usize) -> &K
+        requires { i < length self.now }
+        ensures { K.name result.now ≡ get_or self.now i [] }
+    {
+        &self.keys[i].held
     }
 
     /// Adds a new name.
@@ -83,29 +111,48 @@ impl Names {
         ensures added { OnOk result (self.new ≡ self.old ++ name.now ∷ []) }
         ensures err { OnErr result (self.new ≡ self.old) }
     {
-        put(self.alloc, &mut self.numbers, name)
+        self.insert(name)?;
+        Ok(())
     }
 
-    /// Adds new names, all or none.
-    pub fn add_all(&mut self, list: &[Name]) -> Result<(), AllocError>
-        requires { some_twice self.old list.now ≡ false }
-        ensures added { OnOk result (self.new ≡ self.old ++ list.now) }
+    /// Adds a name if it is new, and tells whether it is. After an error the names are as they were.
+    ///
+    /// Cost: one look-up and one copy of the name, which is hashed once.
+    pub fn insert(&mut self, name: &[u8]) -> Result<bool, AllocError>
+        ensures is_new { IfOk result (λ is_new. is_new ≡ not (is_one_of self.old name.now)) }
+        ensures added { IfOk result (λ is_new. OnTrue is_new (self.new ≡ self.old ++ name.now ∷ [])) }
+        ensures taken { IfOk result (λ is_new. OnFalse is_new (self.new ≡ self.old)) }
         ensures err { OnErr result (self.new ≡ self.old) }
     {
-        let before = self.numbers.len();
+        put(&self.room, &mut self.keys, name)
+    }
+
+    /// Adds names if all are new and differ, and tells whether they are. If they are not, and after an error, the names are as they were.
+    ///
+    /// Cost: one look-up and one copy of each name up to the first that is not new.
+    pub fn insert_all(&mut self, list: &[Name]) -> Result<bool, AllocError>
+        ensures are_new { IfOk result (λ are_new. are_new ≡ not (some_twice self.old list.now)) }
+        ensures added { IfOk result (λ are_new. OnTrue are_new (self.new ≡ self.old ++ list.now)) }
+        ensures taken { IfOk result (λ are_new. OnFalse are_new (self.new ≡ self.old)) }
+        ensures err { OnErr result (self.new ≡ self.old) }
+    {
+        let before = self.keys.len();
         for name in list {
-            if let Err(fault) = self.add(name.bytes()) {
-                self.cut(before);
-                return Err(fault);
+            match self.insert(name.bytes()) {
+                Ok(true) => {}
+                refused => {
+                    self.cut(before);
+                    return refused;
+                }
             }
         }
-        Ok(())
+        Ok(true)
     }
 
     /// Takes away the last names.
     pub fn cut(&mut self, len: usize)
         ensures { self.new ≡ take len self.old }
     {
-        self.numbers.truncate(len);
+        self.keys.truncate(len);
     }
 }

@@ -9,8 +9,8 @@ use Rattle.wf_lines.proofs.Openings.{opened, told_opened}
 use Rattle.wf_query.specs.Lines.{Ended, ArePut}
 
 module _ (name : List ℕ) (r : Reader) (is : r ≡ opened name) where
-  pub put_of_all : (Answers : List ℕ → List ℕ → List ℕ → Type 0) (ending : Option Ended) (old new : Option (List ℕ)) (f : List ℕ → File) → (Stands (f r.name) r → ArePut Answers (left_in (f r.name) r) ending old new) → ArePut Answers (lines_in (f name)) ending old new
-  put_of_all Answers ending old new f = told_opened (λ file. ArePut Answers file ending old new) f name r is
+  pub put_of_all : (Answers : List ℕ → List ℕ → List ℕ → Type 0) (ending : Option Ended) (Failed : Type 0) (old new : Option (List ℕ)) (f : List ℕ → File) → (Stands (f r.name) r → ArePut Answers (left_in (f r.name) r) ending Failed old new) → ArePut Answers (lines_in (f name)) ending Failed old new
+  put_of_all Answers ending Failed old new f = told_opened (λ file. ArePut Answers file ending Failed old new) f name r is
 
   -- and their number is that of all lines
   pub count_of_all : {E : Type 0} (files : Option (List ℕ → File)) (answer : Result ℕ E) → IfOk answer (λ n. (f : List ℕ → File) → files ≡ Some f → Stands (f r.name) r → n ≡ length (left_in (f r.name) r).lines) → IfOk answer (λ n. (f : List ℕ → File) → files ≡ Some f → n ≡ length (lines_in (f name)).lines)

@@ -1,5 +1,5 @@
 -- Lines of queries, answered one by one.
-use Rattle.std.specs.Prelude.{◌≡◌, ℕ, Bool, List, [], ◌++◌, take, Option, Some, None, Result, Ok, Err, codes}
+use Rattle.std.specs.Prelude.{◌≡◌, ◌<◌, ℕ, Bool, List, [], ◌++◌, length, take, Option, Some, None, Result, Ok, Err, codes}
 use Rattle.wf_io.specs.Told.{Rose, Appended}
 use Rattle.wf_io.specs.Lines.{FileLines}
 use Rattle.wf_lines.specs.LineStages.{LineEnds, OfLines}
@@ -62,10 +62,16 @@ abbrev pub ended_by : {N : Type 0} → Result N BatchFault → Option Ended
 ended_by (Ok n) = Some All
 ended_by (Err fault) = ended_at fault
 
--- What was put of the answers to the lines of a file: all of them, up to where the lines ended; and whatever ended them, a beginning of the answers
-pub record ArePut (Answers : List ℕ → List ℕ → List ℕ → Type 0) (file : FileLines) (ending : Option Ended) (old new : Option (List ℕ)) : Type 0 where
+-- a call failed to write
+abbrev pub FailsToWrite : {N : Type 0} → Result N BatchFault → Type 0
+FailsToWrite (Ok n) = ⊥
+FailsToWrite (Err fault) = fault ≡ WriteFault
+
+-- What was put of the answers to the lines of a file: all of them, up to where the lines ended; and whatever ended them, a beginning of the answers. Where writing failed there is an answer
+pub record ArePut (Answers : List ℕ → List ℕ → List ℕ → Type 0) (file : FileLines) (ending : Option Ended) (Failed : Type 0) (old new : Option (List ℕ)) : Type 0 where
   pub whole : (e : Ended) → ending ≡ Some e → (text : List ℕ) × AreAnswered Answers file e text × Appended text old new
   pub begun : (e : Ended) (text : List ℕ) → AreAnswered Answers file e text → (k : ℕ) × Appended (take k text) old new
+  pub some : Failed → (e : Ended) (text : List ℕ) → AreAnswered Answers file e text → 0 < length text
 
 -- what must be so where lines ended, by the counts of faults of the shelf and of out before and after: a fault of reading comes only where the shelf's count rose, and one of writing only where that of out rose. Each count that did not bring the end is as it was
 abbrev pub IsCauseOf : ℕ → ℕ → Bool → ℕ → ℕ → Bool → BatchFault → Type 0

@@ -2,8 +2,9 @@
 ghost use Rattle.std.specs.Prelude.{◌≡◌, ◌≤◌, ℕ, true, List, [], Some, length, IfOk, IfErr, OnOk};
 ghost use Rattle.wf_io.specs.Told.{File};
 ghost use Rattle.wf_io.specs.Lines.{lines_in};
-ghost use Rattle.wf_io.specs.Readers.{Stands, left_in};
-ghost use Rattle.wf_query.specs.Lines.{ArePut, IsCauseOf, IsOneWord, ended_by};
+ghost use Rattle.wf_io.specs.Readings.{IsReadOnce};
+ghost use Rattle.wf_io.specs.Readers.{Stands, left_in, IsReading, HasReadOnce};
+ghost use Rattle.wf_query.specs.Lines.{ArePut, IsCauseOf, IsOneWord, FailsToWrite, ended_by};
 ghost use Rattle.wf_query.specs.Answering.{fault_by};
 
 use crate::answerer::Answerer;
@@ -54,9 +55,11 @@ pub(crate) fn answer_left<A: Answerer, H: Shelf, O: Sink>(
     requires ready { A.is_ready answerer.old }
     requires live { lines.old.live ≡ true }
     requires none { due.old ≡ [] }
+    requires reading { IsReading lines.old (H.readings shelf.old) }
+    ensures once { HasReadOnce lines.old (H.readings shelf.old) (H.readings shelf.new) }
     ensures put { (f : List ℕ → File) → H.files shelf.old ≡ Some f → Stands (f lines.old.name) lines.old
         → (k : A.Known) → A.is_known answerer.old k → IsOneWord (A.words k)
-        → ArePut (A.words k) (left_in (f lines.old.name) lines.old) (ended_by result) (O.put_bytes out.old) (O.put_bytes out.new) }
+        → ArePut (A.words k) (left_in (f lines.old.name) lines.old) (ended_by result) (FailsToWrite result) (O.put_bytes out.old) (O.put_bytes out.new) }
     ensures count { IfOk result (λ n. (f : List ℕ → File) → H.files shelf.old ≡ Some f → Stands (f lines.old.name) lines.old
         → n ≡ length (left_in (f lines.old.name) lines.old).lines) }
     ensures memory { IfErr result (λ fault. fault ≡ BatchFault.NoMemory → A.wants_memory) }
@@ -100,8 +103,9 @@ pub fn answer_lines<A: Answerer, H: Shelf, O: Sink>(
     out: &mut O,
 ) -> Result<u64, BatchFault>
     requires { A.is_ready answerer.old }
+    ensures once { IsReadOnce name.now (H.readings shelf.old) (H.readings shelf.new) }
     ensures put { (f : List ℕ → File) → H.files shelf.old ≡ Some f → (k : A.Known) → A.is_known answerer.old k → IsOneWord (A.words k)
-        → ArePut (A.words k) (lines_in (f name.now)) (ended_by result) (O.put_bytes out.old) (O.put_bytes out.new) }
+        → ArePut (A.words k) (lines_in (f name.now)) (ended_by result) (FailsToWrite result) (O.put_bytes out.old) (O.put_bytes out.new) }
     ensures count { IfOk result (λ n. (f : List ℕ → File) → H.files shelf.old ≡ Some f → n ≡ length (lines_in (f name.now)).lines) }
     ensures ready { (k : A.Known) → A.is_known answerer.old k → A.is_ready answerer.new }
     ensures known { (k : A.Known) → A.is_known answerer.old k → A.is_known answerer.new k }

@@ -4,13 +4,14 @@ ghost use Rattle.wf_model.specs.View.{View};
 ghost use Rattle.label_model.specs.Files.{Entry};
 ghost use Rattle.wf_io.specs.Told.{File};
 ghost use Rattle.wf_io.specs.Lines.{lines_in};
-ghost use Rattle.wf_io.specs.Readers.{Stands, left_in};
+ghost use Rattle.wf_io.specs.Readings.{IsReadOnce};
+ghost use Rattle.wf_io.specs.Readers.{Stands, left_in, IsReading, HasReadOnce};
 ghost use Rattle.label_file.specs.Stored.{AreHeldOf, IsStoreFor};
 ghost use Rattle.wf_vlabel.specs.Seen.{IsLabelOfView};
 ghost use Rattle.wf_decode.specs.Reading.{most_legs};
 ghost use Rattle.wf_query.specs.Answers.{IsAnswerText};
 ghost use Rattle.wf_query.specs.Known.{IsWordOfLabels, LabelsKnown};
-ghost use Rattle.wf_query.specs.Lines.{ArePut, IsCauseOf, ended_by};
+ghost use Rattle.wf_query.specs.Lines.{ArePut, IsCauseOf, FailsToWrite, ended_by};
 
 use crate::answerer::Answerer;
 use crate::answers::Answer;
@@ -67,11 +68,13 @@ fn batch_counted<L: Ledger, H: Shelf, O: Sink>(
     requires some { 0 < blank.parts }
     requires live { lines.old.live ≡ true }
     requires none { due.old ≡ [] }
+    requires reading { IsReading lines.old (H.readings shelf.old) }
     requires store { IsStoreFor vl.now.grammar store.now }
     requires room { most_legs vl.now.grammar ≤ scratch.old }
+    ensures once { HasReadOnce lines.old (H.readings shelf.old) (H.readings shelf.new) }
     ensures put { (f : List ℕ → File) → H.files shelf.old ≡ Some f → Stands (f lines.old.name) lines.old
         → (u : View) (entries : List Entry) → IsLabelOfView vl.now u → AreHeldOf vl.now.grammar entries store.now
-        → ArePut (IsAnswerText vl.now.grammar u entries) (left_in (f lines.old.name) lines.old) (ended_by result) (O.put_bytes out.old) (O.put_bytes out.new) }
+        → ArePut (IsAnswerText vl.now.grammar u entries) (left_in (f lines.old.name) lines.old) (ended_by result) (FailsToWrite result) (O.put_bytes out.old) (O.put_bytes out.new) }
     ensures count { IfOk result (λ n. (f : List ℕ → File) → H.files shelf.old ≡ Some f → Stands (f lines.old.name) lines.old
         → n ≡ length (left_in (f lines.old.name) lines.old).lines) }
     ensures memory { IfErr result (λ fault. fault ≢ BatchFault.NoMemory) }
@@ -118,9 +121,10 @@ pub fn batch<H: Shelf, O: Sink>(
 ) -> Result<u64, BatchFault>
     requires store { IsStoreFor vl.now.grammar store.now }
     requires room { most_legs vl.now.grammar ≤ scratch.old }
+    ensures once { IsReadOnce name.now (H.readings shelf.old) (H.readings shelf.new) }
     ensures put { (f : List ℕ → File) → H.files shelf.old ≡ Some f
         → (u : View) (entries : List Entry) → IsLabelOfView vl.now u → AreHeldOf vl.now.grammar entries store.now
-        → ArePut (IsAnswerText vl.now.grammar u entries) (lines_in (f name.now)) (ended_by result) (O.put_bytes out.old) (O.put_bytes out.new) }
+        → ArePut (IsAnswerText vl.now.grammar u entries) (lines_in (f name.now)) (ended_by result) (FailsToWrite result) (O.put_bytes out.old) (O.put_bytes out.new) }
     ensures count { IfOk result (λ n. (f : List ℕ → File) → H.files shelf.old ≡ Some f → n ≡ length (lines_in (f name.now)).lines) }
     ensures untouched { IfErr result (λ fault. fault ≡ BatchFault.NoMemory → O.put_bytes out.new ≡ O.put_bytes out.old) }
     ensures room { scratch.new ≡ scratch.old }

@@ -1,3 +1,4 @@
+pub mod FaultText
 pub mod Cycles
 pub mod Loops
 pub mod Reaching

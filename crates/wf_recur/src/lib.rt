@@ -2,6 +2,7 @@
 #![tactic(auto)]
 
 mod fault;
+mod fault_text;
 mod linear_grammar;
 mod reach;
 mod rounds;

@@ -14,7 +14,7 @@ use Rattle.wf_run.specs.Opening.{opened_nodes, opened_run}
 use Rattle.wf_run.specs.Growing.{held_at, CanOpen}
 use Rattle.wf_run.proofs.Whole.{whole_length}
 use Rattle.wf_run.proofs.Limits.{prefix_small}
-use Rattle.wf_run.proofs.NewNames.{none_twice}
+use Rattle.run_faults.proofs.NewNames.{none_twice}
 use Rattle.wf_run.proofs.Extending.{opened}
 
 -- a node that fills its bytes has fewer than 2^17 bits where the instances have

@@ -11,8 +11,6 @@ pub mod OpenedNodes
 pub mod OpenedRun
 pub mod NextEvents
 pub mod Limits
-pub mod InsertedNames
-pub mod NewNames
 pub mod EventFaults
 pub mod Extending
 pub mod Kept

@@ -1,20 +1,21 @@
 -- What an expansion adds to the nodes of a run.
 use Rattle.std.specs.Prelude.{◌≡◌, ℕ, ◌<◌, ◌≤◌, ◌+◌, ◌^◌, List, [], ◌++◌, map, length, get_or, position, bytes_eq, Option, None, option_map, IfSome}
 use Rattle.wf_model.specs.Lists.{IsIn, numbers_from}
-use Rattle.wf_model.specs.Grammar.{Grammar}
+use Rattle.wf_model.specs.Grammar.{Grammar, body_of}
 use Rattle.wf_model.specs.declared.event.Event.{Event}
 use Rattle.wf_model.specs.declared.event.Event.TheVariants.{Expand}
 use Rattle.wf_model.specs.declared.event.RunFault.{RunFault}
 use Rattle.wf_model.specs.Faults.{fault_of}
 use Rattle.bit_pack.specs.Written.{first_bits, IsWhole}
-use Rattle.run_faults.specs.Standing.{Fits}
+use Rattle.run_faults.specs.declared.expand.Found.{Found}
+use Rattle.run_faults.specs.Standing.{Fits, IsFound}
 use Rattle.wf_run.specs.declared.node.Node.{Node as NodeHeld}
 use Rattle.wf_run.specs.declared.node.NodeNo.{NodeNo}
 use Rattle.wf_run.specs.declared.prefix.PrefixRef.{PrefixRef}
 use Rattle.wf_run.specs.Runs.{Node, Prefix, RunSeen, name_at, IsRunOf}
-use Rattle.wf_run.specs.Names.{twice_fault}
+use Rattle.run_faults.specs.NewNames.{twice_fault}
 use Rattle.wf_run.specs.Nodes.{node_of}
-use Rattle.wf_run.specs.Opening.{child_node}
+use Rattle.wf_run.specs.Opening.{child_node, opened_nodes}
 
 -- a prefix, as contracts see it
 abbrev pub prefix_of : PrefixRef → Prefix
@@ -36,6 +37,19 @@ pub record AddsChildren (g : Grammar) (p : ℕ) (parent : Prefix) (count : ℕ) 
   pub is : new ≡ old ++ more
   pub nodes : map node_of more ≡ map (child_node g p parent) (numbers_from 0 count)
   pub whole : (n : NodeHeld) → IsIn n more → IsWhole n.bytes.now n.length
+
+-- so of all children of an instance with this prefix that production p makes
+abbrev pub AddsAllChildren : Grammar → ℕ → PrefixRef → List NodeHeld → List NodeHeld → Type 0
+AddsAllChildren g p parent old new = AddsChildren g p (prefix_of parent) (length (body_of g p)) old new
+
+-- the nodes after instance k was expanded by production p into as many as this
+abbrev pub AreOpenedNodes : Grammar → ℕ → ℕ → ℕ → List NodeHeld → List NodeHeld → Type 0
+AreOpenedNodes g k p count old new = map node_of new ≡ opened_nodes g (map node_of old) k p (held_at old k) count
+
+-- what the faults of an event depend on was found of an instance that was looked up, whatever its name is
+abbrev pub FindsInstance : RunSeen → Option NodeNo → Option Found → Type 0
+FindsInstance r n found =
+    (events : List Event) (name : List ℕ) → IsRunOf r events → option_map (λ (n : NodeNo). n.0) n ≡ position (bytes_eq name) r.names → IsFound r.grammar.core events name found
 
 -- why the event is refused that expands the instance of a name by production p with these names, whatever the events of the run were
 abbrev pub IsExpandFault : RunSeen → List ℕ → ℕ → List (List ℕ) → Option RunFault → Type 0

@@ -1,21 +1,21 @@
 // An expansion, added to the fields of a run.
-ghost use Rattle.std.specs.Prelude.{◌≡◌, ◌<◌, ◌≤◌, ◌+◌, ◌^◌, ◌++◌, false, length, take, map, IfErr, IfSome, OnOk, OnErr};
+ghost use Rattle.std.specs.Prelude.{◌≡◌, ◌<◌, ◌≤◌, ◌+◌, ◌^◌, ◌++◌, false, length, take, IfErr, IfSome, OnOk, OnErr};
 ghost use Rattle.wf_model.specs.Lists.{IsIn};
 ghost use Rattle.wf_model.specs.Grammar.{body_of};
 ghost use Rattle.wf_model.specs.Faults.{some_twice};
 ghost use Rattle.bit_pack.specs.Written.{IsWhole};
+ghost use Rattle.run_faults.specs.NewNames.{AreNamesRefused};
 ghost use Rattle.wf_run.specs.declared.node.Node.{Node as NodeHeld};
-ghost use Rattle.wf_run.specs.Names.{AreNamesRefused};
-ghost use Rattle.wf_run.specs.Nodes.{node_of, IsFilledPrefix};
-ghost use Rattle.wf_run.specs.Opening.{opened_nodes};
-ghost use Rattle.wf_run.specs.Growing.{prefix_of, held_at, CanGoOn, AddsChildren};
+ghost use Rattle.wf_run.specs.Nodes.{IsFilledPrefix};
+ghost use Rattle.wf_run.specs.Growing.{held_at, CanGoOn, AddsAllChildren, AreOpenedNodes};
 
 use crate::child::child;
-use crate::names::PlacedNames;
 use crate::node::{Node, NodeNo};
 use crate::prefix::PrefixRef;
 use bumpalo::Bump;
+use run_faults::take_names;
 use std::alloc::{AllocError, Global};
+use wf_names::{NameKey, Names};
 use wf_recur::Linear;
 use wf_spec::{Name, PosNo, ProdNo, RunFault, Step};
 
@@ -30,7 +30,7 @@ fn append_children<'a>(
 ) -> Result<(), AllocError>
     requires production { p.0 < length g.grammar.now.core.productions }
     requires parent { CanGoOn parent }
-    ensures added { OnOk result (AddsChildren g.entry.grammar.now.core p.0 (prefix_of parent.entry) (length (body_of g.entry.grammar.now.core p.0)) nodes.old.items nodes.new.items) }
+    ensures added { OnOk result (AddsAllChildren g.entry.grammar.now.core p.0 parent.entry nodes.old.items nodes.new.items) }
     ensures begins { OnErr result (take (length nodes.old.items) nodes.new.items ≡ nodes.old.items) }
 {
     for j in 0..g.grammar.production(p).positions().len() {
@@ -59,7 +59,7 @@ pub(crate) fn grow<'a>(
     alloc: Global,
     arena: &'a Bump,
     g: Linear<'_>,
-    taken: &mut PlacedNames<'a>,
+    taken: &mut Names<NameKey<'a>>,
     nodes: &mut Vec<Node<'a>>,
     e: Expansion,
 ) -> Result<(), RunFault>
@@ -71,8 +71,7 @@ pub(crate) fn grow<'a>(
     requires chain { IfSome (held_at nodes.old.items e.instance.0).chain (λ c. c < 2 ^ 24) }
     ensures fresh { OnOk result (some_twice taken.old e.entry.names.now ≡ false) }
     ensures names { OnOk result (taken.new ≡ taken.old ++ e.entry.names.now) }
-    ensures nodes { OnOk result (map node_of nodes.new.items ≡ opened_nodes g.entry.grammar.now.core
-        (map node_of nodes.old.items) e.entry.instance.0 e.entry.production.0 (held_at nodes.old.items e.entry.instance.0) (length e.entry.names.now)) }
+    ensures nodes { OnOk result (AreOpenedNodes g.entry.grammar.now.core e.entry.instance.0 e.entry.production.0 (length e.entry.names.now) nodes.old.items nodes.new.items) }
     ensures whole { OnOk result ((n : NodeHeld) → IsIn n nodes.new.items → IsWhole n.bytes.now n.length) }
     ensures refused { IfErr result (AreNamesRefused taken.old e.entry.names.now) }
     ensures same_taken { OnErr result (taken.new ≡ taken.old) }
@@ -90,7 +89,7 @@ pub(crate) fn grow<'a>(
         nodes.truncate(before);
         return Err(RunFault::NoMemory);
     }
-    if let Err(fault) = taken.add_all(e.names) {
+    if let Err(fault) = take_names(taken, e.names) {
         nodes.truncate(before);
         return Err(fault);
     }

@@ -7,7 +7,6 @@
 mod chain;
 mod child;
 mod grow;
-mod names;
 mod node;
 mod prefix;
 mod root;

@@ -1,5 +1,5 @@
 // Runs.
-ghost use Rattle.std.specs.Prelude.{◌≡◌, ◌⊎◌, ◌<◌, ◌≤◌, ◌^◌, ◌+◌, ◌++◌, ◌∷◌, [], ℕ, true, false, List, Option, Some, None, length, option_map, position, bytes_eq, is_some, IfOk, IfErr, IfSome, IfNone, OnOk, OnErr};
+ghost use Rattle.std.specs.Prelude.{◌≡◌, ◌<◌, ◌≤◌, ◌^◌, ◌+◌, [], true, false, List, Option, Some, None, length, option_map, position, bytes_eq, is_some, IfOk, IfErr, IfSome, IfNone, OnOk, OnErr};
 ghost use Rattle.wf_model.specs.declared.event.Event.{Event};
 ghost use Rattle.wf_model.specs.declared.event.Event.TheVariants.{Start, Expand};
 ghost use Rattle.wf_model.specs.declared.event.RunFault.TheVariants.{NoMemory};
@@ -8,23 +8,23 @@ ghost use Rattle.wf_model.specs.Linear.{IsLinear};
 ghost use Rattle.wf_model.specs.Lists.{numbers_from};
 ghost use Rattle.wf_model.specs.WellFormed.{IsWellFormed};
 ghost use Rattle.bit_pack.specs.Bits.{packed};
-ghost use Rattle.run_faults.specs.Standing.{IsFound, Fits};
-ghost use Rattle.run_faults.specs.Order.{names_fault};
+ghost use Rattle.run_faults.specs.Standing.{Fits};
+ghost use Rattle.run_faults.specs.NewNames.{twice_fault, AreNamesRefused};
 ghost use Rattle.wf_run.specs.Runs.{RunSeen, node_at, name_at, IsRunOf, GoesOn};
 ghost use Rattle.wf_run.specs.Found.{IsFoundAs};
+ghost use Rattle.wf_run.specs.Taking.{IsRunAfter, RunTakes, RunRefuses};
 ghost use Rattle.wf_run.specs.Opening.{opened_run};
-ghost use Rattle.wf_run.specs.Names.{twice_fault, AreNamesRefused};
-ghost use Rattle.wf_run.specs.Growing.{IsExpandFault, IsFaultAt, CanOpen};
+ghost use Rattle.wf_run.specs.Growing.{IsExpandFault, IsFaultAt, CanOpen, FindsInstance};
 
 use crate::grow::{Expansion, grow};
-use crate::names::PlacedNames;
 use crate::node::{Children, Node, NodeNo};
 use crate::prefix::PrefixRef;
-use crate::root::{plant, root};
+use crate::root::root;
 use bumpalo::Bump;
-use run_faults::{Found, fault_before_names, fault_of_names, start_fault};
+use run_faults::{Found, fault_before_names, fault_without_room, plant, start_fault};
 use std::alloc::Global;
 use std::marker::Model;
+use wf_names::{NameKey, Names};
 use wf_recur::Linear;
 use wf_spec::{Grammar, ModNo, Name, ProdNo, RunFault};
 
@@ -36,7 +36,7 @@ pub struct Run<'a> {
     linear: Linear<'a>,
     most: u32,
     expands: u32,
-    names: PlacedNames<'a>,
+    names: Names<NameKey<'a>>,
     nodes: Vec<Node<'a>>,
 }
 
@@ -81,7 +81,7 @@ impl<'a> Run<'a> {
             linear,
             most,
             expands: 0,
-            names: PlacedNames::with_key(alloc, key, arena),
+            names: Names::with_room(alloc, key, arena),
             nodes: Vec::new(alloc),
         }
     }
@@ -163,20 +163,18 @@ impl<'a> Run<'a> {
         requires { n.0 < length self.now.nodes }
         ensures { result.now ≡ name_at self.now n.0 }
     {
-        self.names.name(n.0 as usize)
+        self.names.name_at(n.0 as usize).bytes
     }
 
     /// Starts the run by an instance of the start module, and gives its number, which is 0. After an error the run is as it was.
     ///
     /// Errors, in order of trial: `StartedTwice`, `NameBad` (a name has 1 to 64 letters, digits, `_` or `-`), `TooManyInstances`; `NoMemory` last.
     pub fn start(&mut self, name: &[u8]) -> Result<NodeNo, RunFault>
-        ensures taken { OnOk result ((events : List Event) → IsRunOf self.old events → IsRunOf self.new (events ++ Start name.now ∷ [])) }
-        ensures extends { OnOk result ((events : List Event) → IsRunOf self.old events →
-            fault_of self.old.grammar.core self.old.most events (Start name.now) ≡ None) }
+        ensures taken { OnOk result (IsRunAfter self.old (Start name.now) self.new) }
+        ensures extends { OnOk result (RunTakes self.old (Start name.now)) }
         ensures root { IfOk result (λ n. n.0 ≡ 0) }
         ensures goes_on { OnOk result (GoesOn self.old self.new) }
-        ensures refused { IfErr result (λ f. (f ≡ NoMemory) ⊎
-            ((events : List Event) → IsRunOf self.old events → fault_of self.old.grammar.core self.old.most events (Start name.now) ≡ Some f)) }
+        ensures refused { IfErr result (RunRefuses self.old (Start name.now)) }
         ensures unchanged { OnErr result (self.new ≡ self.old) }
     {
         if let Some(fault) = self.fault_of_start(name) {
@@ -197,8 +195,7 @@ impl<'a> Run<'a> {
     /// What the faults of an event depend on, of an instance that was looked up.
     fn found(&self, n: Option<NodeNo>) -> Option<Found>
         requires { IfSome n (λ n. n.0 < length self.now.nodes) }
-        ensures found { (events : List Event) (name : List ℕ) → IsRunOf self.now events →
-            option_map (λ n. n.0) n ≡ position (bytes_eq name) self.now.names → IsFound self.now.grammar.core events name result }
+        ensures found { FindsInstance self.now n result }
         ensures there { is_some result ≡ is_some n }
     {
         let Some(n) = n else {
@@ -208,18 +205,6 @@ impl<'a> Run<'a> {
             module: self.module(n),
             expanded: self.children(n).is_some(),
         })
-    }
-
-    /// Why names are refused for which the run has no room; None where it has.
-    fn fault_without_room(&self, names: &[Name]) -> Option<RunFault>
-        ensures fault { IfSome result (λ f. names_fault self.now.most self.now.names names.now ≡ Some f) }
-        ensures room { IfNone result (length self.now.nodes + length names.now ≤ self.now.most) }
-    {
-        let count = self.nodes.len();
-        if count.saturating_add(names.len()) <= self.most as usize {
-            return None;
-        }
-        fault_of_names(self.most, &self.names, count, names)
     }
 
     /// Why the run refuses to expand an instance that was looked up; None where no more than a name that is taken can stand against it.
@@ -247,7 +232,7 @@ impl<'a> Run<'a> {
         ) {
             return Some(fault);
         }
-        self.fault_without_room(names)
+        fault_without_room(self.most, &self.names, names)
     }
 
     /// The numbers of an event that extends the run if none of its names is taken, or why it does not extend it. Its instance was looked up.
@@ -318,15 +303,11 @@ impl<'a> Run<'a> {
         production: u64,
         names: &[Name],
     ) -> Result<NodeNo, RunFault>
-        ensures taken { OnOk result ((events : List Event) → IsRunOf self.old events →
-            IsRunOf self.new (events ++ Expand instance.now production names.now ∷ [])) }
-        ensures extends { OnOk result ((events : List Event) → IsRunOf self.old events →
-            fault_of self.old.grammar.core self.old.most events (Expand instance.now production names.now) ≡ None) }
+        ensures taken { OnOk result (IsRunAfter self.old (Expand instance.now production names.now) self.new) }
+        ensures extends { OnOk result (RunTakes self.old (Expand instance.now production names.now)) }
         ensures first { IfOk result (λ n. n.0 ≡ length self.old.nodes) }
         ensures goes_on { OnOk result (GoesOn self.old self.new) }
-        ensures refused { IfErr result (λ f. (f ≡ NoMemory) ⊎
-            ((events : List Event) → IsRunOf self.old events →
-            fault_of self.old.grammar.core self.old.most events (Expand instance.now production names.now) ≡ Some f)) }
+        ensures refused { IfErr result (RunRefuses self.old (Expand instance.now production names.now)) }
         ensures unchanged { OnErr result (self.new ≡ self.old) }
     {
         let found = self.find(instance);
@@ -344,15 +325,11 @@ impl<'a> Run<'a> {
         names: &[Name],
     ) -> Result<NodeNo, RunFault>
         requires found { IsFoundAs self.old instance.now found }
-        ensures taken { OnOk result ((events : List Event) → IsRunOf self.old events →
-            IsRunOf self.new (events ++ Expand instance.now production names.now ∷ [])) }
-        ensures extends { OnOk result ((events : List Event) → IsRunOf self.old events →
-            fault_of self.old.grammar.core self.old.most events (Expand instance.now production names.now) ≡ None) }
+        ensures taken { OnOk result (IsRunAfter self.old (Expand instance.now production names.now) self.new) }
+        ensures extends { OnOk result (RunTakes self.old (Expand instance.now production names.now)) }
         ensures first { IfOk result (λ n. n.0 ≡ length self.old.nodes) }
         ensures goes_on { OnOk result (GoesOn self.old self.new) }
-        ensures refused { IfErr result (λ f. (f ≡ NoMemory) ⊎
-            ((events : List Event) → IsRunOf self.old events →
-            fault_of self.old.grammar.core self.old.most events (Expand instance.now production names.now) ≡ Some f)) }
+        ensures refused { IfErr result (RunRefuses self.old (Expand instance.now production names.now)) }
         ensures unchanged { OnErr result (self.new ≡ self.old) }
     {
         let e = self.expansion(found, instance, production, names)?;

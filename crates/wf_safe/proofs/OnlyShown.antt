@@ -1,56 +1,52 @@
--- A table of the pairs that a view shows, with one module more.
-use Rattle.std.proofs.Common.{◌≡◌, ℕ, ◌+◌, ◌<◌, Bool, true, false, cond, IsTrue, List, [], Option, None, Some, length, get_or, set, is_some, sym, ap, ◌∙◌, subst, ⊎_elim, refl, arith, true≢false}
-use Rattle.std.proofs.lemmas.Bool.{cases_eq}
+-- The table of the pairs that a view shows is right, as far as it goes.
+use Rattle.std.proofs.Common.{◌≡◌, ℕ, ◌<◌, ◌≤◌, Bool, true, false, cond, IsTrue, List, [], Option, None, Some, length, get_or, is_some, refl, sym, ap, ◌∙◌, inl, inr, arith, true≢false}
+use Rattle.std.proofs.lemmas.Bool.{cases_lt}
 use Rattle.wf_model.specs.Grammar.{Grammar}
 use Rattle.wf_model.specs.View.{expands}
 use Rattle.wf_model.specs.Meaning.{bit_of}
-use Rattle.wf_view.specs.Held.{HeldView, IsHeldFor, AreShownRows}
-use Rattle.wf_safe.specs.Settling.{is_set, AreShown, AreOnlyShownBelow}
-use Rattle.wf_safe.proofs.Tables.{pairs_same, set_here, set_there, table_more}
+use Rattle.wf_model.specs.Safe.{IsChosen}
+use Rattle.wf_view.specs.Held.{HeldView, IsHeldFor}
+use Rattle.wf_view.specs.ShownTable.{AreOnlyShownBelow}
+use Rattle.wf_body.specs.Matrices.{HasRows}
+use Rattle.wf_safe.specs.Settling.{is_set, AreShown, AreRowsByChoice}
+use Rattle.wf_safe.specs.Witness.{IsChoiceOf}
 
-module _ (g : Grammar) (v : HeldView) (held : IsHeldFor g v) (m : ℕ) (low : m < length g.modules) (old : List (Option (List ℕ))) (below : AreOnlyShownBelow g v.core m old) where
-  -- a module that the view expands gets no rows
-  not_shown : expands v.core m ≡ true → AreOnlyShownBelow g v.core (m + 1) old
-  not_shown ex = record {
-    table = below.table;
-    only = λ k h. let o = below.only k h in let l = o.0 in (omega arith, o.1);
-    shown = λ k h e. ⊎_elim (λ (s : k ≡ m). absurd (true≢false (sym ex ∙ (ap (expands v.core) (sym s) ∙ e)))) (λ n. below.shown k (let d : k ≡ m → ⊥ = n in omega arith) e) (cases_eq k m);
-  }
+-- what has rows is a module that is not expanded, and has those that the view shows
+record IsToldOf (g : Grammar) (v : HeldView) (rows : List (Option (List ℕ))) (m : ℕ) : Type 0 where
+  there : m < length g.modules
+  closed : expands v.core m ≡ false
+  shows : get_or rows m None ≡ Some (get_or v.rows m [])
 
-  -- any other gets those that the view shows
-  also_shown : expands v.core m ≡ false → AreOnlyShownBelow g v.core (m + 1) (set old m (Some (get_or v.rows m [])))
-  also_shown ex = record {
-    table = table_more g old m (get_or v.rows m []) there below.table rows.one_each rows.no_more;
-    only = λ k h. ⊎_elim
-        (λ (s : k ≡ m). (omega arith, ap (expands v.core) s ∙ ex))
-        (λ n. let o = below.only k (sym (is_set_there k n) ∙ h) in let l = o.0 in (omega arith, o.1))
-        (cases_eq k m);
-    shown = λ k h e. ⊎_elim
-        (λ (s : k ≡ m). subst (λ z. IsTrue (is_set new z) × AreShown g v.core new z) (sym s)
-        (ap (λ (z : Option (List ℕ)). is_some z) here, λ i o hi ho. ap (λ (z : Option (List ℕ)). bit_of z i o) here ∙ rows.bits i o hi ho))
-        (λ n. let b = below.shown k (let d : k ≡ m → ⊥ = n in omega arith) e in
-        (is_set_there k n ∙ b.0, λ i o hi ho. pairs_same old new k (set_there g old m (get_or v.rows m []) there k n) i o ∙ b.1 i o hi ho))
-        (cases_eq k m);
-  }
+module _ (g : Grammar) (v : HeldView) (held : IsHeldFor g v) (rows : List (Option (List ℕ))) (all : AreOnlyShownBelow g v (length g.modules) rows) where
+  not_none : (m : ℕ) → IsTrue (is_set rows m) → get_or rows m None ≡ None → ⊥
+  not_none m s e = true≢false (sym s ∙ ap (λ (z : Option (List ℕ)). is_some z) e)
+
+  told : (m : ℕ) → IsTrue (is_set rows m) → IsToldOf g v rows m
+  told m s = elim (cases_lt m (length g.modules)) [
+    | inl l ↦ by l (expands v.core m) refl
+    | inr l ↦ absurd (not_none m s (all.none m l))
+  ]
     where
-      new : List (Option (List ℕ))
-      new = set old m (Some (get_or v.rows m []))
+      by : m < length g.modules → (b : Bool) → expands v.core m ≡ b → IsToldOf g v rows m
+      by l true e = absurd (not_none m s (all.below m l ∙ ap (λ b. cond b None (Some (get_or v.rows m []))) e))
+      by l false e = record { there = l; closed = e; shows = all.below m l ∙ ap (λ b. cond b None (Some (get_or v.rows m []))) e }
 
-      rows : AreShownRows g v.core m (get_or v.rows m [])
-      rows = held.rows m low ex
+  has_rows : (m : ℕ) → IsTrue (is_set rows m) → HasRows g rows m
+  has_rows m s =
+      let t = told m s in
+      let h = held.rows m t.there t.closed in
+      record { rows = get_or v.rows m []; within = let e = all.each in let l = t.there in omega arith; held = t.shows; one_each = h.one_each; no_more = h.no_more }
 
-      there : m < length old
-      there = let s = below.table.one_each in omega arith
+  shown : (m : ℕ) → m < length g.modules → expands v.core m ≡ false → IsTrue (is_set rows m) × AreShown g v.core rows m
+  shown m l e =
+      let here : get_or rows m None ≡ Some (get_or v.rows m []) = all.below m l ∙ ap (λ b. cond b None (Some (get_or v.rows m []))) e in
+      (ap (λ (z : Option (List ℕ)). is_some z) here, λ i o hi ho. ap (λ (z : Option (List ℕ)). bit_of z i o) here ∙ (held.rows m l e).bits i o hi ho)
 
-      here : get_or new m None ≡ Some (get_or v.rows m [])
-      here = set_here g old m (get_or v.rows m []) there
-
-      is_set_there : (k : ℕ) → (k ≡ m → ⊥) → is_set new k ≡ is_set old k
-      is_set_there k n = ap (λ (z : Option (List ℕ)). is_some z) (set_there g old m (get_or v.rows m []) there k n)
-
-  pub shown_more : (new : List (Option (List ℕ))) → new ≡ cond (expands v.core m) old (set old m (Some (get_or v.rows m []))) → AreOnlyShownBelow g v.core (m + 1) new
-  shown_more new e = go (expands v.core m) refl
-    where
-      go : (b : Bool) → expands v.core m ≡ b → AreOnlyShownBelow g v.core (m + 1) new
-      go true ex = subst (AreOnlyShownBelow g v.core (m + 1)) (sym (e ∙ ap (λ b. cond b old (set old m (Some (get_or v.rows m [])))) ex)) (not_shown ex)
-      go false ex = subst (AreOnlyShownBelow g v.core (m + 1)) (sym (e ∙ ap (λ b. cond b old (set old m (Some (get_or v.rows m [])))) ex)) (also_shown ex)
+  -- nothing is chosen yet
+  pub begun : (choice : List (ℕ × ℕ)) → IsChoiceOf g v.core choice → AreRowsByChoice g v.core choice rows
+  begun choice ch = record {
+    table = record { one_each = all.each; formed = has_rows };
+    shown = shown;
+    settled = λ m s. (0, (told m s).closed);
+    bodies = λ m p c s. absurd (true≢false (sym (ch.seen m p c).1 ∙ (told m s).closed));
+  }

@@ -10,21 +10,12 @@ use Rattle.wf_model.specs.Safe.{BodyJoins, IsChosen}
 use Rattle.wf_laws.specs.Settled.{IsSettled}
 use Rattle.wf_laws.proofs.Making.{settled_from}
 use Rattle.bool_mat.specs.Matrix.{has}
-use Rattle.wf_safe.specs.Settling.{is_set, AreSet, IsTable, Settles, SettlesOne, AreTried, AreOnlyShownBelow, AreJoined, AreRowsByChoice, AreAllRowsByChoice}
+use Rattle.wf_safe.specs.Settling.{is_set, AreSet, IsTable, Settles, SettlesOne, AreTried, AreJoined, AreRowsByChoice, AreAllRowsByChoice}
 use Rattle.wf_safe.specs.Witness.{IsChoiceOf}
 use Rattle.wf_model.proofs.Rising.{one_second}
 use Rattle.wf_safe.proofs.Tables.{has_is, place_there, pairs_same, set_here, set_there, table_more, joins_same}
 
 module _ (g : Grammar) (u : View) (choice : List (ℕ × ℕ)) (ch : IsChoiceOf g u choice) where
-  -- where the view's pairs alone are set, nothing is chosen yet
-  pub begun : (rows : List (Option (List ℕ))) → AreOnlyShownBelow g u (length g.modules) rows → AreRowsByChoice g u choice rows
-  begun rows h = record {
-    table = h.table;
-    shown = h.shown;
-    settled = λ m s. (0, (h.only m s).1);
-    bodies = λ m p c s. absurd (true≢false (sym (ch.seen m p c).1 ∙ (h.only m s).1));
-  }
-
   module _ (wf : IsWellFormed g) (before : List (Option (List ℕ))) (right : AreRowsByChoice g u choice before) (m p : ℕ) (chosen : IsChosen choice m p) (after : List (Option (List ℕ))) (s : Settles g m p before after) where
     low : m < length before
     low = place_there g before m p wf right.table (ch.productions m p chosen)

@@ -5,3 +5,5 @@ pub mod Settling
 pub mod Disagreeing
 pub mod Inducing
 pub mod Witness
+pub mod WitnessText
+pub mod SafeViews

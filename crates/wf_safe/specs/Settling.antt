@@ -68,12 +68,6 @@ pub record AreTried (g : Grammar) (choice tried : List (ℕ × ℕ)) (before : L
 abbrev pub AreShown : Grammar → View → List (Option (List ℕ)) → ℕ → Type 0
 AreShown g u rows m = (i o : ℕ) → i < inputs_of g m → o < outputs_of g m → pairs_of rows m i o ≡ shows u m i o
 
--- of the modules below n those have rows that the view does not expand, and no others: the pairs that the view shows
-pub record AreOnlyShownBelow (g : Grammar) (u : View) (n : ℕ) (rows : List (Option (List ℕ))) : Type 0 where
-  pub table : IsTable g rows
-  pub only : (m : ℕ) → IsTrue (is_set rows m) → (m < n) × (expands u m ≡ false)
-  pub shown : (m : ℕ) → m < n → expands u m ≡ false → IsTrue (is_set rows m) × AreShown g u rows m
-
 -- the rows of a module are the pairs that the body of p joins
 abbrev pub AreJoined : Grammar → List (Option (List ℕ)) → ℕ → ℕ → Type 0
 AreJoined g rows m p = (i o : ℕ) → i < inputs_of g m → o < outputs_of g m → IsTrue (pairs_of rows m i o) ↔ BodyJoins g (pairs_of rows) p i o

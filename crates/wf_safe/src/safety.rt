@@ -2,7 +2,6 @@
 ghost use Rattle.std.specs.Prelude.{IfOk, IfErr};
 ghost use Rattle.wf_model.specs.Safe.{IsSafe};
 ghost use Rattle.wf_check.specs.Proper.{IsRankingOf};
-ghost use Rattle.wf_view.specs.Held.{IsHeldFor};
 ghost use Rattle.wf_safe.specs.Full.{AreFullRows};
 ghost use Rattle.wf_safe.specs.Witness.{IsFault};
 
@@ -23,8 +22,7 @@ use crate::safety::shown::shown_deps;
 use crate::safety::telling::witness_of;
 use std::alloc::Global;
 use wf_check::Proper;
-use wf_spec::Grammar;
-use wf_view::View;
+use wf_view::GrammarView;
 
 /// The full assignment of a view, which there is exactly if the view is safe; or a witness of two expansions that disagree.
 ///
@@ -35,23 +33,17 @@ use wf_view::View;
 /// Cost: for each seen, expanded module and each of its productions one pass through a body, with words of 64 bits, and for each rank one look at each module.
 ///
 /// Source of the idea: Bao, Davidson, Milo, "Labeling Workflow Views with Fine-Grained Dependencies", VLDB 2012 (safe views and full dependency assignments).
-pub fn full_deps(
-    alloc: Global,
-    g: &Grammar,
-    proper: &Proper,
-    view: &View,
-) -> Result<FullDeps, SafeFault>
-    requires ranking { IsRankingOf g.now.core proper.now }
-    requires view { IsHeldFor g.now.core view.now }
-    ensures safe { IfOk result (λ f. IsSafe g.now.core view.now.core) }
-    ensures full { IfOk result (λ f. AreFullRows g.now.core view.now.core f) }
-    ensures refused { IfErr result (λ e. IsFault g.now.core view.now.core proper.now e) }
+pub fn full_deps(alloc: Global, v: GrammarView<'_>, proper: &Proper) -> Result<FullDeps, SafeFault>
+    requires ranking { IsRankingOf v.grammar.now.core proper.now }
+    ensures safe { IfOk result (λ f. IsSafe v.entry.grammar.now.core v.entry.view.now.core) }
+    ensures full { IfOk result (λ f. AreFullRows v.entry.grammar.now.core v.entry.view.now.core f) }
+    ensures refused { IfErr result (λ e. IsFault v.entry.grammar.now.core v.entry.view.now.core proper.now e) }
 {
-    let mut deps = shown_deps(alloc, g, view)?;
-    induce_all(alloc, g, proper, view, &mut deps)?;
-    match least_disagreement(alloc, g, view, &deps)? {
+    let mut deps = shown_deps(alloc, v)?;
+    induce_all(alloc, v, proper, &mut deps)?;
+    match least_disagreement(alloc, v, &deps)? {
         Some(found) => {
-            let witness = witness_of(alloc, g, proper, view, found)?;
+            let witness = witness_of(alloc, v, proper, found)?;
             Err(SafeFault::Unsafe { witness })
         }
         None => Ok(FullDeps::of_rows(deps)),

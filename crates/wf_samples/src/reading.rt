@@ -1,7 +1,5 @@
 // Grammars and views, read from their texts as the program reads them. A text that is not accepted fails the test. Each is handed out in a box, so that whoever owns one lets it go by one call.
-ghost use Rattle.std.specs.Prelude.{IfOk};
-ghost use Rattle.wf_model.specs.Safe.{IsSafe};
-ghost use Rattle.wf_safe.specs.Full.{AreFullRows};
+ghost use Rattle.std.specs.Prelude.{◌≡◌, IfOk};
 ghost use Rattle.wf_view.specs.Held.{IsHeldFor};
 
 use std::alloc::Global;
@@ -9,7 +7,7 @@ use std::test::Fail;
 use wf_accept::{Accepted, accept};
 use wf_form::build;
 use wf_json::{read_spec, read_view};
-use wf_safe::{FullDeps, full_deps};
+use wf_safe::SafeView;
 use wf_spec::Grammar;
 use wf_view::View;
 
@@ -38,14 +36,13 @@ pub fn view(alloc: Global, g: &Grammar, text: &str) -> Result<Box<View>, Fail>
     Ok(Box::new(alloc, view)?)
 }
 
-/// The full assignment of a safe view.
-pub fn full(alloc: Global, s: &Accepted, view: &View) -> Result<Box<FullDeps>, Fail>
-    requires held { IsHeldFor s.now.grammar.core view.now }
-    ensures safe { IfOk result (λ f. IsSafe s.now.grammar.core view.now.core) }
-    ensures full { IfOk result (λ f. AreFullRows s.now.grammar.core view.now.core f.value) }
+/// The safe view of an accepted grammar that a text describes.
+pub fn safe<'a>(alloc: Global, s: &'a Accepted, text: &str) -> Result<Box<SafeView<'a>>, Fail>
+    ensures { IfOk result (λ v. v.value.accepted ≡ s.now) }
 {
-    match full_deps(alloc, s.grammar(), s.ranking(), view) {
-        Ok(full) => Ok(Box::new(alloc, full)?),
+    let view = view(alloc, s.grammar(), text)?;
+    match SafeView::of(alloc, s, Box::into_inner(view)) {
+        Ok(safe) => Ok(Box::new(alloc, safe)?),
         Err(_) => Err(Fail::new("a safe view")),
     }
 }

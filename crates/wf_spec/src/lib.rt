@@ -1,6 +1,7 @@
 //! Workflow grammars: their modules and productions, and what their readers ask of them.
 #![tactic(auto)]
 
+mod bits;
 mod deps;
 mod given;
 mod grammar;
@@ -11,6 +12,7 @@ mod production;
 mod rule;
 mod version;
 
+pub use bits::{low_bits, same_rows};
 pub use deps::Deps;
 pub use given::{Given, Pair};
 pub use grammar::Grammar;

@@ -7,3 +7,4 @@ pub mod Stages
 pub mod TwoStages
 pub mod Writing
 pub mod SomeStages
+pub mod TakenWords

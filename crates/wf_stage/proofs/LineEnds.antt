@@ -1,7 +1,7 @@
 -- The end at which the lines of a file stop, and the end of the command.
-use Rattle.std.proofs.Common.{◌≡◌, ℕ, Bool, List, Some, refl}
+use Rattle.std.proofs.Common.{◌≡◌, ℕ, Bool, List, Some, refl, subst}
 use Rattle.wf_io.specs.Told.{Rose}
-use Rattle.wf_lines.specs.Taking.{halt_end, end_at, IsCauseOfHalt, IsCauseOf, IsStoppedAs}
+use Rattle.wf_lines.specs.Taking.{halt_end, end_at, IsCauseOfHalt, IsCauseOf, IsStoppedAs, IsWritingFault}
 use Rattle.wf_lines.specs.declared.fault.Halt.{Halt}
 use Rattle.wf_lines.specs.declared.fault.Halt.TheVariants.{LineTooLong, FileTooLong, ReadFault as ReadingFailed, WriteFault as WritingFailed}
 use Rattle.wf_lines.specs.declared.fault.LinesFault.{LinesFault}
@@ -75,3 +75,11 @@ fault_caused ends word before after last old new out_last (Halted halt) h c = ha
 pub fault_caused_reading : {F : Type 0} (ends : F → End) (word : List ℕ) (before after : ℕ) (last : Bool) (old new : ℕ) (out_last : Bool) (f : LinesFault F) → (Rose old new out_last → ⊥) → IsStoppedAs (λ x. IsRefusedOrWanting (ends x)) f → IsCauseOf before after last old new out_last f → IsReadingCause before after last (end_of_fault ends word f)
 fault_caused_reading ends word before after last old new out_last (Stopped x) never h c = refused_cause before after last (ends x) c.0 h
 fault_caused_reading ends word before after last old new out_last (Halted halt) never h c = halt_caused_reading word before after last old new out_last halt never c
+
+-- a command that ends by a fault of writing ends by that of its lines, where what takes them refuses or wants memory
+pub writing_of_lines : {F : Type 0} (ends : F → End) (word : List ℕ) (f : LinesFault F) → IsStoppedAs (λ x. IsRefusedOrWanting (ends x)) f → end_of_fault ends word f ≡ WriteFault → IsWritingFault f
+writing_of_lines ends word (Stopped x) h is = subst IsRefusedOrWanting is h
+writing_of_lines ends word (Halted (LineTooLong n)) h is = absurd (cc)
+writing_of_lines ends word (Halted (FileTooLong n)) h is = absurd (cc)
+writing_of_lines ends word (Halted ReadingFailed) h is = absurd (cc)
+writing_of_lines ends word (Halted WritingFailed) h is = refl

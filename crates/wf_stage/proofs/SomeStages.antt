@@ -1,14 +1,11 @@
 -- A stage has an outcome where its file is told or refused, and what follows has one.
-use Rattle.std.proofs.Common.{◌≡◌, ◌⊎◌, ◌<◌, ◌≤◌, ℕ, Bool, true, false, List, length, Option, Some, None, refl, inl, inr, ⊎_elim}
+use Rattle.std.proofs.Common.{◌≡◌, ◌⊎◌, ◌≤◌, ℕ, Bool, true, false, List, length, Option, None, refl, inl, inr, ⊎_elim}
 use Rattle.std.proofs.lemmas.Bool.{cases_lt}
 use Rattle.wf_io.specs.Told.{File}
 use Rattle.wf_message.specs.Endings.{End, Refused, ReadFault}
 use Rattle.wf_stage.specs.Kinds.{Kind}
+use Rattle.wf_stage.specs.Outcomes.{HasOutcome}
 use Rattle.wf_stage.specs.Stages.{Stage, too_long, broken, refused, goes_on}
-
--- a relation holds of some end and some text
-abbrev pub HasOutcome : (End → List ℕ → Type 0) → Type 0
-HasOutcome R = (e : End) × (t : List ℕ) × R e t
 
 module _ {A : Type 0} (kind : Kind) (first : List ℕ) (file : File) (Tells : List ℕ → A → Type 0) (Refuses : List ℕ → Option ℕ → List ℕ → Type 0) (Next : A → End → List ℕ → Type 0) where
   -- bytes tell a value, or are refused

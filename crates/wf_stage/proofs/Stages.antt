@@ -1,11 +1,11 @@
 -- What a stage makes of the outcome of what follows it.
-use Rattle.std.proofs.Common.{◌≡◌, Bool, ◌⊎◌, ℕ, ◌<◌, ◌≤◌, false, List, ◌++◌, [], length, take, Option, None, refl, sym, ap, ◌∙◌, subst, inl, inr, ⊎_elim, arith, true≢false, append-nil}
-use Rattle.wf_io.specs.Told.{File, Appended}
+use Rattle.std.proofs.Common.{◌≡◌, Bool, ◌⊎◌, ℕ, List, ◌++◌, [], Option, None, refl, sym, ap, ◌∙◌, subst, inl, inr, ⊎_elim, arith, true≢false, append-nil}
+use Rattle.wf_io.specs.Told.{File}
 use Rattle.std.specs.Prelude.{Result, Err, IfErr}
 use Rattle.wf_message.specs.declared.ending.Stop.{Stop}
 use Rattle.wf_message.specs.Endings.{End, Done, Usage, Refused, ReadFault, WriteFault, NoMemory, end_of}
 use Rattle.wf_stage.specs.Kinds.{Kind}
-use Rattle.wf_stage.specs.Stages.{Stage, too_long, broken, refused, goes_on, IsTold, StopsAt, Declines, Holds, OfWhole, RefusesNone, IsRefusedOrWanting}
+use Rattle.wf_stage.specs.Stages.{Stage, too_long, broken, refused, goes_on, IsTold, StopsAt, Declines, Holds, RefusesNone, IsRefusedOrWanting}
 use Rattle.wf_stage.specs.Causes.{IsReadingCause}
 use Rattle.wf_stage.specs.Ends.{EndsBehind}
 use Rattle.wf_stage.proofs.Ends.{Begins, nothing_put, wanting}
@@ -26,10 +26,10 @@ module _ {A : Type 0} (kind : Kind) (first : List ℕ) (file : File) (Tells : Li
   stop_ends old new begins Done h s = absurd h
   stop_ends old new begins Usage h s = absurd h
   stop_ends old new begins (Refused word line fault) h s =
-      nothing_put first _ (stage_begins begins) (Refused word line fault) old new s (λ w.
+      nothing_put first _ (stage_begins begins) (Refused word line fault) old new (λ w. (cc)) s (λ w.
       ⊎_elim (λ l. too_long l.0 (ap (λ q. Refused q line fault) h.0 ∙ (ap (λ n. Refused kind.word n fault) l.1 ∙ ap (Refused kind.word None) l.2)) refl)
       (λ q. refused q.0 q.1 line fault q.2 (ap (λ r. Refused r line fault) h.0) refl) h.1)
-  stop_ends old new begins (ReadFault word) h s = nothing_put first _ (stage_begins begins) (ReadFault word) old new s (λ w. broken h.1 h.2 (ap ReadFault h.0) refl)
+  stop_ends old new begins (ReadFault word) h s = nothing_put first _ (stage_begins begins) (ReadFault word) old new (λ w. (cc)) s (λ w. broken h.1 h.2 (ap ReadFault h.0) refl)
   stop_ends old new begins WriteFault h s = absurd h
   stop_ends old new begins NoMemory h s = wanting first _ (stage_begins begins) old new s
 
@@ -37,14 +37,15 @@ module _ {A : Type 0} (kind : Kind) (first : List ℕ) (file : File) (Tells : Li
   pub on_ends : (old new : Option (List ℕ)) (a : A) → IsTold kind file Tells a → ((b : A) → Tells file.bytes b → b ≡ a) → ((line : Option ℕ) (fault : List ℕ) → Refuses file.bytes line fault → ⊥) → (e : End) → EndsBehind first (Next a) e old new → EndsBehind first (Stage kind first file Tells Refuses Next) e old new
   on_ends old new a told one none e ends = record {
     whole = λ w. let r = ends.whole w in (r.0, goes_on told.short told.whole a told.tells r.1, r.2);
-    begun = λ d t st. go d t st;
+    begun = λ d t st. ends.begun d t (go d t st);
+    due = λ w d t st. ends.due w d t (go d t st);
   }
     where
-      go : (d : End) (t : List ℕ) → Stage kind first file Tells Refuses Next d t → (rest : List ℕ) × (t ≡ first ++ rest) × ((k : ℕ) × Appended (take k rest) old new)
+      go : (d : End) (t : List ℕ) → Stage kind first file Tells Refuses Next d t → Next a d t
       go d t (too_long l x y) = absurd (let s = told.short in omega arith)
       go d t (broken l b x y) = absurd (true≢false (sym b ∙ told.whole))
       go d t (refused l b line fault r x y) = absurd (none line fault r)
-      go d t (goes_on l b c tells next) = ends.begun d t (subst (λ x. Next x d t) (one c tells) next)
+      go d t (goes_on l b c tells next) = subst (λ x. Next x d t) (one c tells) next
 
 -- what declines by one refusal declines by another that comes of it
 pub declines_by : (place : List ℕ) (P Q : Option ℕ → List ℕ → Type 0) → ((line : Option ℕ) (fault : List ℕ) → P line fault → Q line fault) → (e : End) → Declines place P e → Declines place Q e

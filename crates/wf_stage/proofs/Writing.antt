@@ -1,5 +1,5 @@
 -- What is written, and what of it is written in its place.
-use Rattle.std.proofs.Common.{◌≡◌, ◌≤◌, ℕ, Bool, List, [], ◌++◌, take, Option, refl, sym, ◌∙◌, subst, arith}
+use Rattle.std.proofs.Common.{◌≡◌, ◌<◌, ◌≤◌, ℕ, Bool, List, [], ◌++◌, length, take, Option, refl, sym, subst, arith}
 use Rattle.std.specs.Prelude.{Result, Err}
 use Rattle.wf_io.specs.Told.{Rose, Appended}
 use Rattle.wf_io.proofs.Appending.{appended_none}
@@ -24,8 +24,8 @@ module _ {T : Type 0} {bytes : T → Option (List ℕ)} {faults : T → ℕ} {la
   writes_whole text o p put count = record { ends = whole_written text (bytes o) (bytes p) put; cause = count; later = omega arith }
 
   -- a text was put in part
-  pub writes_part : (text : List ℕ) (o p : T) → (k : ℕ) × Appended (take k text) (bytes o) (bytes p) → Rose (faults o) (faults p) (last p) → faults o ≤ faults p → Writes bytes faults last [] (IsWritten text) o p WriteFault
-  writes_part text o p part rose later = record { ends = part_written text text (bytes o) (bytes p) refl part; cause = rose; later = later }
+  pub writes_part : (text : List ℕ) (o p : T) → 0 < length text → (k : ℕ) × Appended (take k text) (bytes o) (bytes p) → Rose (faults o) (faults p) (last p) → faults o ≤ faults p → Writes bytes faults last [] (IsWritten text) o p WriteFault
+  writes_part text o p some part rose later = record { ends = part_written text text (bytes o) (bytes p) refl some part; cause = rose; later = later }
 
   -- what is written is this text
   pub writes_text : (held text : List ℕ) → held ≡ text → (o p : T) (e : End) → Writes bytes faults last [] (IsWritten held) o p e → Writes bytes faults last [] (IsWritten text) o p e

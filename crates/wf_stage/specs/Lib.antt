@@ -4,3 +4,5 @@ pub mod Ends
 pub mod LineEnds
 pub mod Causes
 pub mod Promises
+pub mod Outcomes
+pub mod Families

@@ -18,7 +18,7 @@ pub fn read_file<H: Shelf>(
     name: &str,
     kind: FileKind,
 ) -> Result<Vec<u8>, Stop>
-    ensures reads { Reads H.files H.faults H.at_last (kind_of kind) name.now Holds (λ v. v.items) RefusesNone shelf.old shelf.new result }
+    ensures reads { Reads H.files H.readings H.faults H.at_last (kind_of kind) name.now Holds (λ v. v.items) RefusesNone shelf.old shelf.new result }
     ensures short { IfOk result (λ v. length v.items ≤ kind.most) }
 {
     match read_all(alloc, shelf, name, kind.most) {

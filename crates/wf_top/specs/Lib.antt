@@ -1,4 +1,4 @@
-pub mod Words
+pub mod Families
 pub mod Outcome
 pub mod Meets
 pub mod Counts

@@ -1,17 +1,18 @@
 -- How a call stands to the outcome: what was put, and the line for err.
-use Rattle.std.specs.Prelude.{◌≡◌, ℕ, Bool, List, take, Option, Some}
+use Rattle.std.specs.Prelude.{◌≡◌, ◌<◌, ℕ, Bool, List, length, take, Option, Some}
 use Rattle.wf_io.specs.Told.{File, Appended}
 use Rattle.wf_message.specs.declared.status.Status.{Status}
-use Rattle.wf_message.specs.Endings.{End, status_of, line_of}
+use Rattle.wf_message.specs.Endings.{End, WriteFault, status_of, line_of}
 use Rattle.wf_message.specs.Puts.{IsPut}
 use Rattle.wf_stage.specs.Ends.{IsOfOutcome}
 use Rattle.wf_top.specs.Outcome.{IsOutcome}
 
 -- How a call ended, and what out got, stands to a relation between ends and texts.
--- But for a fault of writing and want of memory, the end and the text are related. Whatever the end is, out got a beginning of each text that is related
+-- But for a fault of writing and want of memory, the end and the text are related. Whatever the end is, out got a beginning of each text that is related. Writing fails only where each of them has a byte
 pub record EndsBy (Outcome : End → List ℕ → Type 0) (ending : End) (old new : Option (List ℕ)) : Type 0 where
   pub whole : IsOfOutcome ending → (text : List ℕ) × Outcome ending text × Appended text old new
   pub begun : (e : End) (text : List ℕ) → Outcome e text → (k : ℕ) × Appended (take k text) old new
+  pub due : ending ≡ WriteFault → (e : End) (text : List ℕ) → Outcome e text → 0 < length text
 
 -- over a shelf that tells its files, the program ended by its outcome
 abbrev pub EndsAsTold : Option (List ℕ → File) → List (List ℕ) → End → Option (List ℕ) → Option (List ℕ) → Type 0

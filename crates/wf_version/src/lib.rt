@@ -3,6 +3,7 @@
 
 mod change;
 mod fault;
+mod fault_text;
 mod keeping;
 mod rounds;
 

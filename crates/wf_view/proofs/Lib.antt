@@ -16,3 +16,5 @@ pub mod Ports
 pub mod Showing
 pub mod Viewed
 pub mod ViewedOrFault
+pub mod KnownViews
+pub mod ShownTables

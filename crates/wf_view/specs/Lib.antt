@@ -5,3 +5,5 @@ pub mod Marks
 pub mod Rules
 pub mod Tables
 pub mod Viewing
+pub mod FaultText
+pub mod ShownTable

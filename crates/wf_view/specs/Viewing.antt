@@ -8,16 +8,7 @@ use Rattle.wf_model.specs.Lists.{some, numbers_from}
 use Rattle.wf_model.specs.Composite.{is_composite}
 use Rattle.wf_model.specs.Grammar.{Grammar, module_at, inputs_of, outputs_of, is_given}
 use Rattle.wf_model.specs.View.{View}
-
--- the name of a module, and those of its ports
-abbrev pub name_of : Grammar → ℕ → List ℕ
-name_of g m = (module_at g m).name
-
-abbrev pub input_name : Grammar → ℕ → ℕ → List ℕ
-input_name g m i = get_or (module_at g m).inputs i []
-
-abbrev pub output_name : Grammar → ℕ → ℕ → List ℕ
-output_name g m o = get_or (module_at g m).outputs o []
+pub use Rattle.grammar_text.specs.Names.{name_of, input_name, output_name}
 
 -- a module is among those that a list names; where there is no list, it is composite
 abbrev pub is_among : Grammar → Option (List (List ℕ)) → ℕ → Bool

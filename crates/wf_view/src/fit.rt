@@ -3,8 +3,7 @@ ghost use Rattle.std.specs.Prelude.{◌≡◌, ◌<◌, ◌≤◌, ◌^◌, ◌�
 ghost use Rattle.std.specs.List.{All};
 ghost use Rattle.wf_view.specs.FitRows.{FitGrammar, FitModule};
 
-use crate::bits::low_bits;
-use wf_spec::{Grammar, ModNo};
+use wf_spec::{Grammar, ModNo, low_bits};
 
 /// Whether each row has no bit set past so many.
 fn are_short(rows: &[u64], count: usize) -> bool

@@ -13,3 +13,4 @@ pub mod Squares
 pub mod SquaredCycle
 pub mod OpenCycles
 pub mod SquareGroups
+pub mod Sizes

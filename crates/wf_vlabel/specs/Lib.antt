@@ -6,3 +6,4 @@ pub mod Seen
 pub mod Held
 pub mod RoundSteps
 pub mod ChainMatrices
+pub mod CycleMatrices

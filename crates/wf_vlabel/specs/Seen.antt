@@ -1,13 +1,14 @@
 -- What contracts see of the label of a view.
-use Rattle.std.specs.Prelude.{◌≡◌, ℕ, Bool, false, List, get_or}
-use Rattle.bool_mat.specs.Matrix.{joins}
-use Rattle.wf_model.specs.Grammar.{Grammar, Assignment}
+use Rattle.std.specs.Prelude.{◌≡◌, ℕ, Bool, false, List, length, get_or}
+use Rattle.bool_mat.specs.Matrix.{Matrix, joins}
+use Rattle.wf_model.specs.Grammar.{Grammar, Assignment, inputs_of, outputs_of, head_of}
 use Rattle.wf_model.specs.WellFormed.{IsWellFormed}
 use Rattle.wf_model.specs.Proper.{IsProper}
 use Rattle.wf_model.specs.Linear.{IsLinear}
 use Rattle.wf_model.specs.View.{View, expands, IsSeenModule, IsViewOf}
 use Rattle.wf_model.specs.Safe.{IsInduced}
-use Rattle.wf_model.specs.Reach.{Step}
+use Rattle.wf_model.specs.Reach.{Step, target_of}
+use Rattle.wf_body.specs.Matrices.{beside}
 use Rattle.wf_recur.specs.Cycles.{CyclesSeen, AreCyclesOf}
 use Rattle.wf_model.specs.OpenRoutes.{IsOpenStep}
 use Rattle.decode_model.specs.Matrices.{ViewMatrices, AreMatrices, IsOnceRound}
@@ -61,3 +62,28 @@ Opens l s = (u : View) × IsLabelOfView l u × IsOpenStep l.grammar u s
 -- the module stands on a cycle that is seen and expanded whole under the view
 abbrev pub OpensRound : ViewLabelSeen → ℕ → Type 0
 OpensRound l m = (u : View) × IsLabelOfView l u × ((round : List Step) × IsOnceRound l.grammar u m round)
+
+-- a matrix has so many rows and columns
+pub record HasSize (m : Matrix) (many_rows many_columns : ℕ) : Type 0 where
+  pub rows : length m.rows ≡ many_rows
+  pub columns : m.columns ≡ many_columns
+
+-- as many rows as columns
+abbrev pub HasSquareSize : Matrix → ℕ → Type 0
+HasSquareSize m many = HasSize m many many
+
+-- a row for each input of the module, and a column for each output
+abbrev pub HasFullSize : Grammar → ℕ → Matrix → Type 0
+HasFullSize g n m = HasSize m (inputs_of g n) (outputs_of g n)
+
+-- a row for each input of the head, and a column for each input of the position
+abbrev pub HasSizeInto : Grammar → Step → Matrix → Type 0
+HasSizeInto g s m = HasSize m (inputs_of g (head_of g s.production)) (inputs_of g (target_of g s))
+
+-- a row for each output of the position, and a column for each output of the head
+abbrev pub HasSizeOutOf : Grammar → Step → Matrix → Type 0
+HasSizeOutOf g s m = HasSize m (outputs_of g (target_of g s)) (outputs_of g (head_of g s.production))
+
+-- a row for each output of the position, and a column for each input of the other position
+abbrev pub HasSizeBetween : Grammar → Step → ℕ → Matrix → Type 0
+HasSizeBetween g s to m = HasSize m (outputs_of g (target_of g s)) (inputs_of g (target_of g (beside s to)))

@@ -7,26 +7,24 @@ ghost use Rattle.wf_model.specs.View.{expands};
 ghost use Rattle.wf_body.specs.Matrices.{HaveRows, step_of};
 ghost use Rattle.wf_safe.specs.Full.{AreFullRows};
 ghost use Rattle.wf_safe.specs.Inducing.{IsSeenExpanded};
-ghost use Rattle.wf_view.specs.Held.{IsHeldFor};
 ghost use Rattle.wf_vlabel.specs.Growing.{Grows, IsBodyGroup};
 ghost use Rattle.wf_vlabel.specs.Tables.{AreBodyGroups, AreStepGroups, IsStepGroup, of_body, of_position};
 
 use crate::groups::Groups;
+use crate::sight::Sight;
 use bool_mat::{MatNo, MatPool};
 use std::alloc::{AllocError, Global};
 use wf_body::{between_all, into_position, out_of_position};
 use wf_safe::FullDeps;
 use wf_spec::{Deps, Grammar, PosNo, ProdNo, Step};
-use wf_view::View;
 
 /// Whether the view shows the body of a production: its head is seen and expanded.
-fn is_shown(g: &Grammar, p: ProdNo, view: &View) -> bool
-    requires production { p.0 < length g.now.core.productions }
-    requires view { IsHeldFor g.now.core view.now }
-    ensures { IsTrue result ↔ IsSeenExpanded g.now.core view.now.core (head_of g.now.core p.0) }
+fn is_shown(s: Sight<'_, '_>, p: ProdNo) -> bool
+    requires production { p.0 < length s.linear.grammar.now.core.productions }
+    ensures { IsTrue result ↔ IsSeenExpanded s.entry.linear.grammar.now.core s.entry.view.now.core (head_of s.entry.linear.grammar.now.core p.0) }
 {
-    let head = g.production(p).head();
-    view.seen(head) && view.expanded(head)
+    let head = s.linear.grammar.production(p).head();
+    s.view.seen(head) && s.view.expanded(head)
 }
 
 /// How many rows the matrices of a body have in all.
@@ -47,18 +45,17 @@ fn rows_of_body(g: &Grammar, p: ProdNo) -> usize
 }
 
 /// Makes room for the matrices of the bodies that the view shows.
-fn reserve_room(g: &Grammar, view: &View, pool: &mut MatPool) -> Result<(), AllocError>
-    requires { IsHeldFor g.now.core view.now }
+fn reserve_room(s: Sight<'_, '_>, pool: &mut MatPool) -> Result<(), AllocError>
     ensures { pool.new ≡ pool.old }
 {
     let mut matrices = 0usize;
     let mut rows = 0usize;
-    for k in 0..g.productions().len() {
+    for k in 0..s.linear.grammar.productions().len() {
         let p = ProdNo(k as u16);
-        if is_shown(g, p, view) {
-            let positions = g.production(p).positions().len();
+        if is_shown(s, p) {
+            let positions = s.linear.grammar.production(p).positions().len();
             matrices = matrices.saturating_add(positions.saturating_mul(positions + 2));
-            rows = rows.saturating_add(rows_of_body(g, p));
+            rows = rows.saturating_add(rows_of_body(s.linear.grammar, p));
         }
     }
     pool.reserve(matrices, rows)
@@ -115,22 +112,20 @@ fn push_body(
 /// Pushes the matrices of a body, if the view shows it.
 fn push_shown(
     alloc: Global,
-    g: &Grammar,
+    s: Sight<'_, '_>,
     p: ProdNo,
-    view: &View,
     full: &FullDeps,
     pool: &mut MatPool,
 ) -> Result<Option<MatNo>, AllocError>
-    requires production { p.0 < length g.now.core.productions }
-    requires view { IsHeldFor g.now.core view.now }
-    requires rows { AreFullRows g.now.core view.now.core full.now }
+    requires production { p.0 < length s.linear.grammar.now.core.productions }
+    requires rows { AreFullRows s.linear.grammar.now.core s.view.now.core full.now }
     ensures grown { OnOk result (Grows pool.old pool.new) }
-    ensures group { IfOk result (λ n. IsBodyGroup g.now.core view.now.core (pairs_of full.now) p.0 pool.new (option_map (λ k. k.0) n)) }
+    ensures group { IfOk result (λ n. IsBodyGroup s.entry.linear.grammar.now.core s.entry.view.now.core (pairs_of full.now) p.0 pool.new (option_map (λ k. k.0) n)) }
 {
-    if !is_shown(g, p, view) {
+    if !is_shown(s, p) {
         return Ok(None);
     }
-    let first = push_body(alloc, g, p, full.deps(), pool)?;
+    let first = push_body(alloc, s.linear.grammar, p, full.deps(), pool)?;
     Ok(Some(first))
 }
 
@@ -139,19 +134,17 @@ fn push_shown(
 /// Room for all of them is made at once. Cost: for each position of each such body three passes through it.
 pub(crate) fn body_groups(
     alloc: Global,
-    g: &Grammar,
-    view: &View,
+    s: Sight<'_, '_>,
     full: &FullDeps,
 ) -> Result<Groups, AllocError>
-    requires view { IsHeldFor g.now.core view.now }
-    requires rows { AreFullRows g.now.core view.now.core full.now }
-    ensures { IfOk result (λ t. AreBodyGroups g.now.core (expands view.now.core) (pairs_of full.now) t) }
+    requires rows { AreFullRows s.linear.grammar.now.core s.view.now.core full.now }
+    ensures { IfOk result (λ t. AreBodyGroups s.entry.linear.grammar.now.core (expands s.entry.view.now.core) (pairs_of full.now) t) }
 {
     let mut pool = MatPool::new(alloc);
-    reserve_room(g, view, &mut pool)?;
+    reserve_room(s, &mut pool)?;
     let mut first = Vec::new(alloc);
-    for k in 0..g.productions().len() {
-        let number = push_shown(alloc, g, ProdNo(k as u16), view, full, &mut pool)?;
+    for k in 0..s.linear.grammar.productions().len() {
+        let number = push_shown(alloc, s, ProdNo(k as u16), full, &mut pool)?;
         first.push(number)?;
     }
     Ok(Groups::of_pool(pool, first))

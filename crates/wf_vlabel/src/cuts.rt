@@ -1,11 +1,12 @@
 // Where chains leave what a view expands.
-ghost use Rattle.std.specs.Prelude.{◌≡◌, ◌≢◌, ◌<◌, ℕ, length, get_or, IfOk, IfSome, None};
+ghost use Rattle.std.specs.Prelude.{◌≡◌, ◌<◌, length, IfOk, IfSome, None};
 ghost use Rattle.wf_model.specs.View.{expands};
 ghost use Rattle.label_model.specs.Continuing.{continuing};
 ghost use Rattle.wf_recur.specs.Cycles.{round_at};
-ghost use Rattle.wf_view.specs.Held.{IsHeldFor};
-ghost use Rattle.wf_vlabel.specs.Cuts.{IsCut, cut_before};
+ghost use Rattle.wf_vlabel.specs.Cuts.{cut_before};
+ghost use Rattle.wf_vlabel.specs.CycleMatrices.{KeepsCuts, AreCutsOn, AreCutsOf};
 
+use crate::sight::Sight;
 use std::alloc::{AllocError, Global};
 use wf_recur::{CycleNo, Linear};
 use wf_spec::ModNo;
@@ -32,10 +33,8 @@ fn cut_cycle(g: Linear<'_>, view: &View, c: CycleNo, cuts: &mut [Option<u32>])
     requires cycle { c.0 < length g.cycles.now.rounds }
     requires count { length cuts.old ≡ length g.grammar.now.core.modules }
     ensures count { length cuts.new ≡ length cuts.old }
-    ensures kept { (m : ℕ) → IsCut g.entry.grammar.now.core (expands view.now.core) m (get_or cuts.old m None) →
-        IsCut g.entry.grammar.now.core (expands view.now.core) m (get_or cuts.new m None) }
-    ensures told { (j : ℕ) → j < length (round_at g.entry.cycles.now c.0) →
-        IsCut g.entry.grammar.now.core (expands view.now.core) (get_or (round_at g.entry.cycles.now c.0) j 0) (get_or cuts.new (get_or (round_at g.entry.cycles.now c.0) j 0) None) }
+    ensures kept { KeepsCuts g.entry.grammar.now.core view.now.core cuts.old cuts.new }
+    ensures told { AreCutsOn g.entry.grammar.now.core view.now.core (round_at g.entry.cycles.now c.0) cuts.new }
 {
     let _modules = g.grammar.modules();
     let length = g.cycles.length(c);
@@ -57,19 +56,13 @@ fn cut_cycle(g: Linear<'_>, view: &View, c: CycleNo, cuts: &mut [Option<u32>])
 /// For each module on a cycle, how many continuing steps lead from it to the first module that is not expanded; none where the whole cycle is expanded.
 ///
 /// Cost: two looks at each module of a cycle. Fails only for want of memory.
-pub(crate) fn cuts_of(
-    alloc: Global,
-    g: Linear<'_>,
-    view: &View,
-) -> Result<Vec<Option<u32>>, AllocError>
-    requires view { IsHeldFor g.grammar.now.core view.now }
-    ensures count { IfOk result (λ cuts. length cuts.items ≡ length g.entry.grammar.now.core.modules) }
-    ensures cuts { IfOk result (λ cuts. (m : ℕ) → m < length g.entry.grammar.now.core.modules → continuing g.entry.grammar.now.core m ≢ None →
-        IsCut g.entry.grammar.now.core (expands view.now.core) m (get_or cuts.items m None)) }
+pub(crate) fn cuts_of(alloc: Global, s: Sight<'_, '_>) -> Result<Vec<Option<u32>>, AllocError>
+    ensures count { IfOk result (λ cuts. length cuts.items ≡ length s.entry.linear.grammar.now.core.modules) }
+    ensures cuts { IfOk result (λ cuts. AreCutsOf s.entry.linear.grammar.now.core s.entry.view.now.core cuts.items) }
 {
-    let mut cuts = vec![in alloc; None; g.grammar.modules().len()]?;
-    for c in 0..g.cycles.count() {
-        cut_cycle(g, view, CycleNo(c), &mut cuts);
+    let mut cuts = vec![in alloc; None; s.linear.grammar.modules().len()]?;
+    for c in 0..s.linear.cycles.count() {
+        cut_cycle(s.linear, s.view, CycleNo(c), &mut cuts);
     }
     Ok(cuts)
 }

@@ -6,6 +6,8 @@ mod cuts;
 mod full;
 mod groups;
 mod rounds;
+mod sight;
 mod view_label;
 
+pub use rounds::way::Way;
 pub use view_label::ViewLabel;

@@ -1,27 +1,27 @@
 // Labels of views.
 ghost use Rattle.std.specs.Prelude.{◌≡◌, ◌<◌, length, get_or, IfOk};
-ghost use Rattle.wf_model.specs.Grammar.{body_of};
+ghost use Rattle.wf_model.specs.Grammar.{body_of, inputs_of, outputs_of};
 ghost use Rattle.wf_model.specs.Proper.{IsProper};
 ghost use Rattle.wf_recur.specs.Cycles.{round_at};
 ghost use Rattle.wf_body.specs.Matrices.{step_of};
-ghost use Rattle.wf_view.specs.Held.{IsHeldFor};
 ghost use Rattle.wf_safe.specs.Full.{AreFullRows};
 ghost use Rattle.wf_vlabel.specs.Cuts.{IsCut};
 ghost use Rattle.wf_vlabel.specs.Tables.{begins};
 ghost use Rattle.wf_vlabel.specs.Seen.{IsLabelOfView, IsViewLabel, Opens, OpensRound, Sees, is_expanded, matrices_of};
+ghost use Rattle.wf_vlabel.specs.Seen.{HasFullSize, HasSizeInto, HasSizeOutOf, HasSizeBetween, HasSquareSize};
 
 use crate::bodies::body_groups;
 use crate::cuts::cuts_of;
 use crate::full::full_groups;
 use crate::groups::Groups;
 use crate::rounds::square_groups;
+use crate::sight::Sight;
 use bool_mat::MatRef;
 use std::alloc::{AllocError, Global};
 use std::marker::Model;
 use wf_recur::{CycleNo, Cycles, Linear};
-use wf_safe::FullDeps;
+use wf_safe::{FullDeps, SafeView};
 use wf_spec::{Grammar, ModNo, PosNo, Step};
-use wf_view::View;
 
 /// The label of a safe view: for each seen module the pairs that every expansion of it joins, for each body that the view shows the matrices of its paths, and for each cycle that the view shows whole those of many rounds.
 ///
@@ -64,30 +64,41 @@ impl<'a> Model for ViewLabel<'a> {
 }
 
 impl<'a> ViewLabel<'a> {
-    /// The label of a view of a proper, strictly linear grammar, from the cycles of the grammar and the full assignment of the view. Fails only for want of memory.
+    /// The label of a safe view of an accepted grammar. Fails only for want of memory.
     ///
     /// Cost: for each position of each body that the view shows three passes through the body, and for each module of a cycle 52 products of matrices at most.
-    pub fn build(
+    pub fn build(alloc: Global, safe: &SafeView<'a>) -> Result<ViewLabel<'a>, AllocError>
+        ensures label { IfOk result (λ l. IsLabelOfView l safe.now.view.core) }
+        ensures grammar { IfOk result (λ l. l.grammar ≡ safe.now.accepted.grammar.core) }
+        ensures cycles { IfOk result (λ l. l.cycles ≡ safe.now.accepted.cycles) }
+    {
+        let sight = Sight {
+            linear: safe.linear(),
+            view: safe.view(),
+        };
+        ViewLabel::of_sight(alloc, sight, safe.full())
+    }
+
+    /// The label of a view of a proper grammar, from the pairs of the modules.
+    fn of_sight(
         alloc: Global,
-        linear: Linear<'a>,
-        view: &View,
+        s: Sight<'a, '_>,
         full: &FullDeps,
     ) -> Result<ViewLabel<'a>, AllocError>
-        requires proper { IsProper linear.grammar.now.core }
-        requires view { IsHeldFor linear.grammar.now.core view.now }
-        requires full { AreFullRows linear.grammar.now.core view.now.core full.now }
-        ensures label { IfOk result (λ l. IsLabelOfView l view.now.core) }
-        ensures grammar { IfOk result (λ l. l.grammar ≡ linear.entry.grammar.now.core) }
-        ensures cycles { IfOk result (λ l. l.cycles ≡ linear.entry.cycles.now) }
+        requires proper { IsProper s.linear.grammar.now.core }
+        requires full { AreFullRows s.linear.grammar.now.core s.view.now.core full.now }
+        ensures label { IfOk result (λ l. IsLabelOfView l s.entry.view.now.core) }
+        ensures grammar { IfOk result (λ l. l.grammar ≡ s.entry.linear.grammar.now.core) }
+        ensures cycles { IfOk result (λ l. l.cycles ≡ s.entry.linear.cycles.now) }
     {
-        let _modules = linear.grammar.modules();
-        let expanded = Vec::from_slice(alloc, view.marks())?;
-        let pairs = full_groups(alloc, linear.grammar, full)?;
-        let bodies = body_groups(alloc, linear.grammar, view, full)?;
-        let cuts = cuts_of(alloc, linear, view)?;
-        let squares = square_groups(alloc, linear, view, full, cuts.as_slice(), &bodies)?;
+        let _modules = s.linear.grammar.modules();
+        let expanded = Vec::from_slice(alloc, s.view.marks())?;
+        let pairs = full_groups(alloc, s.linear.grammar, full)?;
+        let bodies = body_groups(alloc, s, full)?;
+        let cuts = cuts_of(alloc, s)?;
+        let squares = square_groups(alloc, s, full, cuts.as_slice(), &bodies)?;
         Ok(ViewLabel {
-            linear,
+            linear: s.linear,
             expanded,
             full: pairs,
             bodies,
@@ -132,7 +143,8 @@ impl<'a> ViewLabel<'a> {
     /// The pairs that every expansion of a seen module joins: input `i` and output `o` for row `i` and column `o`.
     pub fn full(&self, m: ModNo) -> MatRef<'_>
         requires { Sees self.now m.0 }
-        ensures { result ≡ (matrices_of self.now).full m.0 }
+        ensures same { result ≡ (matrices_of self.now).full m.0 }
+        ensures size { HasFullSize self.now.grammar m.0 result }
     {
         self.full.matrix(m.0 as usize, 0)
     }
@@ -140,7 +152,8 @@ impl<'a> ViewLabel<'a> {
     /// The matrix from the head of a production to a position of it, for a head that is seen and expanded: it joins input `i` of the head to input `j` of the position exactly if a path in the body does.
     pub fn into_position(&self, s: Step) -> MatRef<'_>
         requires { Opens self.now (step_of s) }
-        ensures { result ≡ (matrices_of self.now).into (step_of s) }
+        ensures same { result ≡ (matrices_of self.now).into (step_of s) }
+        ensures size { HasSizeInto self.now.grammar (step_of s) result }
     {
         self.bodies.matrix(s.production.0 as usize, self.begins(s))
     }
@@ -148,7 +161,8 @@ impl<'a> ViewLabel<'a> {
     /// The matrix from a position to the head of its production, for a head that is seen and expanded: it joins output `j` of the position to output `o` of the head exactly if a path in the body does.
     pub fn out_of_position(&self, s: Step) -> MatRef<'_>
         requires { Opens self.now (step_of s) }
-        ensures { result ≡ (matrices_of self.now).out_of (step_of s) }
+        ensures same { result ≡ (matrices_of self.now).out_of (step_of s) }
+        ensures size { HasSizeOutOf self.now.grammar (step_of s) result }
     {
         self.bodies
             .matrix(s.production.0 as usize, self.begins(s) + 1)
@@ -158,7 +172,8 @@ impl<'a> ViewLabel<'a> {
     pub fn between(&self, s: Step, to: PosNo) -> MatRef<'_>
         requires open { Opens self.now (step_of s) }
         requires to { to.0 < length (body_of self.now.grammar s.production.0) }
-        ensures { result ≡ (matrices_of self.now).between (step_of s) to.0 }
+        ensures same { result ≡ (matrices_of self.now).between (step_of s) to.0 }
+        ensures size { HasSizeBetween self.now.grammar (step_of s) to.0 result }
     {
         let at = self.begins(s) + 2 + to.0 as usize;
         self.bodies.matrix(s.production.0 as usize, at)
@@ -179,7 +194,8 @@ impl<'a> ViewLabel<'a> {
         requires place { place < length (round_at self.now.cycles c.0) }
         requires round { OpensRound self.now (get_or (round_at self.now.cycles c.0) place 0) }
         requires k { k < 24 }
-        ensures { result ≡ (matrices_of self.now).square_in (get_or (round_at self.now.cycles c.0) place 0) k }
+        ensures same { result ≡ (matrices_of self.now).square_in (get_or (round_at self.now.cycles c.0) place 0) k }
+        ensures size { HasSquareSize result (inputs_of self.now.grammar (get_or (round_at self.now.cycles c.0) place 0)) }
     {
         self.squares
             .matrix(self.linear.cycles.at(c, place).0 as usize, k as usize)
@@ -191,7 +207,8 @@ impl<'a> ViewLabel<'a> {
         requires place { place < length (round_at self.now.cycles c.0) }
         requires round { OpensRound self.now (get_or (round_at self.now.cycles c.0) place 0) }
         requires k { k < 24 }
-        ensures { result ≡ (matrices_of self.now).square_out (get_or (round_at self.now.cycles c.0) place 0) k }
+        ensures same { result ≡ (matrices_of self.now).square_out (get_or (round_at self.now.cycles c.0) place 0) k }
+        ensures size { HasSquareSize result (outputs_of self.now.grammar (get_or (round_at self.now.cycles c.0) place 0)) }
     {
         self.squares.matrix(self.linear.cycles.at(c, place).0 as usize, 24 + k as usize)
     }

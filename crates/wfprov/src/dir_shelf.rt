@@ -80,6 +80,8 @@ fn read_held(
 impl<'r> Shelf for DirShelf<'r> {
     ghost files = { λ _. None };
 
+    ghost readings = { λ _. None };
+
     ghost faults = { λ s. s.faults };
 
     ghost at_last = { λ s. nat_eq s.faults (2 ^ 64 - 1) };

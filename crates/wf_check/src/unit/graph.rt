@@ -1,15 +1,14 @@
 // The graph of unit productions.
-ghost use Rattle.std.specs.Prelude.{◌≡◌, ◌<◌, ◌↔◌, ℕ, length, IfOk, IsTrue, MatchOption};
+ghost use Rattle.std.specs.Prelude.{◌≡◌, length, IfOk};
 ghost use Rattle.wf_check.specs.UnitRules.{AreBelow};
-ghost use Rattle.wf_check.specs.UnitPaths.{IsGraphOf, IsOnCycle, IsLeastOnCycle};
+ghost use Rattle.wf_check.specs.UnitPaths.{IsGraphOf};
 
 use crate::unit::rule::UnitRule;
 use std::alloc::{AllocError, Global};
-use wf_graph::{no_edges, reached};
-use wf_spec::ModNo;
+use wf_graph::no_edges;
 
-/// The graph whose edges are unit productions, with a vertex for each of so many modules.
-fn unit_graph(
+/// The graph whose edges are unit productions, with a vertex for each of so many modules. The edges of a module stand in the order of its productions. Fails only for want of memory.
+pub fn unit_graph(
     alloc: Global,
     units: &[UnitRule],
     modules: usize,
@@ -24,46 +23,4 @@ fn unit_graph(
         list.push(u32::from(u.target.0))?;
     }
     Ok(graph)
-}
-
-/// Whether unit productions lead from a module back to it.
-fn is_on_cycle(
-    alloc: Global,
-    units: &[UnitRule],
-    graph: &[Vec<u32>],
-    m: ModNo,
-) -> Result<bool, AllocError>
-    requires edges { IsGraphOf units.now graph.now }
-    requires below { AreBelow (length graph.now) units.now }
-    requires within { m.0 < length graph.now }
-    ensures { IfOk result (λ b. IsTrue b ↔ IsOnCycle units.now m.0) }
-{
-    let marks = reached(alloc, graph, u32::from(m.0))?;
-    for u in units {
-        if u.target.0 == m.0 && marks[u.head.0 as usize] {
-            return Ok(true);
-        }
-    }
-    Ok(false)
-}
-
-/// The least module from which unit productions lead back to it, if there is one.
-///
-/// Cost: for each module a search of the graph of unit productions, and a pass over them. Fails only for want of memory.
-pub fn least_on_cycle(
-    alloc: Global,
-    units: &[UnitRule],
-    modules: u16,
-) -> Result<Option<ModNo>, AllocError>
-    requires { AreBelow modules units.now }
-    ensures { IfOk result (λ o. MatchOption o ((m : ℕ) → IsOnCycle units.now m → ⊥) (λ m. IsLeastOnCycle units.now m.0)) }
-{
-    let graph = unit_graph(alloc, units, usize::from(modules))?;
-    for m in 0..modules {
-        let found = is_on_cycle(alloc, units, &graph, ModNo(m))?;
-        if found {
-            return Ok(Some(ModNo(m)));
-        }
-    }
-    Ok(None)
 }

@@ -1,12 +1,9 @@
 // The answer of two ports.
-ghost use Rattle.std.specs.Prelude.{◌≡◌, ◌+◌, ◌≤◌, ℕ, List, cond, length};
-ghost use Rattle.wf_model.specs.View.{View};
-ghost use Rattle.wf_model.specs.Reach.{Step as StepSeen};
+ghost use Rattle.std.specs.Prelude.{◌≡◌, ◌+◌, ◌≤◌, ℕ, cond, length};
 ghost use Rattle.wf_recur.specs.Cycles.{round_at};
 ghost use Rattle.decode_model.specs.Counts.{most_products};
 ghost use Rattle.verdict_model.specs.declared.verdict.Verdict.TheVariants.{Yes, No};
-ghost use Rattle.wf_vlabel.specs.Seen.{IsLabelOfView, full_in, matrices_of};
-ghost use Rattle.wf_decode.specs.Answers.{AreEnds, IsAnswerOfAddresses};
+ghost use Rattle.wf_decode.specs.Answers.{HaveAddresses, AnswersAddresses};
 
 use crate::decision::ends::ModulePort;
 use crate::decision::products::{above, across, below};
@@ -32,11 +29,8 @@ pub(crate) fn answer<L: Ledger>(
     to: ModulePort,
     steps: &mut Steps<L>,
 ) -> Verdict
-    requires ends { (u : View) × (a : List StepSeen) × (b : List StepSeen) × IsLabelOfView vl.now u ×
-        AreEnds vl.now u a b first.old from.module.0 from.port.0 second.old to.module.0 to.port.0 }
-    ensures answer { (u : View) (a b : List StepSeen) → IsLabelOfView vl.now u →
-        AreEnds vl.now u a b first.old from.module.0 from.port.0 second.old to.module.0 to.port.0 →
-        IsAnswerOfAddresses vl.now.grammar (full_in (matrices_of vl.now)) a b from.port.0 to.port.0 result }
+    requires ends { HaveAddresses vl.now first.old from.module.0 from.port.0 second.old to.module.0 to.port.0 }
+    ensures answer { AnswersAddresses vl.now first.old from.module.0 from.port.0 second.old to.module.0 to.port.0 result }
     ensures cost { (l : ℕ) → ((k : ℕ) → length (round_at vl.now.cycles k) ≤ l) → steps.new ≤ steps.old + most_products vl.now.grammar l }
     ensures first_length { length first.new ≡ length first.old }
     ensures second_length { length second.new ≡ length second.old }

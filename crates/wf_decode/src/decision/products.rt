@@ -1,12 +1,12 @@
 // Row products of a decision.
-ghost use Rattle.std.specs.Prelude.{◌≡◌, ◌++◌, ◌∷◌, ◌<◌, ◌↔◌, ℕ, IsTrue, [], get_or};
+ghost use Rattle.std.specs.Prelude.{◌≡◌, ◌∷◌, ◌<◌, ℕ, []};
 ghost use Rattle.bool_mat.specs.Matrix.{has};
 ghost use Rattle.wf_model.specs.View.{View};
 ghost use Rattle.wf_recur.specs.Cycles.{step_of};
-ghost use Rattle.decode_model.specs.Legs.{crossing, way_down, way_up};
+ghost use Rattle.decode_model.specs.Legs.{way_up};
 ghost use Rattle.wf_vlabel.specs.Seen.{IsLabelOfView, Sees, matrices_of};
 ghost use Rattle.wf_decode.specs.HeldLegs.{legs_of};
-ghost use Rattle.wf_decode.specs.Products.{AreWaysApart, IsBit, IsWay};
+ghost use Rattle.wf_decode.specs.Products.{HaveWaysApart, IsBit, IsSingle, IsWay, full_row_of, matrices_below, IsBitAcross};
 
 use crate::decision::ends::ModulePort;
 use crate::leg::Leg;
@@ -19,7 +19,7 @@ use wf_vlabel::ViewLabel;
 /// The outputs of a module that every expansion of it joins to an input of it.
 fn full_row(vl: &ViewLabel<'_>, from: ModulePort) -> u64
     requires { Sees vl.now from.module.0 }
-    ensures { result ≡ get_or ((matrices_of vl.now).full from.module.0).rows from.port.0 0 }
+    ensures { result ≡ full_row_of vl.now from.module.0 from.port.0 }
 {
     match vl.full(from.module).rows.get(from.port.0 as usize) {
         Some(row) => *row,
@@ -48,11 +48,9 @@ pub(crate) fn across<L: Ledger>(
     to: ModulePort,
     steps: &mut Steps<L>,
 ) -> bool
-    requires ways { (u : View) × IsLabelOfView vl.now u ×
-        AreWaysApart vl.now u (step_of first) (step_of second) first_legs.now second_legs.now from.module.0 to.module.0 }
+    requires ways { HaveWaysApart vl.now (step_of first) (step_of second) first_legs.now second_legs.now from.module.0 to.module.0 }
     requires output { to.port.0 < 64 }
-    ensures { IsBit (crossing vl.now.grammar (matrices_of vl.now) (step_of first) (legs_of vl.now first_legs.now) (step_of second)
-        (legs_of vl.now second_legs.now)) (get_or ((matrices_of vl.now).full from.module.0).rows from.port.0 0) steps.old steps.new to.port.0 result }
+    ensures { IsBitAcross vl.now (step_of first) first_legs.now (step_of second) second_legs.now from.module.0 from.port.0 steps.old steps.new to.port.0 result }
 {
     let full = full_row(vl, from);
     let above = up(vl, first_legs, full, steps);
@@ -72,9 +70,7 @@ pub(crate) fn below<L: Ledger>(
     requires way { (u : View) × (k : ℕ) × IsLabelOfView vl.now u × IsWay vl.now u k legs.now to.module.0 }
     requires input { input.0 < 64 }
     requires output { to.port.0 < 64 }
-    ensures { (first : ℕ) × ((j : ℕ) → IsTrue (has first j) ↔ (j ≡ input.0)) ×
-        IsBit (way_down (matrices_of vl.now) (legs_of vl.now legs.now) ++ (matrices_of vl.now).full to.module.0 ∷ [])
-        first steps.old steps.new to.port.0 result }
+    ensures { (first : ℕ) × IsSingle input.0 first × IsBit (matrices_below vl.now legs.now to.module.0) first steps.old steps.new to.port.0 result }
 {
     let first = single(input.0 as u32);
     let last = down(vl, legs, first, steps);
@@ -91,8 +87,7 @@ pub(crate) fn above<L: Ledger>(
 ) -> bool
     requires way { (u : View) × (k : ℕ) × IsLabelOfView vl.now u × IsWay vl.now u k legs.now from.module.0 }
     requires output { output.0 < 64 }
-    ensures { IsBit (way_up (matrices_of vl.now) (legs_of vl.now legs.now))
-        (get_or ((matrices_of vl.now).full from.module.0).rows from.port.0 0) steps.old steps.new output.0 result }
+    ensures { IsBit (way_up (matrices_of vl.now) (legs_of vl.now legs.now)) (full_row_of vl.now from.module.0 from.port.0) steps.old steps.new output.0 result }
 {
     let full = full_row(vl, from);
     let last = up(vl, legs, full, steps);

@@ -2,7 +2,7 @@
 ghost use Rattle.std.specs.Prelude.{◌≡◌, ◌<◌, ◌≤◌, ◌+◌, ℕ, false, length, drop};
 ghost use Rattle.wf_recur.specs.Cycles.{step_of};
 ghost use Rattle.wf_decode.specs.HeldLegs.{AreHeld};
-ghost use Rattle.wf_decode.specs.LegsAfter.{AreLeftOfBoth};
+ghost use Rattle.wf_decode.specs.LegsAfter.{LeavesOfBoth};
 
 use super::next_step::next_step;
 use super::shorten::shorten;
@@ -30,9 +30,7 @@ pub(crate) fn meet(
     requires i { i < length first.old }
     requires j { j < length second.old }
     requires held { (m : ℕ) × AreHeld vl.now m false (drop i first.old) × AreHeld vl.now m false (drop j second.old) }
-    ensures left { (m : ℕ) → AreHeld vl.now m false (drop i first.old) → AreHeld vl.now m false (drop j second.old) →
-        AreLeftOfBoth vl.now m (drop i first.old) (step_of result.first) (drop result.first_from first.new)
-        (drop j second.old) (step_of result.second) (drop result.second_from second.new) }
+    ensures left { LeavesOfBoth vl.now (drop i first.old) (step_of result.first) (drop result.first_from first.new) (drop j second.old) (step_of result.second) (drop result.second_from second.new) }
     ensures first_length { length first.new ≡ length first.old }
     ensures second_length { length second.new ≡ length second.old }
     ensures first_within { result.first_from ≤ length first.old }

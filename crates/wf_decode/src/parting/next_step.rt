@@ -1,8 +1,8 @@
 // The next step of an address.
-ghost use Rattle.std.specs.Prelude.{◌≡◌, ◌<◌, ◌≤◌, ℕ, false, length, drop};
+ghost use Rattle.std.specs.Prelude.{◌<◌, ◌≤◌, ℕ, false, length, drop};
 ghost use Rattle.wf_recur.specs.Cycles.{step_of};
 ghost use Rattle.wf_decode.specs.HeldLegs.{AreHeld};
-ghost use Rattle.wf_decode.specs.LegsAfter.{AreLeftAfter, HasChain};
+ghost use Rattle.wf_decode.specs.LegsAfter.{HasChain, LeavesAfter};
 
 use crate::leg::Leg;
 use wf_spec::Step;
@@ -20,8 +20,7 @@ pub(crate) struct NextStep {
 pub(crate) fn next_step(vl: &ViewLabel<'_>, legs: &[Leg], at: usize) -> NextStep
     requires at { at < length legs.now }
     requires held { (m : ℕ) × AreHeld vl.now m false (drop at legs.now) }
-    ensures left { (m : ℕ) → AreHeld vl.now m false (drop at legs.now) →
-        AreLeftAfter vl.now m (drop at legs.now) result.count (step_of result.step) (drop result.after legs.now) }
+    ensures left { LeavesAfter vl.now (drop at legs.now) result.count (step_of result.step) (drop result.after legs.now) }
     ensures chain { (n : ℕ) → n < result.count → HasChain n (drop at legs.now) }
     ensures onward { at < result.after }
     ensures within { result.after ≤ length legs.now }

@@ -10,14 +10,7 @@ ghost use Rattle.wf_decode.specs.Ways.{square_on};
 use bool_mat::{MatRef, Steps, has_column, row_times};
 use std::sync::ledger::Ledger;
 use wf_recur::CycleNo;
-use wf_vlabel::ViewLabel;
-
-/// Which way a chain is gone: from its first place on, or back to it.
-#[derive(Clone, Copy)]
-pub(crate) enum Way {
-    Down,
-    Up,
-}
+use wf_vlabel::{ViewLabel, Way};
 
 /// The matrix of `2^k` rounds from a place of a cycle on, or back to it.
 fn square<'v>(vl: &'v ViewLabel<'_>, way: Way, cycle: CycleNo, place: u16, k: u8) -> MatRef<'v>

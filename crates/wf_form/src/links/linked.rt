@@ -1,10 +1,9 @@
 // Whether the ports of a body and of its head have one link each.
-ghost use Rattle.std.specs.Prelude.{◌≡◌, ◌<◌, ◌↔◌, ℕ, length, IfOk, IsTrue};
+ghost use Rattle.std.specs.Prelude.{◌<◌, ◌↔◌, ℕ, length, IfOk, IsTrue};
 ghost use Rattle.wf_model.specs.Lists.{IsIn, AllDiffer};
-ghost use Rattle.wf_model.specs.Grammar.{Inner as InnerSeen};
 ghost use Rattle.wf_spec.specs.FewPorts.{HasFewPorts, HaveFewPorts};
-ghost use Rattle.wf_form.specs.Resolving.{IsInputIn, IsOutputIn};
-ghost use Rattle.wf_form.specs.Wiring.{fed_by, used_by, entered_by, left_by, body_of, IsSmall, IsWithin, IsWiredAtMostOnce, IsWiredAtLeastOnce};
+ghost use Rattle.wf_form.specs.Wiring.{fed_by, used_by, entered_by, left_by, IsSmall, IsWithin, IsWiredAtMostOnce, IsWiredAtLeastOnce};
+ghost use Rattle.wf_form.specs.Numbers.{ArePositionsMet, IsHeadMet};
 
 use crate::links::counts::{input_counts, output_counts};
 use crate::links::ends::{entered, left, sources, targets};
@@ -64,8 +63,7 @@ fn positions_are_met(alloc: Global, modules: &[Module], one: &Wiring) -> Result<
     requires few_ports { HaveFewPorts modules.now }
     requires within { IsWithin modules.now one.now }
     requires once { IsWiredAtMostOnce one.now }
-    ensures { IfOk result (λ b. IsTrue b ↔ (((i : InnerSeen) → IsInputIn modules.now (body_of one.now) i → IsIn i (fed_by one.now)) ×
-        ((i : InnerSeen) → IsOutputIn modules.now (body_of one.now) i → IsIn i (used_by one.now)))) }
+    ensures { IfOk result (λ b. IsTrue b ↔ ArePositionsMet modules.now one.now) }
 {
     let inputs = input_counts(alloc, modules, &one.positions)?;
     let to = targets(alloc, one)?;
@@ -85,8 +83,7 @@ fn head_is_met(alloc: Global, head: &Module, one: &Wiring) -> Result<bool, Alloc
     requires entered { (k : ℕ) → IsIn k (entered_by one.now) → k < length head.now.inputs }
     requires left { (k : ℕ) → IsIn k (left_by one.now) → k < length head.now.outputs }
     requires once { IsWiredAtMostOnce one.now }
-    ensures { IfOk result (λ b. IsTrue b ↔ (((k : ℕ) → k < length head.now.inputs → IsIn k (entered_by one.now)) ×
-        ((k : ℕ) → k < length head.now.outputs → IsIn k (left_by one.now)))) }
+    ensures { IfOk result (λ b. IsTrue b ↔ IsHeadMet head.now one.now) }
 {
     let inputs = [head.inputs().len()];
     let to = entered(alloc, one)?;

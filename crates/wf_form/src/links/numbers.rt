@@ -1,11 +1,12 @@
 // Edges, entries and exits, by number.
-ghost use Rattle.std.specs.Prelude.{◌≡◌, ◌<◌, ◌≤◌, map, length, IfOk, IfNone, IfSome, MatchOption};
+ghost use Rattle.std.specs.Prelude.{◌≡◌, ◌<◌, ◌≤◌, map, length, IfOk, IfNone, IfSome};
 ghost use Rattle.wf_model.specs.Lists.{IsIn};
 ghost use Rattle.wf_model.specs.Meaning.{position_of, edge_of};
 ghost use Rattle.wf_form.specs.Forming.{edge_in};
 ghost use Rattle.wf_spec.specs.FewPorts.{HasFewPorts, HaveFewPorts};
 ghost use Rattle.wf_form.specs.Resolving.{AreOfModules, IsEdgeIn};
 ghost use Rattle.wf_form.specs.Wiring.{entry_of, exit_of, entry_link, exit_link, IsEntryIn, IsExitIn};
+ghost use Rattle.wf_form.specs.Numbers.{NumbersIf, IsEntryNumber, IsExitNumber};
 
 use crate::links::inner::{inner_input, inner_output};
 use crate::links::places::port_number;
@@ -18,8 +19,7 @@ fn edge_number(modules: &[Module], body: &[Position], part: &EdgePart) -> Option
     requires few_ports { HaveFewPorts modules.now }
     requires few_positions { length body.now ≤ 64 }
     requires known { AreOfModules modules.now (map position_of body.now) }
-    ensures { MatchOption result (¬ IsEdgeIn modules.now (map position_of body.now) part.now)
-        (λ e. (edge_of e ≡ edge_in modules.now (map position_of body.now) part.now) × IsEdgeIn modules.now (map position_of body.now) part.now) }
+    ensures { NumbersIf (IsEdgeIn modules.now (map position_of body.now) part.now) edge_of (edge_in modules.now (map position_of body.now) part.now) result }
 {
     let from = inner_output(modules, body, &part.from)?;
     let to = inner_input(modules, body, &part.to)?;
@@ -36,9 +36,7 @@ fn entry_number(
     requires few_positions { length body.now ≤ 64 }
     requires known { AreOfModules modules.now (map position_of body.now) }
     requires few_inputs { HasFewPorts head.now }
-    ensures { MatchOption result (¬ IsEntryIn modules.now (map position_of body.now) head.now part.now)
-        (λ e. (entry_of e ≡ entry_link modules.now (map position_of body.now) head.now part.now) ×
-        IsEntryIn modules.now (map position_of body.now) head.now part.now) }
+    ensures { IsEntryNumber modules.now (map position_of body.now) head.now part.now result }
 {
     let port = port_number(head.inputs(), part.port.bytes())?;
     let to = inner_input(modules, body, &part.to)?;
@@ -55,9 +53,7 @@ fn exit_number(
     requires few_positions { length body.now ≤ 64 }
     requires known { AreOfModules modules.now (map position_of body.now) }
     requires few_outputs { HasFewPorts head.now }
-    ensures { MatchOption result (¬ IsExitIn modules.now (map position_of body.now) head.now part.now)
-        (λ e. (exit_of e ≡ exit_link modules.now (map position_of body.now) head.now part.now) ×
-        IsExitIn modules.now (map position_of body.now) head.now part.now) }
+    ensures { IsExitNumber modules.now (map position_of body.now) head.now part.now result }
 {
     let from = inner_output(modules, body, &part.from)?;
     let port = port_number(head.outputs(), part.port.bytes())?;

@@ -31,8 +31,8 @@ fn put_items<S: TextSink, F: Fn(&mut S, usize) -> Result<(), AllocError>>(
     Ok(())
 }
 
-/// Writes a list of `count` items, of which `put` writes each.
-pub(crate) fn put_list<S: TextSink, F: Fn(&mut S, usize) -> Result<(), AllocError>>(
+/// Writes a list of `count` items in brackets, with commas between. `put` writes the item of each number.
+pub fn put_list<S: TextSink, F: Fn(&mut S, usize) -> Result<(), AllocError>>(
     out: &mut S,
     count: usize,
     put: F,

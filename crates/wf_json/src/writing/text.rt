@@ -7,8 +7,8 @@ ghost use Rattle.wf_model.specs.Items.{dotted};
 use crate::text_sink::TextSink;
 use std::alloc::AllocError;
 
-/// Writes a text in quotes.
-pub(crate) fn put_quoted<S: TextSink>(out: &mut S, text: &[u8]) -> Result<(), AllocError>
+/// Writes a text in quotes. It stands there as it is, so it must be one that JSON does not escape, as a name.
+pub fn put_quoted<S: TextSink>(out: &mut S, text: &[u8]) -> Result<(), AllocError>
     ensures { OnOk result (Takes S.holds out.old out.new (text_in_quotes text.now)) }
 {
     out.put(b"\"")?;

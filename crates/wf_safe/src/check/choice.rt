@@ -3,13 +3,12 @@ ghost use Rattle.std.specs.Prelude.{◌≡◌, ◌↔◌, ◌<◌, ◌++◌, ℕ
 ghost use Rattle.std.specs.List.{filter};
 ghost use Rattle.wf_model.specs.Grammar.{IsProductionOf};
 ghost use Rattle.wf_model.specs.WellFormed.{IsWellFormed};
-ghost use Rattle.wf_view.specs.Held.{IsHeldFor};
 ghost use Rattle.wf_safe.specs.Choosing.{AreProductions, is_seen_expanded, needing_below};
 ghost use Rattle.wf_safe.specs.Witness.{IsChoiceOf, chosen_in, modules_in};
 
 use crate::witness::Choice;
 use wf_spec::{Grammar, ModNo, ProdNo};
-use wf_view::View;
+use wf_view::{GrammarView, View};
 
 /// Whether a production is one of a module.
 pub fn is_production_of(g: &Grammar, p: ProdNo, m: ModNo) -> bool
@@ -44,14 +43,13 @@ fn past<'a>(view: &View, choice: &'a [Choice], m: ModNo) -> Option<&'a [Choice]>
 }
 
 /// Whether the modules of the choices are those that need one, in order.
-fn are_for_all(g: &Grammar, view: &View, choice: &[Choice]) -> bool
-    requires { IsHeldFor g.now.core view.now }
-    ensures told { IsTrue result ↔ (modules_in (chosen_in choice.now) ≡ needing_below view.now (length g.now.core.modules)) }
-    ensures formed { IsWellFormed g.now.core }
+fn are_for_all(v: GrammarView<'_>, choice: &[Choice]) -> bool
+    ensures told { IsTrue result ↔ (modules_in (chosen_in choice.now) ≡ needing_below v.entry.view.now (length v.entry.grammar.now.core.modules)) }
+    ensures formed { IsWellFormed v.entry.grammar.now.core }
 {
     let mut left = choice;
-    for m in 0..g.modules().len() {
-        match past(view, left, ModNo(m as u16)) {
+    for m in 0..v.grammar.modules().len() {
+        match past(v.view, left, ModNo(m as u16)) {
             Some(rest) => left = rest,
             None => return false,
         }
@@ -74,10 +72,9 @@ fn are_productions(g: &Grammar, choice: &[Choice]) -> bool
 /// Whether a list names each seen module that the view expands once, in order, each with a production of it.
 ///
 /// Cost: one look at each module and at each choice.
-pub fn is_choice(g: &Grammar, view: &View, choice: &[Choice]) -> bool
-    requires { IsHeldFor g.now.core view.now }
-    ensures told { IsTrue result ↔ IsChoiceOf g.now.core view.now.core (chosen_in choice.now) }
-    ensures formed { IsWellFormed g.now.core }
+pub fn is_choice(v: GrammarView<'_>, choice: &[Choice]) -> bool
+    ensures told { IsTrue result ↔ IsChoiceOf v.entry.grammar.now.core v.entry.view.now.core (chosen_in choice.now) }
+    ensures formed { IsWellFormed v.entry.grammar.now.core }
 {
-    are_for_all(g, view, choice) && are_productions(g, choice)
+    are_for_all(v, choice) && are_productions(v.grammar, choice)
 }

@@ -2,18 +2,16 @@
 ghost use Rattle.std.specs.Prelude.{IfOk, OnOk};
 ghost use Rattle.wf_model.specs.Grammar.{IsProductionOf};
 ghost use Rattle.wf_model.specs.WellFormed.{IsWellFormed};
-ghost use Rattle.wf_view.specs.Held.{IsHeldFor};
 ghost use Rattle.wf_safe.specs.Choosing.{AreProductions};
 ghost use Rattle.wf_safe.specs.Settling.{AreAllRowsByChoice, AreTried, IsTable, IsTried};
 ghost use Rattle.wf_safe.specs.Witness.{IsChoiceOf, chosen_in};
 
 use crate::check::body::joined_rows;
-use crate::check::shown::shown_rows;
 use crate::check::table::{are_set, is_set};
 use crate::witness::Choice;
 use std::alloc::{AllocError, Global};
 use wf_spec::{Deps, Grammar};
-use wf_view::View;
+use wf_view::{GrammarView, shown_table};
 
 /// Sets the rows of a module to the pairs that its chosen body joins, if the module has no rows and each module of the body has some; and tells whether it did.
 fn settle(alloc: Global, g: &Grammar, c: Choice, rows: &mut Deps) -> Result<bool, AllocError>
@@ -52,15 +50,13 @@ fn round(alloc: Global, g: &Grammar, choice: &[Choice], rows: &mut Deps) -> Resu
 /// Cost: at most as many rounds over the choice as there are modules; in each round at most one look at each position of each chosen body; and one search of a body for each input of its head.
 pub fn settled_rows(
     alloc: Global,
-    g: &Grammar,
-    view: &View,
+    v: GrammarView<'_>,
     choice: &[Choice],
 ) -> Result<Deps, AllocError>
-    requires view { IsHeldFor g.now.core view.now }
-    requires choice { IsChoiceOf g.now.core view.now.core (chosen_in choice.now) }
-    ensures { IfOk result (λ rows. AreAllRowsByChoice g.now.core view.now.core (chosen_in choice.now) rows) }
+    requires choice { IsChoiceOf v.grammar.now.core v.view.now.core (chosen_in choice.now) }
+    ensures { IfOk result (λ rows. AreAllRowsByChoice v.entry.grammar.now.core v.entry.view.now.core (chosen_in choice.now) rows) }
 {
-    let mut rows = shown_rows(alloc, g, view)?;
-    while round(alloc, g, choice, &mut rows)? {}
+    let mut rows = shown_table(alloc, v)?;
+    while round(alloc, v.grammar, choice, &mut rows)? {}
     Ok(rows)
 }

@@ -1,14 +1,13 @@
 // The rows of all seen, expanded modules, in order of rank.
 ghost use Rattle.std.specs.Prelude.{◌≤◌, ◌<◌, ◌+◌, ℕ, length, OnOk};
 ghost use Rattle.wf_check.specs.Proper.{IsRankingOf};
-ghost use Rattle.wf_view.specs.Held.{IsHeldFor};
 ghost use Rattle.wf_safe.specs.Inducing.{AreInduced, AreInducedBefore, rank_of};
 
 use crate::safety::induced::induce;
 use std::alloc::{AllocError, Global};
 use wf_check::Proper;
 use wf_spec::{Deps, Grammar, ModNo};
-use wf_view::View;
+use wf_view::GrammarView;
 
 /// The greatest rank of a module.
 fn greatest_rank(g: &Grammar, proper: &Proper) -> u32
@@ -25,19 +24,17 @@ fn greatest_rank(g: &Grammar, proper: &Proper) -> u32
 /// Sets the rows of the seen, expanded modules of one rank, where those of lower ranks are set. Fails only for want of memory.
 fn induce_rank(
     alloc: Global,
-    g: &Grammar,
+    v: GrammarView<'_>,
     proper: &Proper,
-    view: &View,
     rank: u32,
     deps: &mut Deps,
 ) -> Result<(), AllocError>
-    requires ranking { IsRankingOf g.now.core proper.now }
-    requires view { IsHeldFor g.now.core view.now }
-    requires before { AreInducedBefore g.now.core view.now.core proper.now rank 0 deps.old }
-    ensures { OnOk result (AreInducedBefore g.now.core view.now.core proper.now (rank + 1) 0 deps.new) }
+    requires ranking { IsRankingOf v.grammar.now.core proper.now }
+    requires before { AreInducedBefore v.grammar.now.core v.view.now.core proper.now rank 0 deps.old }
+    ensures { OnOk result (AreInducedBefore v.entry.grammar.now.core v.entry.view.now.core proper.now (rank + 1) 0 deps.new) }
 {
-    for m in 0..g.modules().len() {
-        induce(alloc, g, proper, view, rank, ModNo(m as u16), deps)?;
+    for m in 0..v.grammar.modules().len() {
+        induce(alloc, v, proper, rank, ModNo(m as u16), deps)?;
     }
     Ok(())
 }
@@ -47,18 +44,16 @@ fn induce_rank(
 /// Cost: one pass through the chosen body of each seen, expanded module, and one look at each module for each rank.
 pub fn induce_all(
     alloc: Global,
-    g: &Grammar,
+    v: GrammarView<'_>,
     proper: &Proper,
-    view: &View,
     deps: &mut Deps,
 ) -> Result<(), AllocError>
-    requires ranking { IsRankingOf g.now.core proper.now }
-    requires view { IsHeldFor g.now.core view.now }
-    requires before { AreInducedBefore g.now.core view.now.core proper.now 1 0 deps.old }
-    ensures { OnOk result (AreInduced g.now.core view.now.core proper.now deps.new) }
+    requires ranking { IsRankingOf v.grammar.now.core proper.now }
+    requires before { AreInducedBefore v.grammar.now.core v.view.now.core proper.now 1 0 deps.old }
+    ensures { OnOk result (AreInduced v.entry.grammar.now.core v.entry.view.now.core proper.now deps.new) }
 {
-    for below in 0..greatest_rank(g, proper) {
-        induce_rank(alloc, g, proper, view, below + 1, deps)?;
+    for below in 0..greatest_rank(v.grammar, proper) {
+        induce_rank(alloc, v, proper, below + 1, deps)?;
     }
     Ok(())
 }

@@ -1,5 +1,5 @@
 // Rows of bits.
-ghost use Rattle.std.specs.Prelude.{◌≡◌, ◌^◌, ◌-◌, ◌≤◌, ◌<◌, ◌∷◌, [], ℕ, cond, IfOk, length, map, replicate};
+ghost use Rattle.std.specs.Prelude.{◌≡◌, ◌^◌, ◌-◌, ◌≤◌, ◌<◌, ◌∷◌, [], ℕ, cond, IfOk, length, map};
 ghost use Rattle.wf_model.specs.Grammar.{Given as GivenSeen, Grammar};
 ghost use Rattle.wf_model.specs.Lists.{IsIn};
 ghost use Rattle.wf_spec.specs.FewPorts.{HaveFewPorts};
@@ -7,29 +7,10 @@ ghost use Rattle.wf_spec.specs.Tables.{AreRows};
 ghost use Rattle.wf_spec.specs.GivenRows.{pair_of, table_of, AreAllAdded, AreFirst, AreGivenIn, AreNamed, HavePlaces};
 ghost use Rattle.wf_spec.specs.Rows.{AreAdded, AreAlike};
 
+use crate::bits::{low_bits, same_rows};
 use crate::given::{Given, Pair};
 use crate::module::Module;
 use std::alloc::{AllocError, Global};
-
-fn low_bits(count: usize) -> u64
-    requires { count ≤ 64 }
-    ensures { result ≡ 2 ^ count - 1 }
-{
-    if count == 64 {
-        return u64::MAX;
-    }
-    (1 << count) - 1
-}
-
-fn same_rows(alloc: Global, count: usize, row: u64) -> Result<Vec<u64>, AllocError>
-    ensures { IfOk result (λ rows. rows.items ≡ replicate count row) }
-{
-    let mut rows = Vec::new(alloc);
-    for k in 0..count {
-        rows.push(row)?;
-    }
-    Ok(rows)
-}
 
 fn row_of(m: &Module, all: bool) -> u64
     requires { length m.now.outputs ≤ 64 }

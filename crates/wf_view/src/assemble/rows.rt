@@ -1,5 +1,5 @@
 // Rows of bits for the pairs of a module.
-ghost use Rattle.std.specs.Prelude.{◌≡◌, ◌<◌, ◌≤◌, ◌∷◌, [], IfOk, length, map, position, replicate, true, bytes_eq};
+ghost use Rattle.std.specs.Prelude.{◌≡◌, ◌<◌, ◌≤◌, ◌∷◌, [], IfOk, length, map, position, true, bytes_eq};
 ghost use Rattle.wf_model.specs.Grammar.{inputs_of, is_given, outputs_of};
 ghost use Rattle.wf_model.specs.Lists.{IsIn};
 ghost use Rattle.wf_model.specs.WellFormed.{IsWellFormedModule};
@@ -8,19 +8,8 @@ ghost use Rattle.wf_spec.specs.Pairs.{pair_in};
 ghost use Rattle.wf_spec.specs.Rows.{AreAdded};
 ghost use Rattle.wf_view.specs.Tables.{names_pair, AreRowsBy};
 
-use crate::bits::low_bits;
 use std::alloc::{AllocError, Global};
-use wf_spec::{Grammar, ModNo, Module, Name, PairPart};
-
-fn same_rows(alloc: Global, count: usize, row: u64) -> Result<Vec<u64>, AllocError>
-    ensures { IfOk result (λ rows. rows.items ≡ replicate count row) }
-{
-    let mut rows = Vec::new(alloc);
-    for k in 0..count {
-        rows.push(row)?;
-    }
-    Ok(rows)
-}
+use wf_spec::{Grammar, ModNo, Module, Name, PairPart, low_bits, same_rows};
 
 /// All pairs of a module.
 fn all_rows(alloc: Global, one: &Module) -> Result<Vec<u64>, AllocError>

@@ -3,8 +3,9 @@ ghost use Rattle.std.specs.Prelude.{◌≡◌, ℕ, ◌+◌, ◌-◌, ◌*◌, �
 ghost use Rattle.bool_mat.specs.Matrix.{Adds, matrix_at};
 ghost use Rattle.wf_model.specs.Grammar.{Grammar as GrammarSeen, Assignment};
 ghost use Rattle.label_model.specs.Continuing.{after};
-ghost use Rattle.wf_recur.specs.Cycles.{round_at, least_of};
-ghost use Rattle.wf_vlabel.specs.ChainMatrices.{AreFirsts, AreLasts, AreParts, HasSteps, IsChain};
+ghost use Rattle.wf_recur.specs.Cycles.{round_at};
+ghost use Rattle.wf_vlabel.specs.ChainMatrices.{AreParts};
+ghost use Rattle.wf_vlabel.specs.CycleMatrices.{HaveMatrices, HasFirsts, HasLasts, HasParts, KeepsParts, IsRoundOf};
 
 use crate::groups::Groups;
 use crate::rounds::steps::push_step;
@@ -24,10 +25,9 @@ fn push_firsts(
     pool: &mut MatPool,
 ) -> Result<MatNo, AllocError>
     requires cycle { c.0 < length g.cycles.now.rounds }
-    requires steps { (d : Assignment) × HasSteps g.grammar.now.core d bodies.now (least_of (round_at g.cycles.now c.0)) }
+    requires steps { HaveMatrices g.grammar.now.core g.cycles.now bodies.now c.0 }
     ensures added { IfOk result (λ n. Adds pool.old pool.new n.0 (2 * length (round_at g.entry.cycles.now c.0) - 1)) }
-    ensures firsts { IfOk result (λ n. (d : Assignment) → HasSteps g.entry.grammar.now.core d bodies.now (least_of (round_at g.entry.cycles.now c.0)) →
-        AreFirsts way g.entry.grammar.now.core d (least_of (round_at g.entry.cycles.now c.0)) (length (round_at g.entry.cycles.now c.0)) pool.new n.0) }
+    ensures firsts { IfOk result (λ n. HasFirsts way g.entry.grammar.now.core g.entry.cycles.now bodies.now c.0 pool.new n.0) }
 {
     let length = g.cycles.length(c);
     let first = push_step(g, bodies, c, 0, way, pool)?;
@@ -50,10 +50,9 @@ fn push_lasts(
     pool: &mut MatPool,
 ) -> Result<MatNo, AllocError>
     requires cycle { c.0 < length g.cycles.now.rounds }
-    requires steps { (d : Assignment) × HasSteps g.grammar.now.core d bodies.now (least_of (round_at g.cycles.now c.0)) }
+    requires steps { HaveMatrices g.grammar.now.core g.cycles.now bodies.now c.0 }
     ensures added { IfOk result (λ n. Adds pool.old pool.new n.0 (2 * length (round_at g.entry.cycles.now c.0) - 1)) }
-    ensures lasts { IfOk result (λ n. (d : Assignment) → HasSteps g.entry.grammar.now.core d bodies.now (least_of (round_at g.entry.cycles.now c.0)) →
-        AreLasts way g.entry.grammar.now.core d (least_of (round_at g.entry.cycles.now c.0)) (length (round_at g.entry.cycles.now c.0)) (length (round_at g.entry.cycles.now c.0)) pool.new n.0) }
+    ensures lasts { IfOk result (λ n. HasLasts way g.entry.grammar.now.core g.entry.cycles.now bodies.now c.0 pool.new n.0) }
 {
     let mut place = g.cycles.length(c) - 1;
     let first = push_step(g, bodies, c, place, way, pool)?;
@@ -75,9 +74,8 @@ pub(crate) fn parts_of(
     way: Way,
 ) -> Result<MatPool, AllocError>
     requires cycle { c.0 < length g.cycles.now.rounds }
-    requires steps { (d : Assignment) × HasSteps g.grammar.now.core d bodies.now (least_of (round_at g.cycles.now c.0)) }
-    ensures { IfOk result (λ pool. (d : Assignment) → HasSteps g.entry.grammar.now.core d bodies.now (least_of (round_at g.entry.cycles.now c.0)) →
-        AreParts way g.entry.grammar.now.core d (least_of (round_at g.entry.cycles.now c.0)) (length (round_at g.entry.cycles.now c.0)) pool) }
+    requires steps { HaveMatrices g.grammar.now.core g.cycles.now bodies.now c.0 }
+    ensures { IfOk result (λ pool. HasParts way g.entry.grammar.now.core g.entry.cycles.now bodies.now c.0 pool) }
 {
     let mut pool = MatPool::new(alloc);
     push_firsts(g, bodies, c, way, &mut pool)?;
@@ -96,11 +94,9 @@ pub(crate) fn push_round(
 ) -> Result<MatNo, AllocError>
     requires place { place < size }
     requires parts { (g : GrammarSeen) × (d : Assignment) × (first : ℕ) × (after g size first ≡ first) × AreParts way g d first size pool.old }
-    ensures kept { IfOk result (λ n. (g : GrammarSeen) (d : Assignment) (first : ℕ) →
-        AreParts way g d first size pool.old → AreParts way g d first size pool.new) }
+    ensures kept { IfOk result (λ n. KeepsParts way size pool.old pool.new) }
     ensures in_range { IfOk result (λ n. n.0 < length pool.new) }
-    ensures round { IfOk result (λ n. (g : GrammarSeen) (d : Assignment) (first : ℕ) →
-        after g size first ≡ first → AreParts way g d first size pool.old → IsChain way g d (after g place first) size (matrix_at pool.new n.0)) }
+    ensures round { IfOk result (λ n. IsRoundOf way size place pool.old (matrix_at pool.new n.0)) }
 {
     let lasts = 2 * size as usize - 1;
     let last = MatNo(lasts + 2 * (size - place - 1) as usize);

@@ -1,12 +1,9 @@
 // The matrices of many rounds of a cycle.
-ghost use Rattle.std.specs.Prelude.{◌≡◌, ℕ, ◌<◌, length, get_or, IfOk, OnOk};
+ghost use Rattle.std.specs.Prelude.{◌≡◌, ◌<◌, length, IfOk, OnOk};
 ghost use Rattle.bool_mat.specs.Matrix.{Adds, matrix_at};
-ghost use Rattle.wf_model.specs.Grammar.{Grammar as GrammarSeen, Assignment};
-ghost use Rattle.label_model.specs.Continuing.{after};
-ghost use Rattle.wf_recur.specs.Cycles.{round_at, least_of};
 ghost use Rattle.wf_vlabel.specs.declared.rounds.way.Way.TheVariants.{Down, Up};
-ghost use Rattle.wf_vlabel.specs.ChainMatrices.{AreParts, HasSteps};
-ghost use Rattle.wf_vlabel.specs.RoundSteps.{HasRounds, IsSquareGroup, numbers_in, steps_on};
+ghost use Rattle.wf_vlabel.specs.RoundSteps.{numbers_in};
+ghost use Rattle.wf_vlabel.specs.CycleMatrices.{HaveMatrices, KeepsParts, HaveBothParts, AreSquaresOf, KeepsRounds, HaveRounds};
 
 use crate::groups::Groups;
 use crate::rounds::parts::{parts_of, push_round};
@@ -36,15 +33,11 @@ fn push_squares(
     squares: &mut MatPool,
 ) -> Result<MatNo, AllocError>
     requires place { place < size }
-    requires parts { (g : GrammarSeen) × (d : Assignment) × (first : ℕ) × (after g size first ≡ first) ×
-        AreParts Down g d first size down.old × AreParts Up g d first size up.old }
-    ensures down { IfOk result (λ n. (g : GrammarSeen) (d : Assignment) (first : ℕ) →
-        AreParts Down g d first size down.old → AreParts Down g d first size down.new) }
-    ensures up { IfOk result (λ n. (g : GrammarSeen) (d : Assignment) (first : ℕ) → AreParts Up g d first size up.old → AreParts Up g d first size up.new) }
+    requires parts { HaveBothParts size down.old up.old }
+    ensures down { IfOk result (λ n. KeepsParts Down size down.old down.new) }
+    ensures up { IfOk result (λ n. KeepsParts Up size up.old up.new) }
     ensures added { IfOk result (λ n. Adds squares.old squares.new (length squares.old) 50) }
-    ensures squares { IfOk result (λ n. (g : GrammarSeen) (d : Assignment) (first : ℕ) →
-        after g size first ≡ first → AreParts Down g d first size down.old → AreParts Up g d first size up.old →
-        IsSquareGroup g d (after g place first) (steps_on g size (after g place first)) squares.new n.0) }
+    ensures squares { IfOk result (λ n. AreSquaresOf size place down.old up.old squares.new n.0) }
 {
     let round = push_round(down, Way::Down, size, place)?;
     let into = push_copy(down, round, squares)?;
@@ -67,13 +60,11 @@ pub(crate) fn square_cycle(
     first: &mut [Option<MatNo>],
 ) -> Result<(), AllocError>
     requires cycle { c.0 < length g.cycles.now.rounds }
-    requires steps { (d : Assignment) × HasSteps g.grammar.now.core d bodies.now (least_of (round_at g.cycles.now c.0)) }
+    requires steps { HaveMatrices g.grammar.now.core g.cycles.now bodies.now c.0 }
     requires count { length first.old ≡ length g.grammar.now.core.modules }
     ensures count { length first.new ≡ length first.old }
-    ensures kept { OnOk result ((d : Assignment) → HasSteps g.entry.grammar.now.core d bodies.now (least_of (round_at g.entry.cycles.now c.0)) →
-        (m : ℕ) → HasRounds g.entry.grammar.now.core d m squares.old (numbers_in first.old) → HasRounds g.entry.grammar.now.core d m squares.new (numbers_in first.new)) }
-    ensures told { OnOk result ((d : Assignment) → HasSteps g.entry.grammar.now.core d bodies.now (least_of (round_at g.entry.cycles.now c.0)) →
-        (j : ℕ) → j < length (round_at g.entry.cycles.now c.0) → HasRounds g.entry.grammar.now.core d (get_or (round_at g.entry.cycles.now c.0) j 0) squares.new (numbers_in first.new)) }
+    ensures kept { OnOk result (KeepsRounds g.entry.grammar.now.core g.entry.cycles.now bodies.now c.0 squares.old (numbers_in first.old) squares.new (numbers_in first.new)) }
+    ensures told { OnOk result (HaveRounds g.entry.grammar.now.core g.entry.cycles.now bodies.now c.0 squares.new (numbers_in first.new)) }
 {
     let _modules = g.grammar.modules();
     let size = g.cycles.length(c);

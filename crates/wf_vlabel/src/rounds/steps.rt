@@ -1,11 +1,12 @@
 // The matrices of single continuing steps.
-ghost use Rattle.std.specs.Prelude.{◌≡◌, ◌<◌, ◌+◌, length, get_or, Some, IfOk};
+ghost use Rattle.std.specs.Prelude.{◌≡◌, ◌<◌, ◌+◌, length, Some, IfOk};
 ghost use Rattle.bool_mat.specs.Matrix.{Adds, matrix_at};
-ghost use Rattle.wf_model.specs.Grammar.{Assignment, body_of};
+ghost use Rattle.wf_model.specs.Grammar.{body_of};
 ghost use Rattle.label_model.specs.Continuing.{continuing, after};
 ghost use Rattle.wf_recur.specs.Cycles.{round_at, least_of, step_of};
-ghost use Rattle.wf_vlabel.specs.ChainMatrices.{HasSteps, IsChain, place_along};
+ghost use Rattle.wf_vlabel.specs.ChainMatrices.{place_along};
 ghost use Rattle.wf_vlabel.specs.Tables.{begins};
+ghost use Rattle.wf_vlabel.specs.CycleMatrices.{HaveMatrices, HasStepFrom};
 
 use crate::groups::Groups;
 use crate::rounds::way::Way;
@@ -56,10 +57,9 @@ pub(crate) fn push_step(
 ) -> Result<MatNo, AllocError>
     requires cycle { c.0 < length g.cycles.now.rounds }
     requires place { place < length (round_at g.cycles.now c.0) }
-    requires steps { (d : Assignment) × HasSteps g.grammar.now.core d bodies.now (least_of (round_at g.cycles.now c.0)) }
+    requires steps { HaveMatrices g.grammar.now.core g.cycles.now bodies.now c.0 }
     ensures added { IfOk result (λ n. Adds pool.old pool.new n.0 1) }
-    ensures step { IfOk result (λ n. (d : Assignment) → HasSteps g.entry.grammar.now.core d bodies.now (least_of (round_at g.entry.cycles.now c.0)) →
-        IsChain way g.entry.grammar.now.core d (after g.entry.grammar.now.core place (least_of (round_at g.entry.cycles.now c.0))) 1 (matrix_at pool.new n.0)) }
+    ensures step { IfOk result (λ n. HasStepFrom way g.entry.grammar.now.core g.entry.cycles.now bodies.now c.0 place (matrix_at pool.new n.0)) }
 {
     let s = step_at(g, c, place);
     let at = place_of(g.grammar, s, way);

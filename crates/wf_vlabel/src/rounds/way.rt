@@ -6,9 +6,9 @@ ghost use Rattle.wf_vlabel.specs.ChainMatrices.{FitAlong, IsProductAlong};
 use bool_mat::{MatNo, MatPool, product};
 use std::alloc::AllocError;
 
-/// Down from a module, from its inputs on, or up to it, to its outputs.
+/// Which way a chain is gone: down from a module, from its inputs on, or up to it, to its outputs.
 #[derive(Clone, Copy)]
-pub(crate) enum Way {
+pub enum Way {
     Down,
     Up,
 }

@@ -18,13 +18,13 @@ pub returns-in_default-clause-told : goal.returns-in_default-clause-told
 returns-in_default-clause-told c =
     let p = c.p.inside in
     rw (← c.p.view_is)
-    (first_unknown p.viewed.now.spec.grammar.core p.viewed.now.view.core c.p.invariant.formed (events_of p.run.now) c.p.invariant.run.accepted.0 c.args.query.now.first.now c.args.query.now.second.now (λ t h. c.in_default.ensures.none refl t (item_of_same (sym c.grammar-g.ensures.grammar) _ t h)))
+    (first_unknown p.viewed.now.accepted.grammar.core p.viewed.now.view.core c.p.invariant.formed (events_of p.run.now) c.p.invariant.run.accepted.0 c.args.query.now.first.now c.args.query.now.second.now (λ t h. c.in_default.ensures.none refl t (item_of_same (sym c.grammar-g.ensures.grammar) _ t h)))
 
 pub returns-in_default-find_item-clause-told : goal.returns-in_default-find_item-clause-told
 returns-in_default-find_item-clause-told c =
     let p = c.p.inside in
     rw (← c.p.view_is)
-    (second_unknown p.viewed.now.spec.grammar.core p.viewed.now.view.core c.p.invariant.formed (events_of p.run.now) c.p.invariant.run.accepted.0 c.args.query.now.first.now c.args.query.now.second.now
+    (second_unknown p.viewed.now.accepted.grammar.core p.viewed.now.view.core c.p.invariant.formed (events_of p.run.now) c.p.invariant.run.accepted.0 c.args.query.now.first.now c.args.query.now.second.now
     (named_item (names_in p.run.now.instances) c.args.query.now.first.now c.in-Some.a) (item_of_same c.grammar-g.ensures.grammar _ _ c.in-Some.ensures.found) refl (λ t h. c.in_default-find_item.ensures.none refl t (item_of_same (sym c.grammar-g.ensures.grammar) _ t h)))
 
 pub returns-then-not-shows-clause-told : goal.returns-then-not-shows-clause-told

@@ -16,7 +16,7 @@ use Rattle.cmd_ask.proofs.ask.answer_labels.Goals as goal
 
 pub returns-in_err-bytes-clause-obeys : goal.returns-in_err-bytes-clause-obeys
 returns-in_err-bytes-clause-obeys g c =
-    let h = c.args.v.now.spec.grammar in
+    let h = c.args.v.now.accepted.grammar in
     let d = c.in_err-bytes.field-0.0 in
     let none : Result (List Entry) Stop = Err d in
     obeys_passed _ _ _ _ _ _ c.from_residual.result d (err_from_is_err_and c.from_residual.result c.from_residual.ensures.1)
@@ -24,21 +24,21 @@ returns-in_err-bytes-clause-obeys g c =
 
 pub returns-in_err-store-clause-obeys : goal.returns-in_err-store-clause-obeys
 returns-in_err-store-clause-obeys g c =
-    let h = c.args.v.now.spec.grammar in
+    let h = c.args.v.now.accepted.grammar in
     let d = c.in_err-store.field-0.0 in
     let none : Result (List Entry) Stop = Err d in
     obeys_passed _ _ _ _ _ _ c.from_residual-in_err-store.result d (err_from_is_err_and c.from_residual-in_err-store.result c.from_residual-in_err-store.ensures.1)
     (labels_stop h _ _ _ _ _ (reads_on g.H.Shelf.at_last (TellsEntries h) (λ es. es) (OfWhole (RefusesLabels h)) _ _ _ c.deref.result.now c.in_ok-bytes.ensures.reads c.deref.ensures.value none tt
-    (subst (λ (s : AcceptedValue). Declines (codes "labels") (OfWhole (RefusesLabels s.grammar) c.deref.result.now) (end_of d)) c.spec.ensures.spec c.in_err-store.ensures.declines)))
+    (subst (λ (s : AcceptedValue). Declines (codes "labels") (OfWhole (RefusesLabels s.grammar) c.deref.result.now) (end_of d)) c.accepted.ensures.accepted c.in_err-store.ensures.declines)))
 
 pub answer_queries-requires : goal.answer_queries-requires
 answer_queries-requires g c =
-    let s = subst (λ (s : AcceptedValue). (entries : List Entry) × TellsEntries s.grammar c.deref.result.now entries × AreHeldOf s.grammar.core entries c.in_ok-store.store) c.spec.ensures.spec c.in_ok-store.ensures.store in
-    record { store = store_for c.args.v.now.spec.grammar c.deref.result.now s.0 c.in_ok-store.store s.1 s.2 }
+    let s = subst (λ (s : AcceptedValue). (entries : List Entry) × TellsEntries s.grammar c.deref.result.now entries × AreHeldOf s.grammar.core entries c.in_ok-store.store) c.accepted.ensures.accepted c.in_ok-store.ensures.store in
+    record { store = store_for c.args.v.now.accepted.grammar c.deref.result.now s.0 c.in_ok-store.store s.1 s.2 }
 
 pub returns-clause-obeys : goal.returns-clause-obeys
 returns-clause-obeys g c =
-    let h = c.args.v.now.spec.grammar in
-    let s = subst (λ (s : AcceptedValue). (entries : List Entry) × TellsEntries s.grammar c.deref.result.now entries × AreHeldOf s.grammar.core entries c.in_ok-store.store) c.spec.ensures.spec c.in_ok-store.ensures.store in
+    let h = c.args.v.now.accepted.grammar in
+    let s = subst (λ (s : AcceptedValue). (entries : List Entry) × TellsEntries s.grammar c.deref.result.now entries × AreHeldOf s.grammar.core entries c.in_ok-store.store) c.accepted.ensures.accepted c.in_ok-store.ensures.store in
     let all : Result (List Entry) Stop = Ok s.0 in
     labels_go h _ _ _ _ _ _ _ s.0 (reads_on g.H.Shelf.at_last (TellsEntries h) (λ es. es) (OfWhole (RefusesLabels h)) _ _ _ c.deref.result.now c.in_ok-bytes.ensures.reads c.deref.ensures.value all s.1 tt) (c.answer_queries.ensures.obeys s.0 s.2)

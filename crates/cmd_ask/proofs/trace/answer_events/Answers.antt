@@ -4,7 +4,8 @@ use Rattle.wf_flat.specs.Table.{events_of}
 use Rattle.wf_stage.proofs.Obeying.{obeys_passed}
 use Rattle.wf_inputs.proofs.Taking.{events_stop, events_go, with_grammar}
 use Rattle.cmd_ask.specs.Answers.{IsAnswerOfRun}
-use Rattle.cmd_ask.specs.Does.{AnswersRun, QueriesStage}
+use Rattle.wf_asking.specs.Queries.{QueriesStage}
+use Rattle.cmd_ask.specs.Does.{AnswersRun}
 use Rattle.cmd_ask.proofs.trace.answer_events.Goals as goal
 
 pub returns-in_err-run : goal.returns-in_err-run

@@ -1,31 +1,33 @@
+use Rattle.std.proofs.Common.{ap}
 use Rattle.std.proofs.lemmas.Result.{err_from_is_err_and}
+use Rattle.wf_accept.specs.Accepted.{AcceptedValue}
 use Rattle.hex.specs.Hex.{decode_of}
 use Rattle.wf_stage.proofs.Obeying.{obeys_passed, obeys_writing}
 use Rattle.wf_inputs.proofs.Taking.{spec_stops, spec_goes, view_stops, view_goes, with_grammar}
-use Rattle.cmd_decide.specs.Words.{bytes_in}
+use Rattle.label_words.specs.Digits.{bytes_in}
 use Rattle.cmd_decide.specs.Decided.{DecidesLabels}
 use Rattle.cmd_decide.proofs.decide.decide.Goals as goal
 
-pub returns-in_err-spec : goal.returns-in_err-spec
-returns-in_err-spec g c = record {
+pub returns-in_err-accepted : goal.returns-in_err-accepted
+returns-in_err-accepted g c = record {
   obeys =
-      obeys_passed _ _ _ _ _ _ c.from_residual.result c.in_err-spec.field-0.0 (err_from_is_err_and c.from_residual.result c.from_residual.ensures.1)
-      (spec_stops _ _ _ _ _ c.in_err-spec.ensures.reads);
+      obeys_passed _ _ _ _ _ _ c.from_residual.result c.in_err-accepted.field-0.0 (err_from_is_err_and c.from_residual.result c.from_residual.ensures.1)
+      (spec_stops _ _ _ _ _ c.in_err-accepted.ensures.reads);
 }
 
-pub returns-in_err-viewed : goal.returns-in_err-viewed
-returns-in_err-viewed g c = record {
+pub returns-in_err-safe : goal.returns-in_err-safe
+returns-in_err-safe g c = record {
   obeys =
-      obeys_passed _ _ _ _ _ _ c.from_residual-in_err-viewed.result c.in_err-viewed.field-0.0 (err_from_is_err_and c.from_residual-in_err-viewed.result c.from_residual-in_err-viewed.ensures.1)
-      (spec_goes _ _ _ _ _ _ _ _ c.in_ok-spec.ensures.reads (view_stops c.in_ok-spec.spec.grammar.core _ _ _ _ _ c.in_err-viewed.ensures.reads));
+      obeys_passed _ _ _ _ _ _ c.from_residual-in_err-safe.result c.in_err-safe.field-0.0 (err_from_is_err_and c.from_residual-in_err-safe.result c.from_residual-in_err-safe.ensures.1)
+      (spec_goes _ _ _ _ _ _ _ _ c.in_ok-accepted.ensures.reads (view_stops c.in_ok-accepted.accepted.grammar.core _ _ _ _ _ c.in_err-safe.ensures.reads));
 }
 
 pub returns : goal.returns
 returns g c = record {
   obeys =
-      let first = bytes_in (decode_of c.args.words.now.first.now) in
-      let second = bytes_in (decode_of c.args.words.now.second.now) in
-      spec_goes _ _ _ _ _ _ _ _ c.in_ok-spec.ensures.reads
-      (view_goes c.in_ok-spec.spec.grammar.core _ _ _ _ _ _ _ _ c.in_ok-viewed.ensures.reads
-      (with_grammar _ (λ f x. DecidesLabels x.core c.in_ok-viewed.viewed.view.core first second) _ _ _ _ _ _ _ c.in_ok-viewed.ensures.grammar (obeys_writing _ _ _ _ _ _ c.put_verdict.ensures.writes)));
+      let first = bytes_in (decode_of c.args.words.now.first.word.now) in
+      let second = bytes_in (decode_of c.args.words.now.second.word.now) in
+      spec_goes _ _ _ _ _ _ _ _ c.in_ok-accepted.ensures.reads
+      (view_goes c.in_ok-accepted.accepted.grammar.core _ _ _ _ _ _ _ _ c.in_ok-safe.ensures.reads
+      (with_grammar _ (λ f x. DecidesLabels x.core c.in_ok-safe.safe.view.core first second) _ _ _ _ _ _ _ (ap (λ (a : AcceptedValue). a.grammar) c.in_ok-safe.ensures.accepted) (obeys_writing _ _ _ _ _ _ c.put_verdict.ensures.writes)));
 }

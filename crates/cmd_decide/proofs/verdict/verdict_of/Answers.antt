@@ -1,16 +1,13 @@
-use Rattle.std.proofs.Common.{◌∙◌, ap, subst, sym}
+use Rattle.std.proofs.Common.{subst, sym}
 use Rattle.wf_model.specs.Grammar.{Grammar}
 use Rattle.label_model.specs.Labels.{IsLabel}
 use Rattle.verdict_model.specs.Verdicts.{IsVerdict}
-use Rattle.wf_spec.specs.Held.{HeldGrammar}
-use Rattle.wf_view.specs.Held.{HeldView}
-use Rattle.wf_vlabel.specs.Seen.{IsLabelOfView}
 use Rattle.cmd_decide.proofs.verdict.verdict_of.Goals as goal
 
 -- the view label is of the same grammar and the same view
 pub returns-clause-verdict : goal.returns-clause-verdict
 returns-clause-verdict c x y first second of other =
-    let same = c.in-Ok.ensures.grammar ∙ ap (λ (h : HeldGrammar). h.core) c.linear.ensures.grammar in
-    let label = subst (λ (u : HeldView). IsLabelOfView c.in-Ok.label u.core) c.view.ensures.view c.in-Ok.ensures.label in
+    let same = c.in-Ok.ensures.grammar in
+    let label = c.in-Ok.ensures.label in
     subst (λ (g : Grammar). IsVerdict g c.args.v.now.view.core x y c.decided.result) same
     (c.decided.ensures c.args.v.now.view.core x y label (subst (λ (g : Grammar). IsLabel g x) (sym same) first) (subst (λ (g : Grammar). IsLabel g y) (sym same) second) of other)

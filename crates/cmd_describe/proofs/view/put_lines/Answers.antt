@@ -14,13 +14,13 @@ returns-in_err-put_module g c =
     let test = c.loop-k-test.true in
     record {
       writes = writes_passed _ _ _ _ c.from_residual.result c.in_err-put_module.field-0.0 (err_from_is_err_and c.from_residual.result c.from_residual.ensures.1)
-          (line_stops v.spec.grammar.core v.view v.full c.grammar.ensures.taken.viewed c.loop-k.k (omega arith) (end_of c.in_err-put_module.field-0.0) _ _ _ c.loop-k.invariant (stop_is_not_done c.in_err-put_module.field-0.0) c.in_err-put_module.ensures.writes);
+          (line_stops v.accepted.grammar.core v.view v.full c.grammar.ensures.safe.accepted.proper c.grammar.ensures.safe.held c.grammar.ensures.safe.full c.loop-k.k (omega arith) (end_of c.in_err-put_module.field-0.0) _ _ _ c.loop-k.invariant (stop_is_not_done c.in_err-put_module.field-0.0) c.in_err-put_module.ensures.writes);
     }
 
 pub loop-k-preserved : goal.loop-k-preserved
 loop-k-preserved g c =
     let v = c.args.v.now in
-    line_more v.spec.grammar.core v.view v.full c.grammar.ensures.taken.viewed c.loop-k.k _ _ _ c.loop-k.invariant c.in_ok-put_module.ensures.writes
+    line_more v.accepted.grammar.core v.view v.full c.grammar.ensures.safe.accepted.proper c.grammar.ensures.safe.held c.grammar.ensures.safe.full c.loop-k.k _ _ _ c.loop-k.invariant c.in_ok-put_module.ensures.writes
 
 pub returns : goal.returns
 returns g c =
@@ -28,4 +28,4 @@ returns g c =
     let count = ap length c.modules-count.ensures.modules ∙ ap (λ (g : HeldGrammar). length g.core.modules) c.grammar.ensures.grammar in
     let test = c.loop-k-test.false in
     let most = c.loop-k.auto.k-end in
-    record { writes = lines_put v.spec.grammar.core v.view v.full c.grammar.ensures.taken.viewed c.loop-k.k (omega arith) _ _ c.loop-k.invariant }
+    record { writes = lines_put v.accepted.grammar.core v.view v.full c.grammar.ensures.safe.accepted.proper c.grammar.ensures.safe.held c.grammar.ensures.safe.full c.loop-k.k (omega arith) _ _ c.loop-k.invariant }

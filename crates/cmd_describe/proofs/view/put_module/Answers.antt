@@ -11,7 +11,7 @@ pub returns-then-not-seen : goal.returns-then-not-seen
 returns-then-not-seen g c = record {
   writes =
       let flag = c.seen.ensures ∙ ap (λ (v : HeldView). get_or v.seen c.args.m.0 false) c.view.ensures.view in
-      writes_nothing _ (ap (λ b. cond b (module_line c.args.v.now.spec.grammar.core c.args.v.now.view.core (pairs_of c.args.v.now.full) c.args.m.0) []) (sym flag ∙ c.if-not-seen.true)) _;
+      writes_nothing _ (ap (λ b. cond b (module_line c.args.v.now.accepted.grammar.core c.args.v.now.view.core (pairs_of c.args.v.now.full) c.args.m.0) []) (sym flag ∙ c.if-not-seen.true)) _;
 }
 
 pub returns-in_default : goal.returns-in_default
@@ -25,6 +25,6 @@ returns g c = record {
   writes =
       let flag = c.seen.ensures ∙ ap (λ (v : HeldView). get_or v.seen c.args.m.0 false) c.view.ensures.view in
       writes_text _ _
-      (line_made (module_line c.args.v.now.spec.grammar.core c.args.v.now.view.core (pairs_of c.args.v.now.full) c.args.m.0) _ _ c.deref.result.now _
+      (line_made (module_line c.args.v.now.accepted.grammar.core c.args.v.now.view.core (pairs_of c.args.v.now.full) c.args.m.0) _ _ c.deref.result.now _
       (sym flag ∙ c.if-not-seen.false) c.clear.ensures.items c.in-Ok.ensures c.deref.ensures.value) _ _ _ c.put_text.ensures.writes;
 }

@@ -5,4 +5,4 @@ use Rattle.cmd_describe.proofs.view_text.add_pairs.Goals as goal
 
 pub loop-i-preserved : goal.loop-i-preserved
 loop-i-preserved c =
-    text_more (row_text c.args.v.now.spec.grammar.core (pairs_of c.args.v.now.full) c.args.m.0) c.loop-i.i _ _ _ c.loop-i.invariant c.in_ok-add_row.ensures
+    text_more (row_text c.args.v.now.accepted.grammar.core (pairs_of c.args.v.now.full) c.args.m.0) c.loop-i.i _ _ _ c.loop-i.invariant c.in_ok-add_row.ensures

@@ -6,4 +6,4 @@ use Rattle.cmd_describe.proofs.view_text.add_row.Goals as goal
 
 pub loop-o-preserved : goal.loop-o-preserved
 loop-o-preserved c =
-    text_more (λ o. cond (pairs_of c.args.v.now.full c.args.m.0 c.args.i.0 o) (pair_text c.args.v.now.spec.grammar.core c.args.m.0 c.args.i.0 o) []) c.loop-o.o _ _ _ c.loop-o.invariant c.in_ok-add_joined.ensures
+    text_more (λ o. cond (pairs_of c.args.v.now.full c.args.m.0 c.args.i.0 o) (pair_text c.args.v.now.accepted.grammar.core c.args.m.0 c.args.i.0 o) []) c.loop-o.o _ _ _ c.loop-o.invariant c.in_ok-add_joined.ensures

@@ -1,14 +1,14 @@
-use Rattle.std.proofs.Common.{sym, ap, ◌∙◌, subst}
+use Rattle.std.proofs.Common.{refl, sym, ap, ◌∙◌, subst}
 use Rattle.std.specs.Prelude.{codes}
 use Rattle.wf_io.specs.Lines.{FileLines, lines_in}
-use Rattle.wf_lines.specs.Taking.{end_at}
-use Rattle.wf_lines.proofs.Openings.{told_opened}
+use Rattle.wf_lines.specs.Taking.{IsWritingFault, end_at}
+use Rattle.wf_lines.proofs.Openings.{told_opened, opened_reading, opened_once}
 use Rattle.cmd_ingest.specs.declared.label_lines.Labelling.{Labelling}
 use Rattle.wf_run.specs.Runs.{IsRunOf}
 use Rattle.wf_stage.specs.Ends.{EndsBehind}
 use Rattle.wf_stage.specs.Causes.{IsCause}
 use Rattle.wf_stage.specs.LineEnds.{line_ends, end_of_fault, told_end}
-use Rattle.wf_stage.proofs.LineEnds.{fault_of_outcome, fault_caused}
+use Rattle.wf_stage.proofs.LineEnds.{fault_of_outcome, fault_caused, writing_of_lines}
 use Rattle.wf_stage.proofs.Obeying.{obeys_wanting}
 use Rattle.wf_laws.proofs.Accepted.{none_taken}
 use Rattle.wf_inputs.specs.Inputs.{instance_most}
@@ -50,6 +50,7 @@ returns-in-Ok-take_lines g c =
             (λ st. taken.taken f told st (none_taken_of h) at));
         cause = (taken.same, taken.put_same);
         same = c.take_lines.ensures.files;
+        in_turn = (_, opened_once _ _ c.in-Ok.ensures _ _ c.take_lines.ensures.once, refl);
         later = c.take_lines.ensures.later;
         put_later = c.take_lines.ensures.put_later;
       };
@@ -68,12 +69,16 @@ returns g c =
       obeys = record {
         ends = λ f told.
             subst (λ e. EndsBehind (file_head h) (Made h (lines_in (f c.args.name.now))) e (g.O.Sink.put_bytes c.args.out.now) (g.O.Sink.put_bytes c.take_lines.new.out)) (sym c.events_stop.ensures)
-            (stopped_at h (lines_in (f c.args.name.now)) (end_at (line_ends word) (λ stop. told_end (event_end stop)) fault) (end_of_fault event_end word fault) _ _ (fault_of_outcome event_end word fault)
-            (told_opened (λ (file : FileLines). AreLabelledTo h file (end_at (line_ends word) (λ stop. told_end (event_end stop)) fault) (g.O.Sink.put_bytes c.args.out.now) (g.O.Sink.put_bytes c.take_lines.new.out)) f c.args.name.now c.in-Ok.lines c.in-Ok.ensures
+            (stopped_at h (lines_in (f c.args.name.now)) (end_at (line_ends word) (λ stop. told_end (event_end stop)) fault) (end_of_fault event_end word fault) (IsWritingFault fault) _ _ (fault_of_outcome event_end word fault) (writing_of_lines event_end word fault c.in-Err.ensures.fault)
+            (told_opened (λ (file : FileLines). AreLabelledTo h file (end_at (line_ends word) (λ stop. told_end (event_end stop)) fault) (IsWritingFault fault) (g.O.Sink.put_bytes c.args.out.now) (g.O.Sink.put_bytes c.take_lines.new.out)) f c.args.name.now c.in-Ok.lines c.in-Ok.ensures
             (λ st. c.in-Err.ensures.stopped f told st (none_taken_of h) at (events_one_way file_of) (events_begin file_of file_more) events_closed_one_way (none_taken h instance_most))));
         cause = subst (IsCause _ _ _ _ _ _) (sym c.events_stop.ensures) (fault_caused event_end word _ _ _ _ _ _ fault c.in-Err.ensures.fault c.in-Err.ensures.cause);
         same = c.take_lines.ensures.files;
+        in_turn = (_, opened_once _ _ c.in-Ok.ensures _ _ c.take_lines.ensures.once, refl);
         later = c.take_lines.ensures.later;
         put_later = c.take_lines.ensures.put_later;
       };
     }
+
+pub take_lines-requires-clause-reading : goal.take_lines-requires-clause-reading
+take_lines-requires-clause-reading g c = opened_reading _ _ c.in-Ok.ensures _

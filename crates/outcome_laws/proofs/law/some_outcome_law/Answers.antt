@@ -1,5 +1,5 @@
-use Rattle.outcome_laws.proofs.SomeOutcomes
+use Rattle.outcome_laws.proofs.OutcomeLaws
 use Rattle.outcome_laws.proofs.law.some_outcome_law.Goals as goal
 
 pub returns : goal.returns
-returns c = SomeOutcomes.some_outcome_law
+returns c = OutcomeLaws.some_outcome c.some_outcome.ensures

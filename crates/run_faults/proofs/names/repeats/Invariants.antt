@@ -3,4 +3,4 @@ use Rattle.wf_model.specs.Faults.{some_twice}
 use Rattle.run_faults.proofs.names.repeats.Given as goal
 
 abbrev pub invariant-loop-k : goal.invariant-loop-k
-invariant-loop-k g l = some_twice (g.T.Taken.names l.taken ++ take l.k l.names) (drop l.k l.names) ≡ some_twice (g.T.Taken.names l.taken) l.names
+invariant-loop-k g l = some_twice (l.taken ++ take l.k l.names) (drop l.k l.names) ≡ some_twice l.taken l.names

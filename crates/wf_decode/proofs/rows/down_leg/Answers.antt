@@ -11,4 +11,4 @@ pub returns-in-Into : goal.returns-in-Into
 returns-in-Into g c =
     let v = matrices_of c.args.vl.now in
     subst (λ leg. Progress (leg_down v (leg_of c.args.vl.now leg)) c.args.row c.row_times.result c.args.steps.now c.row_times.new.steps) (sym c.in-Into.is)
-    (progress_one (v.into (step_of c.in-Into.step)) c.args.row c.row_times.result c.args.steps.now c.row_times.new.steps (rw c.into_position.ensures at c.row_times.ensures.union) c.row_times.ensures.cost)
+    (progress_one (v.into (step_of c.in-Into.step)) c.args.row c.row_times.result c.args.steps.now c.row_times.new.steps (rw c.into_position.ensures.same at c.row_times.ensures.union) c.row_times.ensures.cost)

@@ -15,9 +15,9 @@ returns-in_err-put_instances g c =
     let t = c.args.run.now in
     let first = instances_text h u (events_of t) in
     let rest = held_items_text h t c.args.shown.now.opens ++ held_links_text h t c.args.shown.now.links in
-    subst (λ x. Adds g.O.Sink.put_bytes g.O.Sink.faults g.O.Sink.at_last x c.args.text.now.items c.put_instances.new.text.items c.args.out.now c.put_instances.new.out c.from_residual.result) (text_told h u t c.args.shown.now c.requires)
-    (passed g.O.Sink.put_bytes g.O.Sink.faults g.O.Sink.at_last (first ++ rest) c.args.text.now.items c.put_instances.new.text.items c.args.out.now c.put_instances.new.out c.from_residual.result c.in_err-put_instances.field-0.0 (err_from_is_err_and c.from_residual.result c.from_residual.ensures.1)
-    (stopped_longer g.O.Sink.put_bytes g.O.Sink.faults g.O.Sink.at_last first rest c.args.text.now.items c.args.out.now c.put_instances.new.out c.in_err-put_instances.field-0.0 c.in_err-put_instances.ensures))
+    subst (λ x. Adds g.O.Sink.put_bytes g.O.Sink.faults g.O.Sink.at_last x c.args.due.now c.put_instances.new.due c.args.out.now c.put_instances.new.out c.from_residual.result) (text_told h u t c.args.shown.now c.requires)
+    (passed g.O.Sink.put_bytes g.O.Sink.faults g.O.Sink.at_last (first ++ rest) c.args.due.now c.put_instances.new.due c.args.out.now c.put_instances.new.out c.from_residual.result c.in_err-put_instances.field-0.0 (err_from_is_err_and c.from_residual.result c.from_residual.ensures.1)
+    (stopped_longer g.O.Sink.put_bytes g.O.Sink.faults g.O.Sink.at_last first rest c.args.due.now c.args.out.now c.put_instances.new.out c.in_err-put_instances.field-0.0 c.in_err-put_instances.ensures))
 
 pub returns-in_err-put_items : goal.returns-in_err-put_items
 returns-in_err-put_items g c =
@@ -27,10 +27,10 @@ returns-in_err-put_items g c =
     let first = instances_text h u (events_of t) in
     let items = held_items_text h t c.args.shown.now.opens in
     let last = held_links_text h t c.args.shown.now.links in
-    subst (λ x. Adds g.O.Sink.put_bytes g.O.Sink.faults g.O.Sink.at_last x c.args.text.now.items c.put_items.new.text.items c.args.out.now c.put_items.new.out c.from_residual-in_err-put_items.result) (text_told h u t c.args.shown.now c.requires)
-    (passed g.O.Sink.put_bytes g.O.Sink.faults g.O.Sink.at_last (first ++ (items ++ last)) c.args.text.now.items c.put_items.new.text.items c.args.out.now c.put_items.new.out c.from_residual-in_err-put_items.result c.in_err-put_items.field-0.0 (err_from_is_err_and c.from_residual-in_err-put_items.result c.from_residual-in_err-put_items.ensures.1)
-    (stopped_after g.O.Sink.put_bytes g.O.Sink.faults g.O.Sink.at_last first (items ++ last) c.args.text.now.items c.put_instances.new.text.items c.args.out.now c.put_instances.new.out c.put_items.new.out c.in_err-put_items.field-0.0 c.in_ok-put_instances.ensures
-    (stopped_longer g.O.Sink.put_bytes g.O.Sink.faults g.O.Sink.at_last items last c.put_instances.new.text.items c.put_instances.new.out c.put_items.new.out c.in_err-put_items.field-0.0 c.in_err-put_items.ensures)))
+    subst (λ x. Adds g.O.Sink.put_bytes g.O.Sink.faults g.O.Sink.at_last x c.args.due.now c.put_items.new.due c.args.out.now c.put_items.new.out c.from_residual-in_err-put_items.result) (text_told h u t c.args.shown.now c.requires)
+    (passed g.O.Sink.put_bytes g.O.Sink.faults g.O.Sink.at_last (first ++ (items ++ last)) c.args.due.now c.put_items.new.due c.args.out.now c.put_items.new.out c.from_residual-in_err-put_items.result c.in_err-put_items.field-0.0 (err_from_is_err_and c.from_residual-in_err-put_items.result c.from_residual-in_err-put_items.ensures.1)
+    (stopped_after g.O.Sink.put_bytes g.O.Sink.faults g.O.Sink.at_last first (items ++ last) c.args.due.now c.put_instances.new.due c.args.out.now c.put_instances.new.out c.put_items.new.out c.in_err-put_items.field-0.0 c.in_ok-put_instances.ensures
+    (stopped_longer g.O.Sink.put_bytes g.O.Sink.faults g.O.Sink.at_last items last c.put_instances.new.due c.put_instances.new.out c.put_items.new.out c.in_err-put_items.field-0.0 c.in_err-put_items.ensures)))
 
 pub returns : goal.returns
 returns g c =
@@ -40,6 +40,6 @@ returns g c =
     let first = instances_text h u (events_of t) in
     let items = held_items_text h t c.args.shown.now.opens in
     let last = held_links_text h t c.args.shown.now.links in
-    subst (λ x. Adds g.O.Sink.put_bytes g.O.Sink.faults g.O.Sink.at_last x c.args.text.now.items c.put_links.new.text.items c.args.out.now c.put_links.new.out c.put_links.result) (text_told h u t c.args.shown.now c.requires)
-    (adds_after g.O.Sink.put_bytes g.O.Sink.faults g.O.Sink.at_last first (items ++ last) c.args.text.now.items c.put_instances.new.text.items c.put_links.new.text.items c.args.out.now c.put_instances.new.out c.put_links.new.out c.put_links.result c.in_ok-put_instances.ensures
-    (adds_after g.O.Sink.put_bytes g.O.Sink.faults g.O.Sink.at_last items last c.put_instances.new.text.items c.put_items.new.text.items c.put_links.new.text.items c.put_instances.new.out c.put_items.new.out c.put_links.new.out c.put_links.result c.in_ok-put_items.ensures c.put_links.ensures))
+    subst (λ x. Adds g.O.Sink.put_bytes g.O.Sink.faults g.O.Sink.at_last x c.args.due.now c.put_links.new.due c.args.out.now c.put_links.new.out c.put_links.result) (text_told h u t c.args.shown.now c.requires)
+    (adds_after g.O.Sink.put_bytes g.O.Sink.faults g.O.Sink.at_last first (items ++ last) c.args.due.now c.put_instances.new.due c.put_links.new.due c.args.out.now c.put_instances.new.out c.put_links.new.out c.put_links.result c.in_ok-put_instances.ensures
+    (adds_after g.O.Sink.put_bytes g.O.Sink.faults g.O.Sink.at_last items last c.put_instances.new.due c.put_items.new.due c.put_links.new.due c.put_instances.new.out c.put_items.new.out c.put_links.new.out c.put_links.result c.in_ok-put_items.ensures c.put_links.ensures))

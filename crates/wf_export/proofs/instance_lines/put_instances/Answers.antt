@@ -43,7 +43,7 @@ returns-in_err-put_instance g c =
     let more = subst (λ (l : List ℕ). c.loop-k.k-index < length l) c.seen-k-items.ensures c.loop-k-test.true in
     first_passed g.O.Sink.put_bytes g.O.Sink.faults g.O.Sink.at_last (numbered_line h u t.instances) ns (instances_text h u (events_of t)) (lines_told h u t c.args.shown.now c.requires)
     c.loop-k.k-index 0 (held_instance_line h u c.index-instances-k.result) more (ap (held_instance_line h u) same)
-    c.args.text.now.items c.loop-k.text.items c.put_instance.new.text.items c.args.out.now c.loop-k.out c.put_instance.new.out c.from_residual.result c.in_err-put_instance.field-0.0 (err_from_is_err_and c.from_residual.result c.from_residual.ensures.1)
+    c.args.due.now c.loop-k.due c.put_instance.new.due c.args.out.now c.loop-k.out c.put_instance.new.out c.from_residual.result c.in_err-put_instance.field-0.0 (err_from_is_err_and c.from_residual.result c.from_residual.ensures.1)
     c.loop-k.invariant c.in_err-put_instance.ensures
 
 pub loop-k-preserved : goal.loop-k-preserved
@@ -59,7 +59,7 @@ loop-k-preserved g c =
     let same = read_told c.instances-instances.result.now t.instances s ns c.loop-k.k-index c.index-instances-k.result c.instances-instances.ensures.instances c.seen-k-items.ensures held c.index-instances-k.is in
     let more = subst (λ (l : List ℕ). c.loop-k.k-index < length l) c.seen-k-items.ensures c.loop-k-test.true in
     first_more g.O.Sink.put_bytes g.O.Sink.faults g.O.Sink.at_last (numbered_line h u t.instances) ns c.loop-k.k-index 0 (held_instance_line h u c.index-instances-k.result) more (ap (held_instance_line h u) same)
-    c.args.text.now.items c.loop-k.text.items c.put_instance.new.text.items c.args.out.now c.loop-k.out c.put_instance.new.out c.loop-k.invariant c.in_ok-put_instance.ensures
+    c.args.due.now c.loop-k.due c.put_instance.new.due c.args.out.now c.loop-k.out c.put_instance.new.out c.loop-k.invariant c.in_ok-put_instance.ensures
 
 pub returns : goal.returns
 returns g c =
@@ -68,4 +68,4 @@ returns g c =
     let u = c.args.view.now.core in
     first_whole g.O.Sink.put_bytes g.O.Sink.faults g.O.Sink.at_last (numbered_line h u t.instances) c.args.shown.now.numbers (instances_text h u (events_of t)) (lines_told h u t c.args.shown.now c.requires)
     c.loop-k.k-index (subst (λ (l : List ℕ). length l ≤ c.loop-k.k-index) c.seen-k-items.ensures c.loop-k-test.false)
-    c.args.text.now.items c.loop-k.text.items c.args.out.now c.loop-k.out c.loop-k.invariant
+    c.args.due.now c.loop-k.due c.args.out.now c.loop-k.out c.loop-k.invariant

@@ -30,7 +30,7 @@ returns-in_err-put_expansion g c =
     first_passed g.O.Sink.put_bytes g.O.Sink.faults g.O.Sink.at_last (expansion_lines h t.instances flags) t.order (flat_map (expansion_lines h t.instances flags) t.order) refl
     c.loop-o.o-index no_opened (expansion_lines h c.instances-instances.result.now flags o) (subst (λ (l : List Opened). c.loop-o.o-index < length l) c.order-o-items.ensures c.loop-o-test.true)
     (ap (λ (l : List Inst). expansion_lines h l flags o) c.instances-instances.ensures.instances ∙ ap (λ (l : List Opened). expansion_lines h t.instances flags (get_or l c.loop-o.o-index no_opened)) c.order-o-items.ensures)
-    c.args.text.now.items c.loop-o.text.items c.put_expansion.new.text.items c.args.out.now c.loop-o.out c.put_expansion.new.out c.from_residual.result c.in_err-put_expansion.field-0.0 (err_from_is_err_and c.from_residual.result c.from_residual.ensures.1)
+    c.args.due.now c.loop-o.due c.put_expansion.new.due c.args.out.now c.loop-o.out c.put_expansion.new.out c.from_residual.result c.in_err-put_expansion.field-0.0 (err_from_is_err_and c.from_residual.result c.from_residual.ensures.1)
     c.loop-o.invariant c.in_err-put_expansion.ensures
 
 pub loop-o-preserved : goal.loop-o-preserved
@@ -44,4 +44,4 @@ loop-o-preserved g c =
     first_more g.O.Sink.put_bytes g.O.Sink.faults g.O.Sink.at_last (expansion_lines h t.instances flags) t.order
     c.loop-o.o-index no_opened (expansion_lines h c.instances-instances.result.now flags o) (subst (λ (l : List Opened). c.loop-o.o-index < length l) c.order-o-items.ensures c.loop-o-test.true)
     (ap (λ (l : List Inst). expansion_lines h l flags o) c.instances-instances.ensures.instances ∙ ap (λ (l : List Opened). expansion_lines h t.instances flags (get_or l c.loop-o.o-index no_opened)) c.order-o-items.ensures)
-    c.args.text.now.items c.loop-o.text.items c.put_expansion.new.text.items c.args.out.now c.loop-o.out c.put_expansion.new.out c.loop-o.invariant c.in_ok-put_expansion.ensures
+    c.args.due.now c.loop-o.due c.put_expansion.new.due c.args.out.now c.loop-o.out c.put_expansion.new.out c.loop-o.invariant c.in_ok-put_expansion.ensures

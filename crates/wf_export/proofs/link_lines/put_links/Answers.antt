@@ -34,7 +34,7 @@ returns-in_err-put_link g c =
     first_passed g.O.Sink.put_bytes g.O.Sink.faults g.O.Sink.at_last (held_link_line h t.instances) c.args.shown.now.links (held_links_text h t c.args.shown.now.links) refl
     c.loop-link.link-index no_link (held_link_line h c.instances-instances.result.now l) (subst (λ (ls : List Link). c.loop-link.link-index < length ls) c.links-link-items.ensures c.loop-link-test.true)
     (ap (λ (xs : List Inst). held_link_line h xs l) c.instances-instances.ensures.instances ∙ ap (λ (ls : List Link). held_link_line h t.instances (get_or ls c.loop-link.link-index no_link)) c.links-link-items.ensures)
-    c.args.text.now.items c.loop-link.text.items c.put_link.new.text.items c.args.out.now c.loop-link.out c.put_link.new.out c.from_residual.result c.in_err-put_link.field-0.0 (err_from_is_err_and c.from_residual.result c.from_residual.ensures.1)
+    c.args.due.now c.loop-link.due c.put_link.new.due c.args.out.now c.loop-link.out c.put_link.new.out c.from_residual.result c.in_err-put_link.field-0.0 (err_from_is_err_and c.from_residual.result c.from_residual.ensures.1)
     c.loop-link.invariant c.in_err-put_link.ensures
 
 pub loop-link-preserved : goal.loop-link-preserved
@@ -45,7 +45,7 @@ loop-link-preserved g c =
     first_more g.O.Sink.put_bytes g.O.Sink.faults g.O.Sink.at_last (held_link_line h t.instances) c.args.shown.now.links
     c.loop-link.link-index no_link (held_link_line h c.instances-instances.result.now l) (subst (λ (ls : List Link). c.loop-link.link-index < length ls) c.links-link-items.ensures c.loop-link-test.true)
     (ap (λ (xs : List Inst). held_link_line h xs l) c.instances-instances.ensures.instances ∙ ap (λ (ls : List Link). held_link_line h t.instances (get_or ls c.loop-link.link-index no_link)) c.links-link-items.ensures)
-    c.args.text.now.items c.loop-link.text.items c.put_link.new.text.items c.args.out.now c.loop-link.out c.put_link.new.out c.loop-link.invariant c.in_ok-put_link.ensures
+    c.args.due.now c.loop-link.due c.put_link.new.due c.args.out.now c.loop-link.out c.put_link.new.out c.loop-link.invariant c.in_ok-put_link.ensures
 
 pub returns : goal.returns
 returns g c =
@@ -53,4 +53,4 @@ returns g c =
     let t = c.args.run.now in
     first_whole g.O.Sink.put_bytes g.O.Sink.faults g.O.Sink.at_last (held_link_line h t.instances) c.args.shown.now.links (held_links_text h t c.args.shown.now.links) refl
     c.loop-link.link-index (subst (λ (ls : List Link). length ls ≤ c.loop-link.link-index) c.links-link-items.ensures c.loop-link-test.false)
-    c.args.text.now.items c.loop-link.text.items c.args.out.now c.loop-link.out c.loop-link.invariant
+    c.args.due.now c.loop-link.due c.args.out.now c.loop-link.out c.loop-link.invariant

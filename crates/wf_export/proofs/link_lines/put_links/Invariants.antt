@@ -4,4 +4,4 @@ use Rattle.wf_export.proofs.link_lines.put_links.Given as goal
 
 -- the lines of those so far
 abbrev pub invariant-loop-link : goal.invariant-loop-link
-invariant-loop-link g l = AddsFirst g.O.Sink.put_bytes g.O.Sink.faults g.O.Sink.at_last (held_link_line l.g.core l.run.instances) l.shown.links l.link-index l.initial.text.items l.text.items l.initial.out l.out
+invariant-loop-link g l = AddsFirst g.O.Sink.put_bytes g.O.Sink.faults g.O.Sink.at_last (held_link_line l.g.core l.run.instances) l.shown.links l.link-index l.initial.due l.due l.initial.out l.out

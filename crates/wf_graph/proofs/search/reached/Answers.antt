@@ -1,64 +1,57 @@
-use Rattle.std.proofs.Common.{◌<◌, ◌≤◌, refl, sym, subst, ap, ◌∙◌, arith, length, false, length-append, ◌∷◌, []}
-use Rattle.std.proofs.lemmas.List.{get_or_read, length-replicate}
-use Rattle.wf_model.specs.Lists.{IsIn}
-use Rattle.wf_graph.specs.Graph.{nexts}
-use Rattle.wf_graph.specs.Search.{MetAll}
-use Rattle.wf_graph.proofs.Searching.{search_first, search_more, search_end, nexts_read, queue_below}
+use Rattle.std.proofs.Common.{◌<◌, ◌≤◌, ◌∙◌, sym, subst, ap, arith, length, get_or}
+use Rattle.wf_model.specs.Lists.{Walk}
+use Rattle.wf_graph.specs.Graph.{HasEdge, nexts}
+use Rattle.wf_graph.specs.Search.{IsSearch, IsBegun}
+use Rattle.wf_graph.proofs.Searching.{queue_below, first_same, not_fewer, search_one, search_more, reached_marked, marked_reached}
 use Rattle.wf_graph.proofs.search.reached.Goals as goal
 
-pub loop-done-init : goal.loop-done-init
-loop-done-init c =
+pub loop-search-init : goal.loop-search-init
+loop-search-init c =
     let graph = c.args.graph.now in
-    let none = c.in_ok-marks.ensures.items_if_clones_equal (λ y e. e) in
+    let s = c.restart.new.self in
+    let begun = subst (λ n. IsBegun n c.args.from s.marks.items s.queue.items s.done) c.in_ok-search.ensures.count c.in_ok-restart.ensures.begun in
     record {
-      search = search_first graph c.args.from (length graph) c.in_ok-marks.marks.items _ _ none refl (ap length none ∙ length-replicate (length graph) false) (subst (λ l. MetAll c.in_ok-marks.marks.items l (c.args.from ∷ []) c.meet.new.marks.items c.meet.new.queue.items) c.new-queue.ensures.items c.in_ok-meet.ensures);
-      within = omega arith;
+      search = search_one (nexts graph) (length graph) c.args.from s.marks.items s.queue.items s.done begun;
+      first = ap (λ l. get_or l 0 0) begun.queued;
+      some = omega (arith, ap length begun.queued);
     }
 
-pub bounds-graph-v : goal.bounds-graph-v
-bounds-graph-v c =
+pub go_on-requires-clause-vertex : goal.go_on-requires-clause-vertex
+go_on-requires-clause-vertex c =
     let graph = c.args.graph.now in
-    let m = c.loop-done.marks.items in
-    let q = c.loop-done.queue.items in
-    let s = c.loop-done.invariant.search in
-    let h = subst (λ n. c.loop-done.done < n) (c.len.ensures ∙ c.loop-done.queue.ok.0) c.loop-done-test.true in
-    let v = get_or_read q c.loop-done.done c.index.result.now h c.index.ensures 0 in
-    let below = subst (λ n. n < length graph) (sym v) (queue_below graph c.args.from m q c.loop-done.done s c.loop-done.done h) in
-    below
+    let s = c.loop-search.search in
+    let left = subst (λ n. s.done < n) (c.len.ensures ∙ s.queue.ok.0) c.loop-search-test.true in
+    queue_below (nexts graph) (length graph) s.marks.items s.queue.items s.done c.loop-search.invariant.search s.done left
 
-pub meet_all-requires : goal.meet_all-requires
-meet_all-requires c = λ w i.
-    let graph = c.args.graph.now in
-    let m = c.loop-done.marks.items in
-    let q = c.loop-done.queue.items in
-    let s = c.loop-done.invariant.search in
-    let h = subst (λ n. c.loop-done.done < n) (c.len.ensures ∙ c.loop-done.queue.ok.0) c.loop-done-test.true in
-    let v = get_or_read q c.loop-done.done c.index.result.now h c.index.ensures 0 in
-    let below = subst (λ n. n < length graph) (sym v) (queue_below graph c.args.from m q c.loop-done.done s c.loop-done.done h) in
-    let next = nexts_read graph c.index.result.now c.index-graph-v.result below c.index-graph-v.is ∙ sym c.deref.ensures.value in
-    subst (λ n. w < n) (sym s.count) (c.requires.in_range c.index.result.now w (subst (IsIn w) (sym next) i))
+pub go_on-requires-clause-in_range : goal.go_on-requires-clause-in_range
+go_on-requires-clause-in_range c = λ w i.
+    let s = c.loop-search.search in
+    subst (λ n. w < n) (sym c.loop-search.invariant.search.count) (c.requires.in_range (get_or s.queue.items s.done 0) w i)
 
-pub loop-done-preserved : goal.loop-done-preserved
-loop-done-preserved c =
+pub loop-search-preserved : goal.loop-search-preserved
+loop-search-preserved c =
     let graph = c.args.graph.now in
-    let m = c.loop-done.marks.items in
-    let q = c.loop-done.queue.items in
-    let s = c.loop-done.invariant.search in
-    let h = subst (λ n. c.loop-done.done < n) (c.len.ensures ∙ c.loop-done.queue.ok.0) c.loop-done-test.true in
-    let v = get_or_read q c.loop-done.done c.index.result.now h c.index.ensures 0 in
-    let below = subst (λ n. n < length graph) (sym v) (queue_below graph c.args.from m q c.loop-done.done s c.loop-done.done h) in
-    let next = nexts_read graph c.index.result.now c.index-graph-v.result below c.index-graph-v.is ∙ sym c.deref.ensures.value in
-    let list = sym next ∙ ap (nexts graph) v in
-    let a = subst (λ l. MetAll m q l c.meet_all.new.marks.items c.meet_all.new.queue.items) list c.in_ok-meet_all.ensures in
-    let l = ap length a.appended in
+    let n = length graph in
+    let s = c.loop-search.search in
+    let search = c.loop-search.invariant.search in
+    let left = subst (λ z. s.done < z) (c.len.ensures ∙ s.queue.ok.0) c.loop-search-test.true in
+    let list = nexts graph (get_or s.queue.items s.done 0) in
+    let met = c.in_ok-go_on.ensures.all in
+    let longer = not_fewer (nexts graph) n s.marks.items s.queue.items s.done search _ _ list met (λ w i. i) left in
     record {
-      search = search_more graph c.args.from m q c.loop-done.done _ _ s h a;
-      within = omega (arith, length-append q a.more);
+      search = subst (IsSearch (nexts graph) n c.go_on.new.self.marks.items c.go_on.new.self.queue.items) (sym c.in_ok-go_on.ensures.done)
+          (search_more (nexts graph) n s.marks.items s.queue.items s.done search _ _ list met (λ w i. i) left (λ w i. i));
+      first = first_same (nexts graph) n s.marks.items s.queue.items s.done search _ _ list met (λ w i. i) left ∙ c.loop-search.invariant.first;
+      some = let z = c.loop-search.invariant.some in omega arith;
     }
 
 pub returns-clause-reached : goal.returns-clause-reached
 returns-clause-reached c = λ v.
-    let m = c.loop-done.marks.items in
-    let q = c.loop-done.queue.items in
-    let h = subst (λ n. n ≤ c.loop-done.done) (c.len.ensures ∙ c.loop-done.queue.ok.0) c.loop-done-test.false in
-    search_end c.args.graph.now c.args.from m q c.loop-done.done c.loop-done.invariant.search h v
+    let graph = c.args.graph.now in
+    let n = length graph in
+    let s = c.loop-search.search in
+    let inv = c.loop-search.invariant in
+    let all = subst (λ z. z ≤ s.done) (c.len.ensures ∙ s.queue.ok.0) c.loop-search-test.false in (
+      λ e. subst (λ z. Walk (HasEdge graph) z v) inv.first (marked_reached (nexts graph) n s.marks.items s.queue.items s.done inv.search v e),
+      λ w. reached_marked (nexts graph) n s.marks.items s.queue.items s.done inv.search inv.some all v (subst (λ z. Walk (HasEdge graph) z v) (sym inv.first) w),
+    )

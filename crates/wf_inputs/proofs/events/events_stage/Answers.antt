@@ -2,7 +2,8 @@ use Rattle.std.proofs.Common.{◌≡◌, [], Some, refl, arith, sym, ap, ◌∙�
 use Rattle.std.specs.Prelude.{codes}
 use Rattle.wf_laws.proofs.Accepted.{none_taken}
 use Rattle.wf_io.specs.Readers.{left_in}
-use Rattle.wf_lines.proofs.Openings.{told_opened}
+use Rattle.wf_lines.specs.Taking.{IsWritingFault}
+use Rattle.wf_lines.proofs.Openings.{told_opened, opened_reading, opened_once}
 use Rattle.wf_flat.specs.Table.{IsTableOf, events_of}
 use Rattle.wf_stage.specs.Ends.{IsOfOutcome}
 use Rattle.wf_stage.specs.Causes.{IsReadingCause}
@@ -41,6 +42,7 @@ returns-in-Ok-take_lines-clause-reads g c =
           (told_opened (AreTakenInto h IsLast) f c.args.name.now c.in-Ok.lines c.in-Ok.ensures (λ st. c.in-Ok-take_lines.ensures.taken f told st (none_taken_of h) start));
       count = c.in-Ok-take_lines.ensures.same;
       same = c.take_lines.ensures.files;
+      once = opened_once _ _ c.in-Ok.ensures _ _ c.take_lines.ensures.once;
     }
 
 pub returns-clause-reads : goal.returns-clause-reads
@@ -55,9 +57,13 @@ returns-clause-reads g c =
       stops = λ f told w.
           let is = fault_of_outcome event_end word c.in-Err.fault (subst IsOfOutcome c.events_stop.ensures w) in
           subst (StopsEvents h instance_most _) (sym c.events_stop.ensures)
-          (stopped_stops h e _ (told_opened (AreStoppedAt h (Some e)) f c.args.name.now c.in-Ok.lines c.in-Ok.ensures
-          (λ st. subst (λ o. AreStoppedAt h o (left_in (f c.in-Ok.lines.name) c.in-Ok.lines)) is (c.in-Err.ensures.stopped f told st (none_taken_of h) start (events_one_way nothing_written) (events_begin nothing_written (λ k limit before e more. ([], refl))) events_closed_one_way (none_taken h instance_most)))));
+          (stopped_stops h e _ _ (told_opened (AreStoppedAt h (Some e) (IsWritingFault c.in-Err.fault)) f c.args.name.now c.in-Ok.lines c.in-Ok.ensures
+          (λ st. subst (λ o. AreStoppedAt h o (IsWritingFault c.in-Err.fault) (left_in (f c.in-Ok.lines.name) c.in-Ok.lines)) is (c.in-Err.ensures.stopped f told st (none_taken_of h) start (events_one_way nothing_written) (events_begin nothing_written (λ k limit before e more. ([], refl))) events_closed_one_way (none_taken h instance_most)))));
       cause = subst (IsReadingCause _ _ _) (sym c.events_stop.ensures) (fault_caused_reading event_end word _ _ _ 0 0 _ c.in-Err.fault (λ r. absurd (let x = r refl in omega (arith, x))) c.in-Err.ensures.fault c.in-Err.ensures.cause);
       same = c.take_lines.ensures.files;
+      once = opened_once _ _ c.in-Ok.ensures _ _ c.take_lines.ensures.once;
       later = c.take_lines.ensures.later;
     }
+
+pub take_lines-requires-clause-reading : goal.take_lines-requires-clause-reading
+take_lines-requires-clause-reading g c = opened_reading _ _ c.in-Ok.ensures _

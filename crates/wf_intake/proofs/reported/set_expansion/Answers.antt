@@ -1,7 +1,12 @@
-use Rattle.std.proofs.Common.{◌∙◌, sym, ap, map}
-use Rattle.wf_intake.specs.Reported.{expansion_told, expanded_at}
-use Rattle.wf_intake.proofs.Adding.{place_set}
+use Rattle.std.proofs.Common.{arith}
+use Rattle.wf_intake.proofs.Adding.{set_none, set_at_place, set_no_place}
 use Rattle.wf_intake.proofs.reported.set_expansion.Goals as goal
 
-pub returns-then-place-len : goal.returns-then-place-len
-returns-then-place-len c = place_set c.args.places.now.items _ _ _ _ c.in_ok-by.ensures.line c.in_ok-by.ensures.production c.in_ok-by.ensures.told ∙ ap (λ n. expanded_at (map expansion_told c.args.places.now.items) n (record { line = c.args.line; production = c.args.production })) (sym c.in-Some.is)
+pub returns-in_default : goal.returns-in_default
+returns-in_default c = set_none c.args.places.now.items c.args.count c.args.number c.args.by c.in_default.is
+
+pub returns-then-place-saturating_sub : goal.returns-then-place-saturating_sub
+returns-then-place-saturating_sub c = set_at_place c.args.places.now.items c.args.count c.in-Some.number c.args.number c.args.by c.in-Some.is (omega arith)
+
+pub returns-else-place-saturating_sub : goal.returns-else-place-saturating_sub
+returns-else-place-saturating_sub c = set_no_place c.args.places.now.items c.args.count c.in-Some.number c.args.number c.args.by c.in-Some.is (omega arith)

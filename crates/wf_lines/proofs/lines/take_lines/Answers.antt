@@ -1,5 +1,6 @@
 use Rattle.std.proofs.Common.{ℕ, List, sym, ◌∙◌, subst, arith}
 use Rattle.wf_io.specs.Readers.{Stands, Advances, left_in}
+use Rattle.wf_io.proofs.Onward.{once_after}
 use Rattle.wf_lines.specs.BegunLines.{begun_line}
 use Rattle.wf_lines.specs.Taking.{Halts, IsStoppedBy}
 use Rattle.wf_lines.proofs.Seekings.{advanced_lends, advanced_ends, stands_as}
@@ -45,6 +46,7 @@ loop-halt-preserved g c =
           let lends = advanced_lends _ _ _ _ c.in-Ok-true.field-0-test (subst (λ k. Stands (f k) c.loop-halt.lines → Advances c.in-Ok-true.field-0 (left_in (f k) c.loop-halt.lines) c.next_line.new.lines (left_in (f k) c.next_line.new.lines)) i.name (c.in-Ok-true.ensures.lines f (i.files ∙ told)) (i.stands f told st)) in
           sym (lent_length _ _ _ c.loop-halt.taken lends) ∙ i.count f told st;
       name = c.next_line.ensures.name ∙ i.name;
+      reading = λ opened read. c.in-Ok-true.ensures.reading opened (i.reading opened read);
       live = c.in-Ok-true.ensures.live;
       taken = let a = i.taken in let b = c.in-Ok-true.ensures.later_line c.in-Ok-true.field-0-test in omega (arith, a, b);
       files = c.next_line.ensures.files ∙ i.files;
@@ -77,3 +79,23 @@ returns-in-Ok-clause-count g c = λ f told st.
     let i = c.loop-halt.invariant in
     let ends = advanced_ends _ _ _ _ c.in-Ok-false.field-0-test (subst (λ k. Stands (f k) c.loop-halt.lines → Advances c.in-Ok-false.field-0 (left_in (f k) c.loop-halt.lines) c.next_line.new.lines (left_in (f k) c.next_line.new.lines)) i.name (c.in-Ok-false.ensures.lines f (i.files ∙ told)) (i.stands f told st)) in
     all_counted _ _ c.loop-halt.taken ends (i.count f told st)
+
+pub returns-in-Err-clause-once : goal.returns-in-Err-clause-once
+returns-in-Err-clause-once g c =
+    let l = c.loop-halt in
+    once_after c.args.lines.now l.lines (g.H.Shelf.readings c.args.shelf.now) (g.H.Shelf.readings l.shelf) (g.H.Shelf.readings c.next_line.new.shelf) l.invariant.name l.invariant.reading c.next_line.ensures.once
+
+pub returns-in-Err-take_line-clause-once : goal.returns-in-Err-take_line-clause-once
+returns-in-Err-take_line-clause-once g c =
+    let l = c.loop-halt in
+    once_after c.args.lines.now l.lines (g.H.Shelf.readings c.args.shelf.now) (g.H.Shelf.readings l.shelf) (g.H.Shelf.readings c.next_line.new.shelf) l.invariant.name l.invariant.reading c.next_line.ensures.once
+
+pub returns-in-Ok-clause-once : goal.returns-in-Ok-clause-once
+returns-in-Ok-clause-once g c =
+    let l = c.loop-halt in
+    once_after c.args.lines.now l.lines (g.H.Shelf.readings c.args.shelf.now) (g.H.Shelf.readings l.shelf) (g.H.Shelf.readings c.next_line.new.shelf) l.invariant.name l.invariant.reading c.next_line.ensures.once
+
+pub returns-in-Err-take_end-clause-once : goal.returns-in-Err-take_end-clause-once
+returns-in-Err-take_end-clause-once g c =
+    let l = c.loop-halt in
+    once_after c.args.lines.now l.lines (g.H.Shelf.readings c.args.shelf.now) (g.H.Shelf.readings l.shelf) (g.H.Shelf.readings c.next_line.new.shelf) l.invariant.name l.invariant.reading c.next_line.ensures.once

@@ -1,6 +1,6 @@
 use Rattle.std.proofs.Common.{◌≡◌, ◌≤◌, ◌+◌, ℕ, List, true, Some, length}
 use Rattle.wf_io.specs.Told.{File}
-use Rattle.wf_io.specs.Readers.{Stands, left_in, left_over}
+use Rattle.wf_io.specs.Readers.{Stands, left_in, left_over, GoesOnReading}
 use Rattle.wf_lines.proofs.SoFar.{IsTakenSoFar}
 use Rattle.wf_lines.proofs.lines.take_lines.Given as goal
 
@@ -13,6 +13,7 @@ invariant-loop-halt g l = record {
       IsTakenSoFar g.T.Taker.ends g.T.Taker.takes g.T.Taker.stops (g.T.Taker.is_at l.taker) s (left_in (f l.initial.lines.name) l.initial.lines) (left_in (f l.initial.lines.name) l.lines) l.due (g.O.Sink.put_bytes l.initial.out) (g.O.Sink.put_bytes l.out);
   count : (f : List ℕ → File) → g.H.Shelf.files l.initial.shelf ≡ Some f → Stands (f l.initial.lines.name) l.initial.lines → l.taken + length (left_in (f l.initial.lines.name) l.lines).lines ≡ length (left_in (f l.initial.lines.name) l.initial.lines).lines;
   name : l.lines.name ≡ l.initial.lines.name;
+  reading : GoesOnReading l.initial.lines l.lines (g.H.Shelf.readings l.initial.shelf) (g.H.Shelf.readings l.shelf);
   live : l.lines.live ≡ true;
   taken : l.taken ≤ l.lines.line;
   files : g.H.Shelf.files l.shelf ≡ g.H.Shelf.files l.initial.shelf;

@@ -1,6 +1,6 @@
 use Rattle.std.proofs.Common.{◌≡◌, ◌≤◌, ℕ, List, true, Some}
 use Rattle.wf_io.specs.Told.{File}
-use Rattle.wf_io.specs.Readers.{Stands, left_in, left_over}
+use Rattle.wf_io.specs.Readers.{Stands, left_in, left_over, GoesOnReading}
 use Rattle.wf_lines.specs.Taking.{IsDue}
 use Rattle.wf_lines.proofs.next.next_line.Given as goal
 
@@ -9,6 +9,7 @@ invariant-loop-fault g l = record {
   stands : (f : List ℕ → File) → g.H.Shelf.files l.initial.shelf ≡ Some f → Stands (f l.initial.lines.name) l.initial.lines → Stands (f l.initial.lines.name) l.lines;
   left : (f : List ℕ → File) → g.H.Shelf.files l.initial.shelf ≡ Some f → Stands (f l.initial.lines.name) l.initial.lines → left_in (f l.initial.lines.name) l.lines ≡ left_in (f l.initial.lines.name) l.initial.lines;
   name : l.lines.name ≡ l.initial.lines.name;
+  reading : GoesOnReading l.initial.lines l.lines (g.H.Shelf.readings l.initial.shelf) (g.H.Shelf.readings l.shelf);
   live : l.lines.live ≡ true;
   line : l.lines.line ≡ l.initial.lines.line;
   less : left_over l.lines ≤ left_over l.initial.lines;

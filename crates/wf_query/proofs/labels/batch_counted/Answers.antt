@@ -24,7 +24,7 @@ one_of_known k store of first second x y p q = one_of_store k.label.grammar k.vi
 pub returns-clause-put : goal.returns-clause-put
 returns-clause-put g c f told stands u entries of held =
     let k : LabelsKnown = record { label = c.args.vl.now; held = c.args.store.now; view = u; entries = entries; place = _; room = c.args.scratch.now } in
-    put_alike (IsWordOfLabels k) (IsAnswerText c.args.vl.now.grammar u entries) (λ first second word h. h (of, held)) (λ first second word h is. h) _ _ _ _
+    put_alike (IsWordOfLabels k) (IsAnswerText c.args.vl.now.grammar u entries) (λ first second word h. h (of, held)) (λ first second word h is. h) _ _ _ _ _
     (c.answer_left-answered.ensures.put f told stands k (refl, refl, refl, refl) (one_of_known k c.requires.store (of, held)))
 
 -- the room is as it was, whatever the view and the entries are

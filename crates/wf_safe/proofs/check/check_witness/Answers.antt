@@ -11,11 +11,11 @@ told_by (Err e) A B f h t = tt
 
 pub returns : goal.returns
 returns c =
-    let g = c.args.g.now.core in
-    let u = c.args.view.now.core in
+    let g = c.args.v.grammar.now.core in
+    let u = c.args.v.view.now.core in
     let w = c.args.w.now in
-    let choice = subst (λ (l : List Choice). IsChoiceOf c.args.g.now.core c.args.view.now.core (chosen_in l)) c.items-choice.ensures (c.is_choice.ensures.told.0 c.if-not-is_choice.false) in
-    let rows = subst (λ (l : List Choice). AreAllRowsByChoice c.args.g.now.core c.args.view.now.core (chosen_in l) c.in_ok-rows.rows) c.items-choice.ensures c.in_ok-rows.ensures in
+    let choice = subst (λ (l : List Choice). IsChoiceOf c.args.v.grammar.now.core c.args.v.view.now.core (chosen_in l)) c.items-choice.ensures (c.is_choice.ensures.told.0 c.if-not-is_choice.false) in
+    let rows = subst (λ (l : List Choice). AreAllRowsByChoice c.args.v.grammar.now.core c.args.v.view.now.core (chosen_in l) c.in_ok-rows.rows) c.items-choice.ensures c.in_ok-rows.ensures in
     let formed = c.is_choice.ensures.formed in
     told_by c.are_apart.result _ _
     (witness_from g u w formed c.in_ok-rows.rows rows choice (c.has_numbers.ensures.0 c.if-not-has_numbers.false))

@@ -5,4 +5,4 @@ use Rattle.wf_vlabel.specs.RoundSteps.{numbers_in}
 
 -- the groups of the productions so far
 abbrev pub invariant-loop-k : goal.invariant-loop-k
-invariant-loop-k l = AreGroupsOf (IsBodyGroup l.g.core l.view.core (pairs_of l.full)) l.k l.pool (numbers_in l.first.items)
+invariant-loop-k l = AreGroupsOf (IsBodyGroup l.s.linear.grammar.now.core l.s.view.now.core (pairs_of l.full)) l.k l.pool (numbers_in l.first.items)

@@ -17,17 +17,17 @@ loop-c-preserved c =
     let n = c.deref_mut.ensures.len in
     let e = c.deref_mut.ensures.value in
     let k = c.cut_cycle.ensures.count in
-    let g = c.args.g.grammar.now.core in
-    let t = c.args.g.cycles.now in
+    let g = c.args.s.linear.grammar.now.core in
+    let t = c.args.s.linear.cycles.now in
     let v = c.loop-c.invariant in
-    let kept = subst (λ old. (m : ℕ) → IsCut g (expands c.args.view.now.core) m (get_or old m None) → IsCut g (expands c.args.view.now.core) m (get_or c.cut_cycle.new.cuts m None)) e c.cut_cycle.ensures.kept in
-    subst (λ cuts. (length cuts ≡ length g.modules) × ((k j : ℕ) → k < c.loop-c.c + 1 → j < length (round_at t k) → IsCut g (expands c.args.view.now.core) (get_or (round_at t k) j 0) (get_or cuts (get_or (round_at t k) j 0) None)))
+    let kept = subst (λ old. (m : ℕ) → IsCut g (expands c.args.s.view.now.core) m (get_or old m None) → IsCut g (expands c.args.s.view.now.core) m (get_or c.cut_cycle.new.cuts m None)) e c.cut_cycle.ensures.kept in
+    subst (λ cuts. (length cuts ≡ length g.modules) × ((k j : ℕ) → k < c.loop-c.c + 1 → j < length (round_at t k) → IsCut g (expands c.args.s.view.now.core) (get_or (round_at t k) j 0) (get_or cuts (get_or (round_at t k) j 0) None)))
     (sym (with_items_is c.loop-c.cuts c.cut_cycle.new.cuts (k ∙ n))) (
       k ∙ ap length e ∙ v.0,
-      cuts_more g t (expands c.args.view.now.core) c.loop-c.c c.loop-c.cuts.items c.cut_cycle.new.cuts kept c.cut_cycle.ensures.told v.1,
+      cuts_more g t (expands c.args.s.view.now.core) c.loop-c.c c.loop-c.cuts.items c.cut_cycle.new.cuts kept c.cut_cycle.ensures.told v.1,
     )
 
 pub returns-clause-cuts : goal.returns-clause-cuts
 returns-clause-cuts c =
     let e = c.count-c-end.ensures in
-    cuts_all c.args.g.grammar.now.core c.args.g.cycles.now (expands c.args.view.now.core) c.loop-c.cuts.items (cycled c.args.g.grammar.now.core c.modules.ensures.formed c.args.g.linear c.args.g.cycles.now c.args.g.cycled) (λ k j l h. c.loop-c.invariant.1 k j (omega arith) h)
+    cuts_all c.args.s.linear.grammar.now.core c.args.s.linear.cycles.now (expands c.args.s.view.now.core) c.loop-c.cuts.items (cycled c.args.s.linear.grammar.now.core c.modules.ensures.formed c.args.s.linear.linear c.args.s.linear.cycles.now c.args.s.linear.cycled) (λ k j l h. c.loop-c.invariant.1 k j (omega arith) h)

@@ -19,13 +19,13 @@ loop-c-init c =
 pub square_cycle-requires-clause-steps : goal.square_cycle-requires-clause-steps
 square_cycle-requires-clause-steps c =
     let d = pairs_of c.args.full.now in
-    (d, steps_held c.args.g.grammar.now.core c.args.view.now.core d c.args.bodies.now _ c.requires.bodies (c.is_open.ensures.0 c.if-is_open.true))
+    (d, steps_held c.args.s.linear.grammar.now.core c.args.s.view.now.core d c.args.bodies.now _ c.requires.bodies (c.is_open.ensures.0 c.if-is_open.true))
 
 pub loop-c-preserved : goal.loop-c-preserved
 loop-c-preserved c =
-    let g = c.args.g.grammar.now.core in
-    let t = c.args.g.cycles.now in
-    let v = c.args.view.now.core in
+    let g = c.args.s.linear.grammar.now.core in
+    let t = c.args.s.linear.cycles.now in
+    let v = c.args.s.view.now.core in
     let d = pairs_of c.args.full.now in
     let so_far = c.loop-c.invariant in
     elim c.if-is_open.branch [
@@ -50,12 +50,12 @@ loop-c-preserved c =
 
 pub returns : goal.returns
 returns c =
-    let g = c.args.g.grammar.now.core in
-    let t = c.args.g.cycles.now in
-    let v = c.args.view.now.core in
+    let g = c.args.s.linear.grammar.now.core in
+    let t = c.args.s.linear.cycles.now in
+    let v = c.args.s.view.now.core in
     let d = pairs_of c.args.full.now in
     let e = c.count-c-end.ensures in
     let all : HaveRoundsBelow g t v d (length t.rounds) c.loop-c.squares (numbers_in c.loop-c.first.items) = λ k j l h o. c.loop-c.invariant.1 k j (omega arith) h o in
-    squares_told g t v d c.of_pool.result c.modules.ensures.formed c.args.g.linear (cycled c.args.g.grammar.now.core c.modules.ensures.formed c.args.g.linear c.args.g.cycles.now c.args.g.cycled)
+    squares_told g t v d c.of_pool.result c.modules.ensures.formed c.args.s.linear.linear (cycled c.args.s.linear.grammar.now.core c.modules.ensures.formed c.args.s.linear.linear c.args.s.linear.cycles.now c.args.s.linear.cycled)
     (subst (λ pool. HaveRoundsBelow g t v d (length t.rounds) pool c.of_pool.result.first) (sym c.of_pool.ensures.pool)
     (subst (HaveRoundsBelow g t v d (length t.rounds) c.loop-c.squares) (sym c.of_pool.ensures.first) all))

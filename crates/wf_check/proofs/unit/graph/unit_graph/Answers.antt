@@ -1,6 +1,5 @@
 use Rattle.std.proofs.Common.{◌∙◌, ◌<◌, [], ◌∷◌, ◌++◌, ap, sym, subst, arith, length, get_or, set, take}
 use Rattle.std.proofs.lemmas.List.{take_more, take_all, length-set}
-use Rattle.wf_graph.proofs.Edges.{edge_more}
 use Rattle.wf_spec.proofs.Tables.{get_in}
 use Rattle.wf_check.specs.UnitPaths.{IsGraphOf}
 use Rattle.wf_check.proofs.UnitRules.{no_rule}
@@ -29,9 +28,8 @@ loop-u-preserved c =
     record {
       count = length-set graph u.head.0 c.push.new.self ∙ c.loop-u.invariant.count;
       edges = subst (λ xs. IsGraphOf xs after) (sym (take_more us c.loop-u.u-index no_rule c.loop-u-test.true))
-          (graph_more (take c.loop-u.u-index us) u graph after c.loop-u.invariant.edges
-          (edge_more graph u.head.0 u.target.0 c.index_mut-list.result.now c.push.new.self within c.index_mut-list.ensures.value
-          (c.in_ok-push.ensures.items ∙ ap (λ k. c.index_mut-list.result.now.items ++ k ∷ []) c.from.ensures)));
+          (graph_more (take c.loop-u.u-index us) u graph c.index_mut-list.result.now c.push.new.self within c.index_mut-list.ensures.value
+          (c.in_ok-push.ensures.items ∙ ap (λ k. c.index_mut-list.result.now.items ++ k ∷ []) c.from.ensures) c.loop-u.invariant.edges);
     }
 
 pub returns-clause-edges : goal.returns-clause-edges

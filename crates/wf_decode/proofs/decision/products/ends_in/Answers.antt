@@ -8,4 +8,4 @@ pub returns : goal.returns
 returns g c =
     let m = (matrices_of c.args.vl.now).full c.args.to.module.0 in
     bit_of_one m c.args.row c.row_times-last.result c.args.steps.now c.row_times-last.new.steps c.args.to.port.0 c.has_column.result
-    (subst (λ z. IsUnion c.args.row z c.row_times-last.result) c.full.ensures c.row_times-last.ensures.union) c.row_times-last.ensures.cost c.has_column.ensures
+    (subst (λ z. IsUnion c.args.row z c.row_times-last.result) c.full.ensures.same c.row_times-last.ensures.union) c.row_times-last.ensures.cost c.has_column.ensures

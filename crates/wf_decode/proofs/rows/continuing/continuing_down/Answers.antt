@@ -32,7 +32,7 @@ loop-i-preserved g c =
     let steps = leg_steps (chain_from t k j c.args.count) in
     let size = length-chain t k j c.requires.place c.args.count in
     let is : get_or steps c.loop-i.i s ≡ s = step_at t k j c.requires.place c.args.count c.loop-i.i s c.continuing_step.ensures.told (omega arith) in
-    let product : IsUnion c.loop-i.row (v.into s) c.row_times-row.result = rw c.into_position.ensures at c.row_times-row.ensures.union in
+    let product : IsUnion c.loop-i.row (v.into s) c.row_times-row.result = rw c.into_position.ensures.same at c.row_times-row.ensures.union in
     down_more v.into steps c.loop-i.i s c.args.row c.loop-i.row c.args.steps.now c.loop-i.steps c.row_times-row.result c.row_times-row.new.steps (omega arith) c.loop-i.invariant
     (subst (λ z. IsUnion c.loop-i.row (v.into z) c.row_times-row.result) (sym is) product) c.row_times-row.ensures.cost
 

@@ -39,6 +39,6 @@ loop-i-preserved g c =
     let steps = leg_steps (chain_from t k j c.args.count) in
     let size = length-chain t k j c.requires.place c.args.count in
     let is : get_or steps (c.loop-i.i - 1) s ≡ s = step_at t k j c.requires.place c.args.count (c.loop-i.i - 1) s c.continuing_step.ensures.told (omega arith) in
-    let product : IsUnion c.loop-i.row (v.out_of s) c.row_times-row.result = rw c.out_of_position.ensures at c.row_times-row.ensures.union in
+    let product : IsUnion c.loop-i.row (v.out_of s) c.row_times-row.result = rw c.out_of_position.ensures.same at c.row_times-row.ensures.union in
     up_more v steps c.loop-i.i s c.args.row c.loop-i.row c.args.steps.now c.loop-i.steps c.row_times-row.result c.row_times-row.new.steps (omega arith) (omega arith) c.loop-i.invariant
     (subst (λ z. IsUnion c.loop-i.row (v.out_of z) c.row_times-row.result) (sym is) product) c.row_times-row.ensures.cost

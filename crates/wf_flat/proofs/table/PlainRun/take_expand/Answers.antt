@@ -1,7 +1,7 @@
 use Rattle.std.proofs.Common.{Some, ap, sym, subst, ◌∙◌, inl, inr, ⊎_elim}
 use Rattle.wf_model.proofs.Taking.{taking_law}
 use Rattle.wf_model.specs.declared.event.Event.TheVariants.{Expand}
-use Rattle.wf_run.proofs.NewNames.{none_twice, one_twice}
+use Rattle.run_faults.proofs.NewNames.{none_twice, one_twice}
 use Rattle.wf_flat.specs.Table.{events_of, IsTableOf}
 use Rattle.wf_flat.proofs.Instances.{its_name}
 use Rattle.wf_flat.proofs.Steps.{run_expanded, kept_of, same_modules}

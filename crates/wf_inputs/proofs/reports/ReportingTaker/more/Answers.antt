@@ -1,4 +1,4 @@
-use Rattle.wf_inputs.proofs.ReportLines.{still_within, report_goes_on, report_makes, report_taken, next_refused, next_wanting, refused_at, wanting_at, refused_or_wanting}
+use Rattle.wf_inputs.proofs.ReportLines.{still_within, report_goes_on, report_makes, report_taken, next_refused, next_wanting, refused_at, refused_or_wanting}
 use Rattle.wf_inputs.proofs.reports.ReportingTaker.more.Goals as goal
 
 pub returns-in-Ok-clause-within : goal.returns-in-Ok-clause-within
@@ -50,7 +50,7 @@ returns-in-Err-clause-wanting g c = λ none p within.
     let now = c.apply_next.new in
     next_wanting r.written (r.grammar c.clear.new.self) (r.most c.clear.new.self) old.inbox.kept old.reported (r.is_run c.clear.new.self) (r.text c.clear.new.self) (r.text now.run) clear.text p
     (still_within r.written (r.grammar old.run) (r.grammar c.clear.new.self) (r.most old.run) (r.most c.clear.new.self) old.inbox.kept old.reported (r.is_run old.run) (r.is_run c.clear.new.self) clear.grammar clear.most clear.run p within)
-    (r.is_run now.run) (c.in-Err.ensures.halted (wanting_at c.in-Err.stopped none))
+    c.in-Err.ensures.same_text
 
 pub returns-in-Err-clause-fault : goal.returns-in-Err-clause-fault
 returns-in-Err-clause-fault g c = refused_or_wanting c.in-Err.stopped

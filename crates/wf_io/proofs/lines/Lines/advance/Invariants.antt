@@ -1,6 +1,6 @@
 use Rattle.std.proofs.Common.{◌≡◌, ◌≤◌, ℕ, List, true, Some}
 use Rattle.wf_io.specs.Told.{File}
-use Rattle.wf_io.specs.Readers.{Stands, left_in, left_over}
+use Rattle.wf_io.specs.Readers.{Stands, left_in, left_over, GoesOnReading}
 use Rattle.wf_io.proofs.lines.Lines.advance.Given as goal
 
 abbrev pub invariant-loop-self : goal.invariant-loop-self
@@ -10,6 +10,9 @@ invariant-loop-self g l = record {
   name : l.self.name ≡ l.initial.self.name;
   live : l.self.live ≡ true;
   less : left_over l.self ≤ left_over l.initial.self;
+  number : l.initial.self.number ≤ l.self.number;
+  line : l.self.line ≡ l.initial.self.line;
+  reading : GoesOnReading l.initial.self l.self (g.H.Shelf.readings l.initial.shelf) (g.H.Shelf.readings l.shelf);
   files : g.H.Shelf.files l.shelf ≡ g.H.Shelf.files l.initial.shelf;
   faults : g.H.Shelf.faults l.shelf ≡ g.H.Shelf.faults l.initial.shelf;
 }

@@ -1,8 +1,8 @@
 use Rattle.std.proofs.Common.{Some, ap, sym, subst, ◌∙◌, inl, inr, ⊎_elim}
-use Rattle.wf_run.specs.Names.{twice_fault}
+use Rattle.run_faults.specs.NewNames.{twice_fault}
 use Rattle.wf_run.specs.Runs.{GoesOn}
 use Rattle.wf_run.proofs.OpenedNodes.{opened_goes_on}
-use Rattle.wf_run.proofs.NewNames.{none_twice, one_twice}
+use Rattle.run_faults.proofs.NewNames.{none_twice, one_twice}
 use Rattle.wf_run.proofs.Extending.{next_run}
 use Rattle.wf_run.proofs.run.Run.expand_found.Goals as goal
 

@@ -3,7 +3,7 @@ use Rattle.std.specs.Prelude.{is_some, option_map}
 use Rattle.wf_model.specs.WellFormed.{IsWellFormed}
 use Rattle.wf_run.specs.declared.node.NodeNo.{NodeNo}
 use Rattle.wf_run.specs.Runs.{RunSeen, IsRunOf}
-use Rattle.wf_run.specs.Names.{twice_fault}
+use Rattle.run_faults.specs.NewNames.{twice_fault}
 use Rattle.wf_run.specs.Growing.{IsExpandFault}
 use Rattle.wf_run.proofs.NamedInstances.{its_name, found_there}
 use Rattle.wf_run.proofs.run.Run.expansion.Goals as goal

@@ -9,7 +9,7 @@ pub invariant_of-self-2 : goal.invariant_of-self-2
 invariant_of-self-2 c =
     let i = c.self.inside in
     let p = c.in_ok-plant.ensures in
-    begun_kept i.linear.grammar.now i.most i.names _ i.nodes.items _ i.expands _ c.args.name.now p.names p.nodes c.root-root.ensures.node
+    begun_kept i.linear.grammar.now i.most i.names _ i.nodes.items _ i.expands _ c.args.name.now p.names p.instances c.root-root.ensures.node
     c.root-root.ensures.formed c.root-root.ensures.filled c.self.invariant c.args.self.now c.self.view_is
     (λ events run. sym (c.fault_of_start.ensures events run) ∙ c.in_default.is)
 
@@ -18,7 +18,7 @@ returns-clause-taken c events run =
     let i = c.self.inside in
     let r = c.args.self.now in
     let p = c.in_ok-plant.ensures in
-    let new = begun_view i.linear.grammar.now i.most i.names _ i.nodes.items _ i.expands _ c.args.name.now p.names p.nodes c.root-root.ensures.node r c.self.view_is in
+    let new = begun_view i.linear.grammar.now i.most i.names _ i.nodes.items _ i.expands _ c.args.name.now p.names p.instances c.root-root.ensures.node r c.self.view_is in
     let formed = subst (λ (z : RunSeen). IsWellFormed z.grammar.core) c.self.view_is c.root-root.ensures.formed in
     subst (λ z. IsRunOf z (events ++ Start c.args.name.now ∷ [])) (sym new) (begun_run r c.args.name.now formed events run (sym (c.fault_of_start.ensures events run) ∙ c.in_default.is))
 
@@ -27,7 +27,7 @@ returns-clause-goes_on c =
     let i = c.self.inside in
     let r = c.args.self.now in
     let p = c.in_ok-plant.ensures in
-    let new = begun_view i.linear.grammar.now i.most i.names _ i.nodes.items _ i.expands _ c.args.name.now p.names p.nodes c.root-root.ensures.node r c.self.view_is in
+    let new = begun_view i.linear.grammar.now i.most i.names _ i.nodes.items _ i.expands _ c.args.name.now p.names p.instances c.root-root.ensures.node r c.self.view_is in
     let formed = subst (λ (z : RunSeen). IsWellFormed z.grammar.core) c.self.view_is c.root-root.ensures.formed in
     let events = c.self.invariant.events in
     let run = subst (λ z. IsRunOf z events) c.self.view_is c.self.invariant.run in

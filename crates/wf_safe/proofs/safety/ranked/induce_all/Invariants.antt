@@ -4,4 +4,4 @@ use Rattle.wf_safe.proofs.safety.ranked.induce_all.Given as goal
 
 -- the ranks so far
 abbrev pub invariant-loop-below : goal.invariant-loop-below
-invariant-loop-below l = AreInducedBefore l.g.core l.view.core l.proper (l.below + 1) 0 l.deps
+invariant-loop-below l = AreInducedBefore l.v.grammar.now.core l.v.view.now.core l.proper (l.below + 1) 0 l.deps

@@ -6,8 +6,8 @@ use Rattle.wf_safe.proofs.safety.ranked.induce_rank.Goals as goal
 
 pub returns : goal.returns
 returns c =
-    let g = c.args.g.now.core in
+    let g = c.args.v.grammar.now.core in
     let all : c.loop-m.m ≡ length c.modules-m-end.result.now = omega arith in
     let whole = all ∙ ap (λ (ms : List Module). length ms) c.modules-m-end.ensures.modules in
-    next_rank g c.args.view.now.core c.args.proper.now c.args.rank c.loop-m.deps c.modules-m-end.ensures.formed
-    (subst (λ k. AreInducedBefore g c.args.view.now.core c.args.proper.now c.args.rank k c.loop-m.deps) whole c.loop-m.invariant)
+    next_rank g c.args.v.view.now.core c.args.proper.now c.args.rank c.loop-m.deps c.modules-m-end.ensures.formed
+    (subst (λ k. AreInducedBefore g c.args.v.view.now.core c.args.proper.now c.args.rank k c.loop-m.deps) whole c.loop-m.invariant)

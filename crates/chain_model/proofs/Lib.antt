@@ -1,0 +1,11 @@
+pub mod OpenLinks
+pub mod ChainPaths
+pub mod ChainLaws
+pub mod ChainLists
+pub mod OneInstance
+pub mod ChainTests
+pub mod FirstChains
+pub mod ChainTexts
+pub mod WorkedChains
+pub mod WorkedTwistingChains
+pub mod WorkedDiamondChains

@@ -1,0 +1,3 @@
+pub mod Queries
+pub mod Batched
+pub mod GoodQueries

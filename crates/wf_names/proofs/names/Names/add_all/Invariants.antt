@@ -1,6 +1,0 @@
-use Rattle.std.proofs.Common.{◌≡◌, ◌++◌, take, drop, false}
-use Rattle.wf_model.specs.Faults.{some_twice}
-use Rattle.wf_names.proofs.names.Names.add_all.Given as goal
-
-abbrev pub invariant-loop-name : goal.invariant-loop-name
-invariant-loop-name l = (l.self ≡ l.initial.self ++ take l.name-index l.list) × (some_twice l.self (drop l.name-index l.list) ≡ false)

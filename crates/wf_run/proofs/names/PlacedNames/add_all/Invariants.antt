@@ -1,6 +1,0 @@
-use Rattle.std.proofs.Common.{◌≡◌, ◌++◌, take, drop}
-use Rattle.wf_model.specs.Faults.{some_twice}
-use Rattle.wf_run.proofs.names.PlacedNames.add_all.Given as goal
-
-abbrev pub invariant-loop-name : goal.invariant-loop-name
-invariant-loop-name l = (l.self ≡ l.initial.self ++ take l.name-index l.list) × (some_twice l.self (drop l.name-index l.list) ≡ some_twice l.initial.self l.list)

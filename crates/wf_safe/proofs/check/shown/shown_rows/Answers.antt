@@ -1,8 +1,0 @@
-use Rattle.std.proofs.Common.{length, ap, arith}
-use Rattle.wf_safe.proofs.OnlyShown.{shown_more}
-use Rattle.wf_safe.proofs.check.shown.shown_rows.Goals as goal
-
-pub loop-m-preserved : goal.loop-m-preserved
-loop-m-preserved c =
-    let count = ap length c.modules.ensures.modules in
-    shown_more c.args.g.now.core c.args.view.now c.requires c.loop-m.m (omega arith) c.loop-m.rows c.loop-m.invariant c.show.new.rows c.in_ok-show.ensures
