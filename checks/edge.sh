@@ -16,6 +16,8 @@ commands=(
     'ingest SPEC EVENTS'
     'ask SPEC VIEW LABELS QUERIES'
     'trace SPEC VIEW EVENTS QUERIES'
+    'lineage SPEC VIEW LABELS r.b'
+    'impact SPEC VIEW LABELS r.a'
     'decide SPEC VIEW 20 b0'
     'export SPEC VIEW EVENTS'
     'gen SPEC 5 7'

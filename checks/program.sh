@@ -608,6 +608,30 @@ for word in 00 18446744073709551616 0x1; do
     check "\`$word\` is no seed" says 1 'usage: wfprov COMMAND WORDS\n' drill $line/spec $line/view 1 "$word"
 done
 
+# The items on which an item rests, and those that rest on it.
+lists() {
+    local command=$1 example=$2 item=$3
+    run "$command" "examples/$example/spec" "examples/$example/view" "examples/$example/labels" "$item" && ended 0 "$(text expected_out "$4")" "$nothing"
+}
+check "the items on which an output rests are listed" lists lineage line r.b 'r.a\ni1.y\n'
+check "the items that rest on an input are listed" lists impact line r.a 'r.b\ni1.y\n'
+check "an input rests on nothing" lists lineage line r.a ''
+check "nothing rests on an output" lists impact line r.b ''
+check "an item that is not in the file is unknown" lists impact line i2.y 'unknown\n'
+check "an item that the view hides is hidden" lists lineage phylogeny sp.a 'hidden\n'
+for word in '' r.a.b ra .a r. "r.$(printf 'a%.0s' {1..65})"; do
+    check "\`$word\` is no name of an item" says 1 'usage: wfprov COMMAND WORDS\n' lineage $line/spec $line/view $line/labels "$word"
+done
+
+# Whether what is listed for each item of an example is what \`ask\` answers yes to, over all pairs.
+lists_what_is_answered() {
+    local folder=examples/$1
+    python3 checks/listed.py "$program" "$folder/spec" "$folder/view" "$folder/labels"
+}
+for example in line phylogeny twisting pair; do
+    check "what is listed for the items of $example is what \`ask\` answers yes to" lists_what_is_answered "$example"
+done
+
 # Whether the program takes the run that it makes, labels it, and answers alike from the events and from the labels.
 takes_what_it_makes() {
     local spec=examples/$1/spec view=examples/$1/view

@@ -32,8 +32,7 @@ works() {
         labels) python3 tools/labels.py lines $line/labels ;;
         file) python3 tools/labels.py file "$work/lines" ;;
         two_labels) python3 tools/two_labels.py $line/spec $line/labels r.a r.b ;;
-        impact) python3 tools/impact.py $line/spec $line/view $line/labels r.a ;;
-        impact_of_file) python3 tools/impact.py --table "$work/table" $line/spec $line/view $line/labels a ;;
+        impact_of_file) python3 tools/files.py impact $line/spec $line/view $line/labels "$work/table" a ;;
         page_of_files) python3 tools/page.py --table "$work/table" $line/spec $line/view $line/events "$work/names" ;;
         page) python3 tools/page.py $line/spec $line/view $line/events $line/queries ;;
         crates) python3 tools/crates.py ;;
@@ -50,8 +49,7 @@ fails() {
         labels) python3 tools/labels.py lines "$work/absent" ;;
         file) python3 tools/labels.py file "$work/absent" ;;
         two_labels) python3 tools/two_labels.py $line/spec "$work/absent" r.a r.b ;;
-        impact) python3 tools/impact.py $line/spec $line/view "$work/absent" r.a ;;
-        impact_of_file) python3 tools/impact.py --table "$work/absent" $line/spec $line/view $line/labels a ;;
+        impact_of_file) python3 tools/files.py impact $line/spec $line/view $line/labels "$work/absent" a ;;
         page_of_files) python3 tools/page.py --table "$work/absent" $line/spec $line/view $line/events "$work/names" ;;
         page) python3 tools/page.py $line/spec $line/view $line/events "$work/absent" ;;
         crates) python3 tools/crates.py "$work/absent" ;;
@@ -65,7 +63,7 @@ tool_of() {
     case $1 in
         export) echo dot.py ;;
         file) echo labels.py ;;
-        impact_of_file) echo impact.py ;;
+        impact_of_file) echo files.py ;;
         page_of_files) echo page.py ;;
         *) echo "$1.py" ;;
     esac
@@ -93,7 +91,7 @@ at_no_error() {
     fails "$1" >>"$work/out" 2>/dev/full || full=$?
     [ "$ended" = 2 ] && [ "$full" = 2 ] && [ ! -s "$work/out" ]
 }
-for tool in dot export labels file two_labels impact impact_of_file page page_of_files crates files to_rocrate; do
+for tool in dot export labels file two_labels impact_of_file page page_of_files crates files to_rocrate; do
     check "$tool: a full device is told" at_full "$tool"
     check "$tool: closed standard output is told" at_closed_output "$tool"
     check "$tool: closed standard input changes nothing" at_closed_input "$tool"
@@ -149,8 +147,8 @@ check "labels.py: digits with a tab between are told" \
     complains 'labels.py: line 2: `2\t0` is not hexadecimal digits, two for each byte' python3 tools/labels.py file <(head -n 1 "$work/lines"; printf 'r.a 2\t0\n')
 check "labels.py: bytes that are no text are told" complains "labels.py: $work/bytes: byte 4: not UTF-8" python3 tools/labels.py file "$work/bytes"
 
-check "impact.py: a name that is not UTF-8 is told by the program" \
-    complains 'impact.py: refused: labels: BadName entry 0' python3 tools/impact.py $line/spec $line/view "$work/bytes" r.a
+check "files.py: a name that is not UTF-8 is told by the program" \
+    complains 'files.py: wfprov: refused: labels: BadName entry 0' python3 tools/files.py impact $line/spec $line/view "$work/bytes" "$work/table" a
 
 # A specification with two loops: L leads back to itself by two positions, and M to L.
 cat >"$work/two_loops" <<'SPEC'
@@ -190,7 +188,7 @@ check "dot.py: a path is told as text" tells_path dot.py "$odd"
 check "dot.py: the path of a specification is told as text" tells_path dot.py --spec "$odd"
 check "labels.py: a path is told as text" tells_path labels.py lines "$odd"
 check "two_labels.py: a path is told as text" tells_path two_labels.py "$odd" $line/labels r.a r.b
-check "impact.py: a path is told as text" tells_path impact.py $line/spec $line/view "$odd" r.a
+check "files.py: a path is told as text" tells_path files.py impact $line/spec $line/view $line/labels "$odd" a
 check "page.py: a path is told as text" tells_path page.py $line/spec $line/view $line/events "$odd"
 check "crates.py: a path is told as text" tells_path crates.py "$odd"
 check "dot.py: a sign in a line is told as text" complains 'dot.py: line 1: `\x1b[2J` is no name' python3 tools/dot.py <(printf 'leaf \e[2J P\n')
@@ -198,19 +196,20 @@ check "dot.py: a line ends at a newline alone" complains 'dot.py: line 1: `r\r` 
 check "labels.py: a sign in a line is told as text" \
     complains 'labels.py: line 2: `\x9b2J` is not hexadecimal digits, two for each byte' python3 tools/labels.py file <(head -n 1 "$work/lines"; printf 'r.a \xc2\x9b2J\n')
 check "two_labels.py: an item is told as text" complains "two_labels.py: \`\\x1b.a\` is no item of $line/labels" python3 tools/two_labels.py $line/spec $line/labels $'\e.a' r.b
-check "impact.py: an item is told as text" complains "impact.py: \`\\x1b.a\` is no item of $line/labels" python3 tools/impact.py $line/spec $line/view $line/labels $'\e.a'
-check "impact.py: text that turns the direction of writing is told as text" \
-    complains "impact.py: \`\\u202e.a\` is no item of $line/labels" python3 tools/impact.py $line/spec $line/view $line/labels $'\u202e.a'
+files_of=(python3 tools/files.py impact $line/spec $line/view $line/labels "$work/table")
+check "files.py: a name is told as text" complains "files.py: $work/table: \`\\x1b.a\` is no file, checksum or action" "${files_of[@]}" $'\e.a'
+check "files.py: text that turns the direction of writing is told as text" \
+    complains "files.py: $work/table: \`\\u202e.a\` is no file, checksum or action" "${files_of[@]}" $'\u202e.a'
 
 # A program that is none.
 printf '#!/bin/sh\nprintf "\\033[2J" >&2\nexit 2\n' >"$work/obeys"
 printf '#!/bin/sh\nkill -9 $$\n' >"$work/dies"
 printf '#!/bin/sh\necho yes\n' >"$work/few"
 chmod +x "$work/obeys" "$work/dies" "$work/few"
-check "impact.py: what a program says is told as text" complains 'impact.py: \x1b[2J' env WFPROV="$work/obeys" python3 tools/impact.py $line/spec $line/view $line/labels r.a
-check "impact.py: a program that dies is told" complains 'impact.py: ended by signal 9' env WFPROV="$work/dies" python3 tools/impact.py $line/spec $line/view $line/labels r.a
-check "impact.py: too few answers are told" complains "impact.py: $work/few: 1 answers to 3 questions" env WFPROV="$work/few" python3 tools/impact.py $line/spec $line/view $line/labels r.a
-check "impact.py: a program that is not there is told" complains "impact.py: $work/absent: No such file or directory" env WFPROV="$work/absent" python3 tools/impact.py $line/spec $line/view $line/labels r.a
+check "files.py: what a program says is told as text" complains 'files.py: wfprov: \x1b[2J' env WFPROV="$work/obeys" python3 tools/files.py impact $line/spec $line/view $line/labels "$work/table" a
+check "files.py: a program that dies is told" complains 'files.py: wfprov: ended by signal 9' env WFPROV="$work/dies" python3 tools/files.py impact $line/spec $line/view $line/labels "$work/table" a
+check "files.py: too few answers are told" complains "files.py: wfprov: $work/few: 1 answers to 2 questions" env WFPROV="$work/few" python3 tools/files.py impact $line/spec $line/view $line/labels "$work/table" a
+check "files.py: a program that is not there is told" complains "files.py: $work/absent: No such file or directory" env WFPROV="$work/absent" python3 tools/files.py impact $line/spec $line/view $line/labels "$work/table" a
 
 # More questions than a page has.
 seq 10000 | sed 's/.*/r.a r.b/' >"$work/most"

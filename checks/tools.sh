@@ -229,47 +229,26 @@ check "missing words are told of two labels" \
     complains 'two_labels.py: the words are not SPEC LABELS ITEM ITEM; see --help' python3 tools/two_labels.py examples/line/spec
 check "a picture of labels that cannot be written is told" test "$(two_labels line line r.a r.b 2>&1 >/dev/full)" = "two_labels.py: writing: No space left on device"
 
-# The items that rest on an item, and those on which it rests.
-rests() {
-    WFPROV=$program python3 tools/impact.py "${@:2}" 2>"$work/err" | cmp -s - <(printf '%b' "$1")
-}
-check "the items that rest on an input are listed" rests 'r.b\ni1.y\n' examples/line/spec examples/line/view examples/line/labels r.a
-check "the items on which an output rests are listed" rests 'r.a\ni1.y\n' --of examples/line/spec examples/line/view examples/line/labels r.b
-check "nothing rests on an output" rests '' examples/line/spec examples/line/view examples/line/labels r.b
-check "an item that is not there is told" \
-    complains 'impact.py: `r.q` is no item of examples/line/labels' env WFPROV="$program" python3 tools/impact.py examples/line/spec examples/line/view examples/line/labels r.q
-check "an item that the view hides is told" \
-    complains 'impact.py: `sp.a` is hidden by the view' env WFPROV="$program" python3 tools/impact.py examples/phylogeny/spec examples/phylogeny/view examples/phylogeny/labels sp.a
-check "labels of another workflow are told by the program" \
-    complains 'impact.py: refused: labels: OtherSpec' env WFPROV="$program" python3 tools/impact.py examples/pair/spec examples/pair/view examples/line/labels r.a
-
 # By a table an item or a file means a file, with all of its items.
 . checks/two_items.sh
 two_items "$work"
 by_table() {
-    rests "$1" --table "$work/table" "${@:2:$#-2}" "$work/spec" "$work/open" "$work/labels" "${@: -1}"
+    WFPROV=$program python3 tools/files.py "$2" "$work/spec" "$work/open" "$work/labels" "$work/table" "$3" 2>"$work/err" | cmp -s - <(printf '%b' "$1")
 }
-check "the files that rest on a file are listed" by_table 'out/a.vcf\n' a.bam
-check "an item that goes out of the run means its file" by_table 'out/a.vcf\n' r.bam
-check "a checksum is a name" by_table 'out/a.bam\nout/a.vcf\n' 'sha1$22'
-check "the files on which a file rests are listed" by_table 'in/reads.fq\nold/reads.fq\nout/a.bam\n' --of call
-check "nothing rests on the last file" by_table '' out/a.vcf
-tells_output() {
-    WFPROV=$program python3 tools/impact.py "$work/spec" "$work/open" "$work/labels" r.bam 2>"$work/err" >"$work/out" && [ ! -s "$work/out" ] &&
-        [ "$(cat "$work/err")" = 'impact.py: `r.bam` goes out of the run, so nothing rests on it: what a step reads of its value is another item' ]
-}
-check "without a table it is told that an item goes out of the run" tells_output
-check "the item that a step reads has what rests on it" rests 'r.vcf\n' "$work/spec" "$work/open" "$work/labels" cp.b
-impact_of() { env WFPROV="$program" python3 tools/impact.py --table "$1" "$work/spec" "$2" "$work/labels" "$3"; }
+check "the files that rest on a file are listed" by_table 'out/a.vcf\n' impact a.bam
+check "an item that goes out of the run means its file" by_table 'out/a.vcf\n' impact r.bam
+check "a checksum is a name" by_table 'out/a.bam\nout/a.vcf\n' impact 'sha1$22'
+check "the files on which a file rests are listed" by_table 'in/reads.fq\nold/reads.fq\nout/a.bam\n' lineage call
+check "nothing rests on the last file" by_table '' impact out/a.vcf
+impact_of() { env WFPROV="$program" python3 tools/files.py impact "$work/spec" "$2" "$work/labels" "$1" "$3"; }
 check "a name of several files is refused with the list" \
-    complains "impact.py: $work/table: \`reads.fq\` means 2 files: \`f1\` (in/reads.fq), \`f2\` (old/reads.fq)" impact_of "$work/table" "$work/open" reads.fq
+    complains "files.py: $work/table: \`reads.fq\` means 2 files: \`f1\` (in/reads.fq), \`f2\` (old/reads.fq)" impact_of "$work/table" "$work/open" reads.fq
 sed 's/r.bam al.bam/al.bam/' "$work/table" >"$work/inner"
-check "a file that the view hides is told" complains "impact.py: $work/inner: \`out/a.bam\` is hidden by the view" impact_of "$work/inner" "$work/closed" a.bam
+check "a file that the view hides is told" complains "files.py: $work/inner: \`out/a.bam\` is hidden by the view" impact_of "$work/inner" "$work/closed" a.bam
 partly_hidden() {
     impact_of "$work/table" "$work/closed" a.bam >"$work/out" 2>"$work/err" && [ ! -s "$work/out" ] &&
-        [ "$(cat "$work/err")" = 'impact.py: the view hides an item of `out/a.bam`: what is joined to it by that item alone is not listed' ]
+        [ "$(cat "$work/err")" = 'files.py: the view hides an item of `out/a.bam`: what is joined to it by that item alone is not listed' ]
 }
 check "a file of which the view hides an item is told" partly_hidden
-check "a --table without its path is told" complains 'impact.py: the words are not SPEC VIEW LABELS ITEM; see --help' python3 tools/impact.py --table
 
 finish

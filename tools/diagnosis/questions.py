@@ -44,7 +44,7 @@ def mend_of(text):
     if "\r" in line:
         return "The file has carriage returns in the place of newlines: `tr '\\r' '\\n' < QUERIES > MENDED`."
     if STARS.search(line) and len(found) < 2:
-        return f"Write a line for each item that is meant: no sign stands for several. tools/impact.py lists what rests on one item. {MEND}"
+        return f"Write a line for each item that is meant: no sign stands for several. `wfprov impact` lists what rests on one item. {MEND}"
     if len(found) == 2:
         other = "" if len(words) <= 4 else f", or `{found[1]} {found[0]}`: the line asks whether the second rests on the first"
         return f"Write `{found[0]} {found[1]}`{other}. {MEND}"
@@ -59,7 +59,7 @@ def mend_of_words(line, found, number):
     if dotted != line and all(map(ITEM.fullmatch, dotted.split(" "))) and dotted.count(" ") == 1:
         return f"Write `{dotted}`. {MEND}"
     if len(found) == len(line.split()) == 1:
-        return f"Write the other item behind it, with a space between. What rests on one item, tools/impact.py lists. {MEND}"
+        return f"Write the other item behind it, with a space between. What rests on one item, `wfprov impact` lists. {MEND}"
     if LABELS.fullmatch(line):
         return f"Two labels are decided by `wfprov decide SPEC VIEW {line}`. {MEND}"
     if "." not in line and number == 1:

@@ -1,5 +1,4 @@
 pub mod Answered
-pub mod LabelsHeld
 pub mod OneWord
 pub mod PathAnswers
 pub mod PendingItems

@@ -1,13 +1,13 @@
 -- Entries of a label file that were read so far.
-use Rattle.std.proofs.Common.{◌≡◌, ◌≢◌, ℕ, ◌+◌, ◌*◌, ◌≤◌, List, [], ◌∷◌, ◌++◌, length, refl, sym, ap, ◌∙◌, subst, arith, length-append}
+use Rattle.std.proofs.Common.{◌≡◌, ◌≢◌, ℕ, ◌+◌, ◌*◌, ◌≤◌, List, [], ◌∷◌, ◌++◌, length, refl, sym, ap, ◌∙◌, subst, inl, inr, arith, length-append}
 use Rattle.std.proofs.lemmas.List.{nil_from_length}
-use Rattle.wf_model.specs.Lists.{IsIn}
+use Rattle.wf_model.specs.Lists.{IsIn, AllDiffer}
 use Rattle.wf_model.specs.Grammar.{Grammar}
 use Rattle.bit_pack.specs.Bits.{Holds}
 use Rattle.label_model.specs.Reading.{IsLabelBytes}
 use Rattle.label_model.specs.Files.{Entry, entry_bytes, names_of_entries, head_bytes, Answer, Accepted, Truncated, BadName, NameTwice, BadLabel, IsFront, ReadsFrom, at_end, cut, bad_name, name_twice, bad_label, whole, Opens, head}
 use Rattle.label_model.proofs.FileReadings.{length-entry, length-head}
-use Rattle.label_file.specs.Stored.{EntryHeld, IsHeldOf, AreHeldOf, IsStoreFault, IsStoreOf, names_held}
+use Rattle.label_file.specs.Stored.{EntryHeld, IsHeldOf, AreHeldOf, IsStoreFor, IsStoreFault, IsStoreOf, names_held}
 use Rattle.label_file.specs.Adding.{IsAdded, IsRefused}
 use Rattle.label_file.specs.declared.fault.StoreFault.{StoreFault}
 use Rattle.label_file.specs.declared.fault.StoreFault.TheVariants.{NotLabels as IsNoLabels, OtherSpec as IsOfOther, Truncated as IsTruncated, BadName as HasBadName, NameTwice as HasNameTwice, BadLabel as HasBadLabel, NoMemory as HasNoMemory}
@@ -27,6 +27,21 @@ names_same g [] [] h = refl
 names_same g [] (k ∷ hs) h = absurd h
 names_same g (e ∷ es) [] h = absurd h
 names_same g (e ∷ es) (k ∷ hs) h = ap (λ n. n ∷ names_held hs) h.0.name ∙ ap (λ ns. e.name ∷ ns) (names_same g es hs h.1)
+
+-- what is held is held of an entry
+pub held_from : (g : Grammar) (es : List Entry) (hs : List EntryHeld) → AreHeldOf g es hs → (h : EntryHeld) → IsIn h hs → (e : Entry) × IsIn e es × IsHeldOf g e h
+held_from g [] [] a h i = absurd i
+held_from g [] (x ∷ hs) a h i = absurd a
+held_from g (e ∷ es) [] a h i = absurd i
+held_from g (e ∷ es) (x ∷ hs) a h (inl p) = (e, inl refl, subst (λ (z : EntryHeld). IsHeldOf g e z) (sym p) a.0)
+held_from g (e ∷ es) (x ∷ hs) a h (inr i) = let r = held_from g es hs a.1 h i in (r.0, inr r.1, r.2)
+
+-- what holds entries whose names differ is a store of the grammar
+pub store_of_held : (g : Grammar) (es : List Entry) (hs : List EntryHeld) → AreHeldOf g es hs → AllDiffer (names_of_entries es) → IsStoreFor g hs
+store_of_held g es hs held differ = record {
+  labels = λ h i. (held_from g es hs held h i).2.label;
+  differ = subst AllDiffer (sym (names_same g es hs held)) differ;
+}
 
 -- as many are held
 pub as_many : (g : Grammar) (es : List Entry) (hs : List EntryHeld) → AreHeldOf g es hs → length hs ≡ length es

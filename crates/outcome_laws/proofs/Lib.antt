@@ -15,3 +15,4 @@ pub mod SameEntries
 pub mod SameInstances
 pub mod SameLines
 pub mod ToldRuns
+pub mod Listed

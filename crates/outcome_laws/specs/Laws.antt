@@ -20,6 +20,8 @@ use Rattle.label_model.specs.Files.{Entry}
 use Rattle.report_model.specs.Reports.{Report, reported}
 use Rattle.report_model.specs.Laws.{AreReordered}
 use Rattle.wf_query.specs.Answers.{IsAnswerText}
+use Rattle.wf_lineage.specs.declared.direction.Direction.TheVariants.{Upstream, Downstream}
+use Rattle.wf_lineage.specs.Laws.{AreListedFor}
 use Rattle.wf_message.specs.Endings.{End, Done}
 use Rattle.wf_stage.specs.Stages.{IsTold, Holds}
 use Rattle.wf_inputs.specs.Inputs.{spec_kind, labels_kind, instance_most}
@@ -61,6 +63,17 @@ LabelsTellLaw =
     (h : HeldGrammar) (u : View) → IsViewedSafely h u → (g : Grammar) → IsOneOf h g →
     (e : List Event) → IsAccepted g instance_most e → (entries : List Entry) → TellsEntries h (file_of g e) entries →
     (first second word : List ℕ) → IsAnswerText h.core u entries first second word ↔ IsAnswerOfRun h.core u e first second word
+
+-- What is listed over the label file of an accepted run, the run tells, item by item, also where the file was made by an earlier version of the grammar. Under a safe view an item is listed upstream of another exactly if yes answers, in each finishing of the run, whether the other depends on it; and downstream of another exactly if yes answers whether it depends on the other
+abbrev pub ListedLaw : Type 0
+ListedLaw =
+    (h : HeldGrammar) (u : View) → IsViewedSafely h u → (g : Grammar) → IsOneOf h g →
+    (e : List Event) → IsAccepted g instance_most e → (entries : List Entry) → TellsEntries h (file_of g e) entries →
+    (item other : List ℕ) (names : List (List ℕ)) →
+    record {
+      lineage : AreListedFor h.core u Upstream entries item names → IsIn other names ↔ IsAnswerOfRun h.core u e other item (codes "yes");
+      impact : AreListedFor h.core u Downstream entries item names → IsIn other names ↔ IsAnswerOfRun h.core u e item other (codes "yes");
+    }
 
 -- Under a safe view, queries are answered over the label file of a run, which is whole and not too long, as they are over its events: by the same text, to the same end. There is one such text and one such end. The file may be of a run of an earlier version
 abbrev pub LabelsAnswerLaw : Type 0

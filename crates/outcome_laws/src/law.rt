@@ -1,6 +1,6 @@
 // Laws of what the program does: the contracts of functions that do nothing. The first three are instances of the laws that the families bring.
 ghost use Rattle.outcome_laws.specs.GoodCalls.{GoodCallLaw};
-ghost use Rattle.outcome_laws.specs.Laws.{AskIsTraceLaw, IngestGrowsLaw, LabelsAnswerLaw, LabelsTellLaw, OneOutcomeLaw, ReorderedAnswersLaw, ReorderedFilesLaw, SameLinesLaw, SomeOutcomeLaw, ToldRunLaw};
+ghost use Rattle.outcome_laws.specs.Laws.{AskIsTraceLaw, IngestGrowsLaw, LabelsAnswerLaw, LabelsTellLaw, ListedLaw, OneOutcomeLaw, ReorderedAnswersLaw, ReorderedFilesLaw, SameLinesLaw, SomeOutcomeLaw, ToldRunLaw};
 ghost use Rattle.outcome_laws.specs.SameInstances.{SameInstancesLaw};
 
 use wf_stage::Commands;
@@ -57,6 +57,11 @@ pub fn reordered_answers_law()
 /// A query is answered from the label file of a run as it is answered by the run, however the run is finished under a safe view.
 pub fn labels_tell_law()
     ensures { LabelsTellLaw }
+{}
+
+/// Under a safe view, what is listed over the label file of a run for an item is what the run answers yes to, item by item, however it is finished.
+pub fn listed_law()
+    ensures { ListedLaw }
 {}
 
 /// Lines of queries are answered over the label file of a run as they are over its events: one text, and one end.

@@ -22,4 +22,5 @@ pub mod PartedAnswers
 pub mod DecisionCosts
 pub mod FewPorts
 pub mod LabelEnds
+pub mod HeldEnds
 pub mod Decisions

@@ -6,5 +6,6 @@ pub mod Reading
 pub mod Marking
 pub mod Parting
 pub mod Ends
+pub mod HeldEnds
 pub mod Products
 pub mod Answers

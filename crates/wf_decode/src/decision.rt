@@ -10,6 +10,7 @@ ghost use Rattle.wf_decode.specs.Reading.{most_legs};
 
 mod answers;
 mod ends;
+mod held;
 mod products;
 
 use crate::decision::answers::answer;
@@ -17,6 +18,7 @@ use crate::decision::ends::{End, end_on};
 use crate::leg::Leg;
 use crate::scratch::Scratch;
 use bool_mat::Steps;
+pub use held::{HeldEnd, decide_from, decide_to};
 use std::sync::ledger::Ledger;
 use verdict_model::Verdict;
 use wf_label::LabelRef;

@@ -8,6 +8,6 @@ mod read;
 mod rows;
 mod scratch;
 
-pub use decision::decide;
+pub use decision::{HeldEnd, decide, decide_from, decide_to};
 pub use scratch::Scratch;
 pub use verdict_model::Verdict;

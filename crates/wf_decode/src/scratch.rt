@@ -1,5 +1,5 @@
 // Room for decisions.
-ghost use Rattle.std.specs.Prelude.{◌≤◌, IfOk};
+ghost use Rattle.std.specs.Prelude.{◌≡◌, ◌≤◌, length, IfOk};
 ghost use Rattle.wf_decode.specs.Reading.{most_legs};
 
 use crate::leg::Leg;
@@ -25,19 +25,26 @@ impl Model for Scratch {
     ghost invariant = { λ s. length s.second.items ≡ length s.first.items };
 }
 
+/// Room for the legs of one label of the grammar of a view label. Fails only for want of memory.
+pub(crate) fn no_legs(alloc: Global, vl: &ViewLabel<'_>) -> Result<Vec<Leg>, AllocError>
+    ensures { IfOk result (λ legs. length legs.items ≡ most_legs vl.now.grammar) }
+{
+    let empty = Leg::Chain {
+        cycle: CycleNo(0),
+        place: 0,
+        count: 0,
+    };
+    let legs = vec![in alloc; empty; 2 * vl.grammar().modules().len()]?;
+    Ok(legs)
+}
+
 impl Scratch {
     /// Room for two labels of the grammar of a view label. Fails only for want of memory.
     pub fn for_view(alloc: Global, vl: &ViewLabel<'_>) -> Result<Scratch, AllocError>
         ensures { IfOk result (λ s. most_legs vl.now.grammar ≤ s) }
     {
-        let count = 2 * vl.grammar().modules().len();
-        let empty = Leg::Chain {
-            cycle: CycleNo(0),
-            place: 0,
-            count: 0,
-        };
-        let first = vec![in alloc; empty; count]?;
-        let second = vec![in alloc; empty; count]?;
+        let first = no_legs(alloc, vl)?;
+        let second = no_legs(alloc, vl)?;
         Ok(Scratch { first, second })
     }
 }

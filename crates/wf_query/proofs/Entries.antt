@@ -11,19 +11,11 @@ use Rattle.label_model.proofs.LabelBits.{whole_law}
 use Rattle.verdict_model.specs.declared.verdict.Verdict.{Verdict}
 use Rattle.verdict_model.specs.Verdicts.{IsVerdict}
 use Rattle.verdict_model.proofs.OneVerdict.{one_verdict}
-use Rattle.label_file.specs.Stored.{EntryHeld, IsHeldOf, AreHeldOf, names_held}
-use Rattle.label_file.proofs.ReadSoFar.{names_same}
+use Rattle.label_file.specs.Stored.{EntryHeld, AreHeldOf, names_held}
+use Rattle.label_file.proofs.ReadSoFar.{names_same, held_from}
 use Rattle.wf_query.specs.declared.answers.Answer.{Answer}
 use Rattle.wf_query.specs.Answers.{HasEntry, HasNoEntry, AreDecided, LacksEntry, IsAnswerOfLabels, answer_of, answer_text, IsAnswerText}
 use Rattle.wf_query.specs.Lines.{IsOneWord}
-
--- what is held is held of an entry
-pub held_from : (g : Grammar) (es : List Entry) (hs : List EntryHeld) → AreHeldOf g es hs → (h : EntryHeld) → IsIn h hs → (e : Entry) × IsIn e es × IsHeldOf g e h
-held_from g [] [] a h i = absurd i
-held_from g [] (x ∷ hs) a h i = absurd a
-held_from g (e ∷ es) [] a h i = absurd i
-held_from g (e ∷ es) (x ∷ hs) a h (inl p) = (e, inl refl, subst (λ (z : EntryHeld). IsHeldOf g e z) (sym p) a.0)
-held_from g (e ∷ es) (x ∷ hs) a h (inr i) = let r = held_from g es hs a.1 h i in (r.0, inr r.1, r.2)
 
 -- a name that is held with bits has an entry, whose bytes are those of each label of these bits
 pub entry_with : (g : Grammar) (es : List Entry) (hs : List EntryHeld) → AreHeldOf g es hs → (name : List ℕ) (bits : List Bool) → IsIn (record { name = name; bits = bits }) hs → (l : Label) → IsLabel g l → bits ≡ label_bits l → HasEntry g es name l
@@ -36,15 +28,15 @@ pub entry_without : (g : Grammar) (es : List Entry) (hs : List EntryHeld) → Ar
 entry_without g es hs a name none i = none (subst (λ l. IsIn name l) (sym (names_same g es hs a)) i)
 
 -- bytes are those of one label
-told_label : (g : Grammar) (bytes : List ℕ) (x y : Label) → IsLabel g x → IsLabel g y → Holds bytes (label_bits x) → Holds bytes (label_bits y) → x ≡ y
+pub told_label : (g : Grammar) (bytes : List ℕ) (x y : Label) → IsLabel g x → IsLabel g y → Holds bytes (label_bits x) → Holds bytes (label_bits y) → x ≡ y
 told_label g bytes x y p q h k = (whole_law g x y bytes [] p q h (subst (λ b. Holds b (label_bits y)) (sym (append-nil bytes)) k)).1
 
 -- the name of an entry is among the names
-name_of_entry : (es : List Entry) (e : Entry) → IsIn e es → (name : List ℕ) → e.name ≡ name → IsIn name (names_of_entries es)
+pub name_of_entry : (es : List Entry) (e : Entry) → IsIn e es → (name : List ℕ) → e.name ≡ name → IsIn name (names_of_entries es)
 name_of_entry es e i name n = subst (λ z. IsIn z (names_of_entries es)) n (in_map (λ (z : Entry). z.name) e es i)
 
 -- entries whose names differ have one of a name
-one_entry : (es : List Entry) → AllDiffer (names_of_entries es) → (a b : Entry) → IsIn a es → IsIn b es → a.name ≡ b.name → a ≡ b
+pub one_entry : (es : List Entry) → AllDiffer (names_of_entries es) → (a b : Entry) → IsIn a es → IsIn b es → a.name ≡ b.name → a ≡ b
 one_entry [] d a b i j n = absurd i
 one_entry (e ∷ es) d a b (inl p) (inl q) n = p ∙ sym q
 one_entry (e ∷ es) d a b (inl p) (inr j) n = absurd (d.0 (name_of_entry es b j e.name (sym n ∙ ap (λ (z : Entry). z.name) p)))
@@ -53,7 +45,7 @@ one_entry (e ∷ es) d a b (inr i) (inr j) n = one_entry es d.1 a b i j n
 
 module _ (g : Grammar) (u : View) (es : List Entry) (differ : AllDiffer (names_of_entries es)) where
   -- a name has the bytes of one label
-  one_label : (name : List ℕ) (x y : Label) → HasEntry g es name x → HasEntry g es name y → x ≡ y
+  pub one_label : (name : List ℕ) (x y : Label) → HasEntry g es name x → HasEntry g es name y → x ≡ y
   one_label name x y p q =
       let e = one_entry es differ p.0 q.0 p.1 q.1 (p.2 ∙ sym q.2) in
       told_label g q.0.label x y p.3 q.3 (subst (λ (z : Entry). Holds z.label (label_bits x)) e p.4) q.4

@@ -3,6 +3,7 @@ use Rattle.wf_stage.specs.Families.{Family, either}
 use Rattle.cmd_describe.specs.Family.{describe_commands}
 use Rattle.cmd_ingest.specs.Family.{ingest_commands}
 use Rattle.cmd_ask.specs.Family.{ask_commands}
+use Rattle.cmd_explain.specs.Family.{explain_commands}
 use Rattle.cmd_decide.specs.Family.{decide_commands}
 use Rattle.cmd_make.specs.Family.{make_commands}
 
@@ -12,5 +13,6 @@ families =
     either describe_commands (
     either ingest_commands (
     either ask_commands (
+    either explain_commands (
     either decide_commands
-    make_commands)))
+    make_commands))))

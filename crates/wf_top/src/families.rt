@@ -6,6 +6,9 @@ pub type Families = Either<
     cmd_describe::Family,
     Either<
         cmd_ingest::Family,
-        Either<cmd_ask::Family, Either<cmd_decide::Family, cmd_make::Family>>,
+        Either<
+            cmd_ask::Family,
+            Either<cmd_explain::Family, Either<cmd_decide::Family, cmd_make::Family>>,
+        >,
     >,
 >;

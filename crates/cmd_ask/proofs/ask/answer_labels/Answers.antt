@@ -11,7 +11,8 @@ use Rattle.wf_stage.proofs.Reading.{reads_on, reads_stop}
 use Rattle.wf_accept.specs.Accepted.{AcceptedValue}
 use Rattle.wf_inputs.specs.LabelsTold.{TellsEntries, RefusesLabels}
 use Rattle.wf_inputs.proofs.Taking.{labels_stop, labels_go}
-use Rattle.cmd_ask.proofs.LabelsHeld.{store_for}
+use Rattle.label_file.proofs.ReadSoFar.{store_of_held}
+use Rattle.wf_inputs.proofs.OneLabels.{told_differ}
 use Rattle.cmd_ask.proofs.ask.answer_labels.Goals as goal
 
 pub returns-in_err-bytes-clause-obeys : goal.returns-in_err-bytes-clause-obeys
@@ -34,7 +35,7 @@ returns-in_err-store-clause-obeys g c =
 pub answer_queries-requires : goal.answer_queries-requires
 answer_queries-requires g c =
     let s = subst (λ (s : AcceptedValue). (entries : List Entry) × TellsEntries s.grammar c.deref.result.now entries × AreHeldOf s.grammar.core entries c.in_ok-store.store) c.accepted.ensures.accepted c.in_ok-store.ensures.store in
-    record { store = store_for c.args.v.now.accepted.grammar c.deref.result.now s.0 c.in_ok-store.store s.1 s.2 }
+    record { store = store_of_held c.args.v.now.accepted.grammar.core s.0 c.in_ok-store.store s.2 (told_differ c.args.v.now.accepted.grammar c.deref.result.now s.0 s.1) }
 
 pub returns-clause-obeys : goal.returns-clause-obeys
 returns-clause-obeys g c =

@@ -1,0 +1,5 @@
+pub mod ItemWords
+pub mod PutListings
+pub mod OneExplaining
+pub mod SomeExplaining
+pub mod GoodExplaining

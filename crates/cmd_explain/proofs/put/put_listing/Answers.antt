@@ -1,0 +1,41 @@
+use Rattle.std.proofs.Common.{[], refl, sym, subst}
+use Rattle.wf_model.specs.Grammar.{Grammar}
+use Rattle.wf_label.specs.Values.{AreLabelBits}
+use Rattle.label_file.specs.Stored.{IsStoreFor}
+use Rattle.wf_stage.proofs.Ends.{begins_nothing}
+use Rattle.wf_stage.proofs.Writing.{writes_wanting}
+use Rattle.cmd_explain.proofs.PutListings.{none_held, item_put}
+use Rattle.cmd_explain.proofs.put.put_listing.Goals as goal
+
+pub returns-in_default : goal.returns-in_default
+returns-in_default g c = record {
+  writes = λ es held.
+      none_held c.args.v.now.accepted.grammar.core c.args.v.now.view.core c.args.direction es c.args.store.now c.requires.store held c.args.item.now _ _ _ c.in_default.ensures.none _ refl c.put_text.ensures.writes;
+}
+
+pub returns-in_default-build : goal.returns-in_default-build
+returns-in_default-build g c = record { writes = λ es held. writes_wanting [] _ (begins_nothing _) _ }
+
+pub returns-in_default-read : goal.returns-in_default-read
+returns-in_default-read g c = record { writes = λ es held. writes_wanting [] _ (begins_nothing _) _ }
+
+pub returns-in_default-for_view : goal.returns-in_default-for_view
+returns-in_default-for_view g c = record { writes = λ es held. writes_wanting [] _ (begins_nothing _) _ }
+
+pub returns-in_default-new : goal.returns-in_default-new
+returns-in_default-new g c = record { writes = λ es held. writes_wanting [] _ (begins_nothing _) _ }
+
+-- the label of the view is of the same grammar
+pub put_counted-requires-clause-store : goal.put_counted-requires-clause-store
+put_counted-requires-clause-store g c = subst (λ (x : Grammar). IsStoreFor x c.args.store.now) (sym c.in-Ok.ensures.grammar) c.requires.store
+
+pub read-requires : goal.read-requires
+read-requires g c = subst (λ (x : Grammar). AreLabelBits x c.in-Some.bits) (sym c.in-Ok.ensures.grammar) (c.requires.store.labels _ c.in-Some.ensures.found)
+
+pub returns : goal.returns
+returns g c = record {
+  writes = λ es held.
+      item_put c.args.v.now.accepted.grammar.core c.args.v.now.view.core c.args.direction es c.args.store.now c.requires.store held c.args.item.now _ _ _
+      c.in-Ok.label c.in-Ok.ensures.grammar c.in-Ok.ensures.label c.in-Some.bits c.in-Ok-read.of.bits c.in-Some.ensures.found
+      c.in-Ok-read.ensures.bits c.put_counted.ensures.writes;
+}

@@ -1,0 +1,69 @@
+// The words of `lineage` and `impact`, and what they do.
+ghost use Rattle.std.specs.Prelude.{◌≡◌, [], Some, None, map, MatchOption};
+ghost use Rattle.wf_message.specs.Endings.{end_after};
+ghost use Rattle.wf_stage.specs.Promises.{Obeys};
+ghost use Rattle.cmd_explain.specs.Words.{command_of, files_of};
+ghost use Rattle.cmd_explain.specs.Does.{Does, meant};
+
+use crate::item::is_item;
+use crate::listing::{ListingWords, list_items};
+use std::alloc::Global;
+use wf_io::{Shelf, Sink};
+use wf_lineage::Direction;
+use wf_message::Stop;
+
+/// A command, with the names of the files that it reads and the name of an item.
+#[derive(Clone, Copy)]
+pub enum Command<'w> {
+    Lineage { words: ListingWords<'w> },
+    Impact { words: ListingWords<'w> },
+}
+
+impl<'w> Command<'w> {
+    /// The command that the words are, if they are one of these, three files and the name of an item.
+    pub fn command_of(words: &'w [&'w str]) -> Option<Command<'w>>
+        ensures { MatchOption result (command_of (map (λ w. w.now) words.now) ≡ None) (λ c. command_of (map (λ w. w.now) words.now) ≡ Some (meant c)) }
+    {
+        match words {
+            [command, spec, view, labels, item] => {
+                if !is_item(item) {
+                    return None;
+                }
+                let words = ListingWords {
+                    spec,
+                    view,
+                    labels,
+                    item,
+                };
+                if *command == "lineage" {
+                    Some(Command::Lineage { words })
+                } else if *command == "impact" {
+                    Some(Command::Impact { words })
+                } else {
+                    None
+                }
+            }
+            _ => None,
+        }
+    }
+
+    /// Does the command over the files of a shelf, and puts its text to `out`.
+    pub fn obey<H: Shelf, O: Sink>(
+        &self,
+        alloc: Global,
+        shelf: &mut H,
+        out: &mut O,
+    ) -> Result<(), Stop>
+        ensures obeys { Obeys H.files H.readings H.faults H.at_last O.put_bytes O.faults O.at_last (files_of (meant self.now)) []
+            (λ f. Does f (meant self.now)) shelf.old shelf.new out.old out.new (end_after result) }
+    {
+        match self {
+            Command::Lineage { words } => {
+                list_items(alloc, words, Direction::Upstream, shelf, out)
+            }
+            Command::Impact { words } => {
+                list_items(alloc, words, Direction::Downstream, shelf, out)
+            }
+        }
+    }
+}

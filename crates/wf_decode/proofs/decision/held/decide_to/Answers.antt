@@ -1,0 +1,4 @@
+use Rattle.wf_decode.proofs.decision.held.decide_to.Goals as goal
+
+pub returns-clause-verdict : goal.returns-clause-verdict
+returns-clause-verdict g c u x y of lx ly ex ey = (c.decide_to_in.ensures.decision u x y of lx ly ex ey).verdict

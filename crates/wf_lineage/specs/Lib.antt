@@ -1,0 +1,4 @@
+pub mod Directions
+pub mod Listed
+pub mod Lines
+pub mod Laws
