@@ -18,6 +18,8 @@ commands=(
     'trace SPEC VIEW EVENTS QUERIES'
     'lineage SPEC VIEW LABELS r.b'
     'impact SPEC VIEW LABELS r.a'
+    'explain SPEC VIEW EVENTS r.a r.b'
+    'verify SPEC VIEW EVENTS CHAIN'
     'decide SPEC VIEW 20 b0'
     'export SPEC VIEW EVENTS'
     'gen SPEC 5 7'

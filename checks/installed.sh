@@ -146,9 +146,9 @@ offers() {
 
 # A line more in tools/forms is a command more.
 offers_later_command() {
-    echo "explain SPEC EVENTS" >>"$top/tools/forms"
-    install_under "$work/more" && offers "explain export" "$work/more/share/bash-completion/completions/wfprov" wfprov ex &&
-        offers "events" "$work/more/share/bash-completion/completions/wfprov" wfprov explain spec ev
+    echo "expand SPEC EVENTS" >>"$top/tools/forms"
+    install_under "$work/more" && offers "expand explain export" "$work/more/share/bash-completion/completions/wfprov" wfprov ex &&
+        offers "events" "$work/more/share/bash-completion/completions/wfprov" wfprov expand spec ev
     cp "$sources/tools/forms" "$top/tools/forms"
 }
 
@@ -216,8 +216,8 @@ if command -v man >/dev/null && man --version >/dev/null 2>&1; then
 else
     echo "left out: man is not installed here, so it does not read the manual page"
 fi
-check "the completion offers the commands" offers "ask check decide drill export gen impact ingest lineage trace view" "$completion" wfprov ""
-check "it offers a command that is begun" offers "export" "$completion" wfprov ex
+check "the completion offers the commands" offers "ask check decide drill explain export gen impact ingest lineage trace verify view" "$completion" wfprov ""
+check "it offers a command that is begun" offers "explain export" "$completion" wfprov ex
 check "it offers files where a form has one" offers "events" "$completion" wfprov trace spec view ev
 check "it offers no file behind the last word of a form" offers "" "$completion" wfprov check spec ev
 check "it offers no file where a form has a label" offers "" "$completion" wfprov decide spec view ev

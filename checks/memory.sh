@@ -20,6 +20,8 @@ ingest of held reports|line|ingest spec '$work/exchanged'|0|labels|
 ask|line|ask spec view labels queries|0|answers|
 lineage|phylogeny|lineage spec view labels run.report|0|own|
 impact|phylogeny|impact spec view labels run.seqs|0|own|
+explain|phylogeny|explain spec view events run.seqs run.report|0|own|
+verify|line|verify spec view events chain|0|own|
 trace|line|trace spec view events queries|0|answers|
 trace of held reports|line|trace spec view '$work/exchanged' queries|0|answers|
 export|line|export spec view events|0|own|

@@ -632,6 +632,49 @@ for example in line phylogeny twisting pair; do
     check "what is listed for the items of $example is what \`ask\` answers yes to" lists_what_is_answered "$example"
 done
 
+# Why one item rests on another, and whether a chain is one.
+explains() {
+    local example=$1
+    run explain "examples/$example/spec" "examples/$example/view" "examples/$example/events" "$2" "$3" && ended 0 "$(text expected_out "$4")" "$nothing"
+}
+check "the output of a line rests on its input by a chain of two steps" explains line r.a r.b 'r.a\nvia i1\ni1.y\nvia i2\nr.b\n'
+check "an input rests on no output" explains line r.b r.a 'no\n'
+check "an item does not rest on itself" explains line i1.y i1.y 'no\n'
+check "a name of no item is unknown before a hidden one" explains phylogeny sp.a zz.b 'unknown\n'
+check "a chain from an item that the view hides is hidden" explains phylogeny sp.a run.report 'hidden\n'
+for word in '' r.a.b ra; do
+    check "\`$word\` is no name of an item to explain" says 1 'usage: wfprov COMMAND WORDS\n' explain $line/spec $line/view $line/events r.a "$word"
+done
+
+# What is said of the lines of a chain.
+verifies() {
+    printf "$1" >"$work/chain"
+    run verify $line/spec $line/view $line/events "$work/chain" && ended 0 "$(text expected_out "$2")" "$nothing"
+}
+check "a chain is one" verifies 'r.a\nvia i1\ni1.y\nvia i2\nr.b\n' 'yes\n'
+check "a part of a chain is one" verifies 'i1.y\nvia i2\nr.b\n' 'yes\n'
+check "a step through another instance is wrong" verifies 'r.a\nvia i2\ni1.y\n' 'no 2\n'
+check "a step to another item is wrong" verifies 'r.a\nvia i1\nr.b\n' 'no 3\n'
+check "a line that is passed over counts" verifies 'r.a\n\nvia i2\ni1.y\n' 'no 3\n'
+check "an item alone is no chain" verifies 'r.a\n' 'no 2\n'
+check "a chain does not end with an instance" verifies 'r.a\nvia i1\n' 'no 3\n'
+check "a file without lines is no chain" verifies '' 'no 1\n'
+refuses_chain() {
+    printf "$1" >"$work/chain"
+    says 2 "$2" verify $line/spec $line/view $line/events "$work/chain"
+}
+check "a line without the form of its turn is refused, whatever was wrong before" refuses_chain 'zz.z\nvia i1\ni1\n' 'refused: chain line 3: LineWrong\n'
+check "two items one behind the other are refused" refuses_chain 'r.a\nr.b\n' 'refused: chain line 2: LineWrong\n'
+check "the text \`no\` is no chain" refuses_chain 'no\n' 'refused: chain line 1: LineWrong\n'
+
+# Whether a chain of an example that \`explain\` writes is one by \`verify\`.
+verifies_what_is_explained() {
+    local folder=examples/$1
+    "$program" explain "$folder/spec" "$folder/view" "$folder/events" "$2" "$3" >"$work/chain" && run verify "$folder/spec" "$folder/view" "$folder/events" "$work/chain" && ended 0 "$(text expected_out 'yes\n')" "$nothing"
+}
+check "a chain of the phylogeny is verified" verifies_what_is_explained phylogeny run.seqs run.report
+check "a chain of the twisting run is verified" verifies_what_is_explained twisting r.a1 r.b1
+
 # Whether the program takes the run that it makes, labels it, and answers alike from the events and from the labels.
 takes_what_it_makes() {
     local spec=examples/$1/spec view=examples/$1/view

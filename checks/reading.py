@@ -24,6 +24,7 @@ PARTS = [
     ("Which workflows and views are accepted", ["wf_inputs/specs/Specification", "wf_inputs/specs/ViewTold"]),
     ("Runs, labels and label files", ["wf_inputs/specs/RunTold", "cmd_ingest/specs/Ingested", "wf_inputs/specs/LabelsTold"]),
     ("What labels tell", ["wf_query/specs/Answers", "wf_lineage/specs/Listed", "cmd_decide/specs/Decided"]),
+    ("Why an item rests on another", ["cmd_explain/specs/Reasons", "wf_reason/specs/Checked"]),
     ("What the other commands write", ["cmd_describe/specs/Does", "wf_export/specs/ExportText", "cmd_make/specs/Does"]),
     ("The program", ["wf_top/specs/Outcome", "wf_top/specs/Meets", "wf_top/specs/Counts"]),
 ]

@@ -16,7 +16,7 @@ use Rattle.wf_laws.proofs.PathTests.{path_either}
 use Rattle.chain_model.specs.Chains.{entries_in, exits_in, IsOfOpen, IsEntry, IsExit, unopened_pairs, LeadsThrough, ChainStep, LeadsOn, StepsLead}
 
 module _ (g : Grammar) (u : View) (m : ℕ) (events : List Event) where
-  open_either : (n : Instance) → IsIn n (seen_in g u m events) → Either (IsOpen g u m events n)
+  pub open_either : (n : Instance) → IsIn n (seen_in g u m events) → Either (IsOpen g u m events n)
   open_either n h = either_same (λ q. (h, q.0, q.1)) (λ q. (q.1, q.2)) (either_both (test_either (expands u n.module_no)) (by_run (expanded_by events n.name)))
     where
       by_run : (o : Option Expanded) → Either ((x : Expanded) × (o ≡ Some x))
@@ -56,10 +56,10 @@ module _ (g : Grammar) (u : View) (m : ℕ) (events : List Event) where
         (subst (λ b. IsIn (record { from = x; to = y }) (cond b (when_expanded w.owner (expanded_by events w.owner.name)) [])) (sym w.is_open.1)
         (subst (λ o. IsIn (record { from = x; to = y }) (when_expanded w.owner o)) (sym w.told) at))
 
-    walk_open_either : (x y : Port (List ℕ)) → Either (Walk (IsOfOpen g u m events listed) x y)
+    pub walk_open_either : (x y : Port (List ℕ)) → Either (Walk (IsOfOpen g u m events listed) x y)
     walk_open_either x y = either_same (walk_same listed_open) (walk_same open_listed) (path_either bytes_either of_all x y)
 
-  visible_either : (o : Option (List ℕ)) → Either (IsMadeOpen g u m events o)
+  pub visible_either : (o : Option (List ℕ)) → Either (IsMadeOpen g u m events o)
   visible_either None = inl tt
   visible_either (Some i) = test_either (opens u (seen_in g u m events) i)
 
@@ -71,7 +71,7 @@ module _ (g : Grammar) (u : View) (m : ℕ) (events : List Event) where
     passes_either : (from to : Port (List ℕ)) (n : Instance) (i o : ℕ) → Either (Passes from to n i o)
     passes_either from to n i o = either_both (walk_open_either (entries_in g) from (input n.name i)) (either_both (test_either (unopened_pairs u d n.module_no i o)) (walk_open_either (exits_in g) (output n.name o) to))
 
-    through_either : (x y : Item) (n : Instance) → IsIn n (seen_in g u m events) → Either (LeadsThrough g u d m events x n y)
+    pub through_either : (x y : Item) (n : Instance) → IsIn n (seen_in g u m events) → Either (LeadsThrough g u d m events x n y)
     through_either x y n h = go x.consumed y.produced refl refl
       where
         go : (c p : Option (Port (List ℕ))) → x.consumed ≡ c → y.produced ≡ p → Either (LeadsThrough g u d m events x n y)

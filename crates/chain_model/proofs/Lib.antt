@@ -9,3 +9,4 @@ pub mod ChainTexts
 pub mod WorkedChains
 pub mod WorkedTwistingChains
 pub mod WorkedDiamondChains
+pub mod FullPairs

@@ -1,5 +1,9 @@
 pub mod ItemWords
 pub mod PutListings
+pub mod Reasons
+pub mod Told
 pub mod OneExplaining
 pub mod SomeExplaining
 pub mod GoodExplaining
+pub mod Verifying
+pub mod RunVerified

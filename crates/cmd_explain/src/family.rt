@@ -1,11 +1,11 @@
-// The family of `lineage` and `impact`.
+// The family of `lineage`, `impact`, `explain` and `verify`.
 use crate::command::Command;
 use std::alloc::Global;
 use wf_io::{Shelf, Sink};
 use wf_message::{Ending, ending_after};
 use wf_stage::Commands;
 
-/// `lineage` and `impact` as a family of commands.
+/// `lineage`, `impact`, `explain` and `verify` as a family of commands.
 pub struct Family;
 
 impl Commands for Family {

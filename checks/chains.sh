@@ -1,0 +1,50 @@
+#!/usr/bin/env bash
+# Compares `lineage`, `impact`, `explain` and `verify` with a plain search on small grammars at random, and checks that a program that says something else is found out.
+# The words are how many grammars are tried, and from which seed; 1,000 and 1 where they are not given.
+set -euo pipefail
+
+cd "$(dirname "${BASH_SOURCE[0]}")/.."
+. checks/count.sh
+. checks/built.sh
+export PYTHONDONTWRITEBYTECODE=1
+
+compares() {
+    python3 checks/chains.py "$program" --grammars "$1" --seed "$2" | tee "$work/compared"
+}
+check "on ${1:-1000} small grammars the commands say what a search finds" compares "${1:-1000}" "${2:-1}"
+
+# Makes a program that is the built one, but for lines of a shell script before it is called.
+stand_in() {
+    printf '#!/bin/sh\nprogram=%q\n%s\nexec "$program" "$@"\n' "$program" "$1" >"$work/program"
+    chmod +x "$work/program"
+}
+
+# Whether it is found that such a program says something else, by these commands and no other.
+finds() {
+    stand_in "$2"
+    ! python3 checks/chains.py "$work/program" --grammars 12 >"$work/told" || return 1
+    [ "$(sed -n 's/: .* compared, [1-9][0-9]* differ$//p' "$work/told" | xargs)" = "$1" ]
+}
+
+# The lines by which what a command writes is changed by `sed`.
+changing() {
+    printf "[ \"\$1\" != %s ] || { \"\$program\" \"\$@\" | sed '%s'; exit; }" "$1" "$2"
+}
+
+check "it is found that \`lineage\` and \`impact\` are exchanged" finds "lineage impact" \
+    'case $1 in lineage) shift && set -- impact "$@" ;; impact) shift && set -- lineage "$@" ;; esac'
+check "it is found that \`lineage\` leaves out a line" finds lineage "$(changing lineage '$d')"
+check "it is found that \`impact\` lists in another order" finds impact "$(changing impact '1!G;h;$!d')"
+check "it is found that \`lineage\` calls unknown what is hidden" finds lineage "$(changing lineage 's/^hidden$/unknown/')"
+
+# The other two, if the program has them.
+if grep -q '^explain: .* compared' "$work/compared"; then
+    check "it is found that \`explain\` ends before its end" finds explain "$(changing explain '4,$d')"
+    check "it is found that \`explain\` goes by other instances" finds explain "$(changing explain '2s/$/0/')"
+fi
+if grep -q '^verify: .* compared' "$work/compared"; then
+    check "it is found that \`verify\` takes every chain" finds verify "$(changing verify 's/^no .*/yes/')"
+    check "it is found that \`verify\` takes no chain" finds verify "$(changing verify 's/^yes/no 1/')"
+fi
+
+finish

@@ -1,0 +1,86 @@
+// `explain`: SPEC, VIEW and EVENTS, and then why one item rests on another.
+ghost use Rattle.std.specs.Prelude.{◌∷◌, []};
+ghost use Rattle.wf_flat.specs.Table.{IsTableOf, events_of};
+ghost use Rattle.wf_message.specs.Endings.{end_after};
+ghost use Rattle.wf_stage.specs.Promises.{Obeys, Writes};
+ghost use Rattle.cmd_explain.specs.Reasons.{IsReason};
+ghost use Rattle.cmd_explain.specs.Does.{ExplainsRun, Explains};
+
+use crate::reason::put_reason;
+use std::alloc::Global;
+use wf_chain::ViewedRun;
+use wf_flat::PlainRun;
+use wf_inputs::{events_stage, spec_stage, view_stage};
+use wf_io::{Shelf, Sink};
+use wf_message::Stop;
+use wf_safe::SafeView;
+
+/// The names of the files that `explain` reads, in this order, and those of two items.
+#[derive(Clone, Copy)]
+pub struct ExplainWords<'w> {
+    pub spec: &'w str,
+    pub view: &'w str,
+    pub events: &'w str,
+    pub first: &'w str,
+    pub second: &'w str,
+}
+
+/// Puts why one item of a run rests on another, under a view.
+fn explain_run<O: Sink>(
+    alloc: Global,
+    v: &SafeView<'_>,
+    run: &PlainRun,
+    words: &ExplainWords<'_>,
+    out: &mut O,
+) -> Result<(), Stop>
+    requires run { IsTableOf v.now.accepted.grammar.core run.now }
+    ensures writes { Writes O.put_bytes O.faults O.at_last []
+        (IsReason v.now.accepted.grammar.core v.now.view.core (events_of run.now) words.now.first.now words.now.second.now)
+        out.old out.new (end_after result) }
+{
+    let Ok(viewed) = ViewedRun::of(alloc, v, run) else {
+        return Err(Stop::NoMemory);
+    };
+    put_reason(
+        alloc,
+        &viewed,
+        words.first.as_bytes(),
+        words.second.as_bytes(),
+        out,
+    )
+}
+
+/// Takes EVENTS under a view, and puts why one item rests on another.
+fn explain_events<H: Shelf, O: Sink>(
+    alloc: Global,
+    v: &SafeView<'_>,
+    words: &ExplainWords<'_>,
+    shelf: &mut H,
+    out: &mut O,
+) -> Result<(), Stop>
+    ensures obeys { Obeys H.files H.readings H.faults H.at_last O.put_bytes O.faults O.at_last (words.now.events.now ∷ []) []
+        (λ f. ExplainsRun v.now.accepted.grammar.core v.now.view.core (f words.now.events.now) words.now.first.now words.now.second.now)
+        shelf.old shelf.new out.old out.new (end_after result) }
+{
+    let run = events_stage(alloc, shelf, words.events, v.grammar())?;
+    explain_run(alloc, v, &run, words, out)
+}
+
+/// Tells why one item of a run rests on another, however the run is finished: the first of the shortest chains of items that the view shows, each of which rests on the one before through one instance.
+///
+/// Cost: linear in EVENTS and in the chain.
+pub(crate) fn explain<H: Shelf, O: Sink>(
+    alloc: Global,
+    words: &ExplainWords<'_>,
+    shelf: &mut H,
+    out: &mut O,
+) -> Result<(), Stop>
+    ensures obeys { Obeys H.files H.readings H.faults H.at_last O.put_bytes O.faults O.at_last
+        (words.now.spec.now ∷ words.now.view.now ∷ words.now.events.now ∷ []) []
+        (λ f. Explains (f words.now.spec.now) (f words.now.view.now) (f words.now.events.now) words.now.first.now words.now.second.now)
+        shelf.old shelf.new out.old out.new (end_after result) }
+{
+    let accepted = spec_stage(alloc, shelf, words.spec)?;
+    let safe = view_stage(alloc, shelf, words.view, &accepted)?;
+    explain_events(alloc, &safe, words, shelf, out)
+}

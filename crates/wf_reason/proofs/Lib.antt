@@ -1,0 +1,13 @@
+pub mod LineLists
+pub mod Onward
+pub mod RightOrNot
+pub mod OneText
+pub mod NamesInRuns
+pub mod Rows
+pub mod ChainFiles
+pub mod WorkedLines
+pub mod Named
+pub mod Standings
+pub mod SameLines
+pub mod TakenLines
+pub mod Verified

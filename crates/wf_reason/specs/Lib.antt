@@ -1,0 +1,10 @@
+pub mod ChainLines
+pub mod HandedIn
+pub mod Right
+pub mod Checked
+pub mod Laws
+pub mod Examples
+pub mod Faults
+pub mod Standing
+pub mod Taking
+pub mod Told
