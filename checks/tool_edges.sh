@@ -31,6 +31,7 @@ works() {
         export) python3 tools/dot.py "$work/export" ;;
         labels) python3 tools/labels.py lines $line/labels ;;
         file) python3 tools/labels.py file "$work/lines" ;;
+        pick) python3 tools/labels.py pick $line/labels $line/queries ;;
         two_labels) python3 tools/two_labels.py $line/spec $line/labels r.a r.b ;;
         impact_of_file) python3 tools/files.py impact $line/spec $line/view $line/labels "$work/table" a ;;
         page_of_files) python3 tools/page.py --table "$work/table" $line/spec $line/view $line/events "$work/names" ;;
@@ -48,6 +49,7 @@ fails() {
         export) python3 tools/dot.py "$work/absent" ;;
         labels) python3 tools/labels.py lines "$work/absent" ;;
         file) python3 tools/labels.py file "$work/absent" ;;
+        pick) python3 tools/labels.py pick $line/labels "$work/absent" ;;
         two_labels) python3 tools/two_labels.py $line/spec "$work/absent" r.a r.b ;;
         impact_of_file) python3 tools/files.py impact $line/spec $line/view $line/labels "$work/absent" a ;;
         page_of_files) python3 tools/page.py --table "$work/absent" $line/spec $line/view $line/events "$work/names" ;;
@@ -62,7 +64,7 @@ fails() {
 tool_of() {
     case $1 in
         export) echo dot.py ;;
-        file) echo labels.py ;;
+        file | pick) echo labels.py ;;
         impact_of_file) echo files.py ;;
         page_of_files) echo page.py ;;
         *) echo "$1.py" ;;
@@ -91,7 +93,7 @@ at_no_error() {
     fails "$1" >>"$work/out" 2>/dev/full || full=$?
     [ "$ended" = 2 ] && [ "$full" = 2 ] && [ ! -s "$work/out" ]
 }
-for tool in dot export labels file two_labels impact_of_file page page_of_files crates files to_rocrate; do
+for tool in dot export labels file pick two_labels impact_of_file page page_of_files crates files to_rocrate; do
     check "$tool: a full device is told" at_full "$tool"
     check "$tool: closed standard output is told" at_closed_output "$tool"
     check "$tool: closed standard input changes nothing" at_closed_input "$tool"
@@ -187,6 +189,7 @@ tells_path() {
 check "dot.py: a path is told as text" tells_path dot.py "$odd"
 check "dot.py: the path of a specification is told as text" tells_path dot.py --spec "$odd"
 check "labels.py: a path is told as text" tells_path labels.py lines "$odd"
+check "labels.py: a path of names is told as text" tells_path labels.py pick $line/labels "$odd"
 check "two_labels.py: a path is told as text" tells_path two_labels.py "$odd" $line/labels r.a r.b
 check "files.py: a path is told as text" tells_path files.py impact $line/spec $line/view $line/labels "$odd" a
 check "page.py: a path is told as text" tells_path page.py $line/spec $line/view $line/events "$odd"

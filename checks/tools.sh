@@ -193,6 +193,47 @@ check "digits that are odd are told by their line" \
 check "lines without a head are told" \
     complains 'labels.py: line 1: not `head` and hexadecimal digits with one space between' python3 tools/labels.py file <(echo 'r.a 20')
 
+# Entries of a label file are picked by their names, in the order of the file.
+picks() {
+    printf "$1" >"$work/names" && python3 tools/labels.py pick "${@:3}" examples/phylogeny/labels "$work/names" >"$work/picked" &&
+        python3 tools/labels.py lines "$work/picked" | cut -d ' ' -f 1 | cmp -s - <(printf "head\n$2")
+}
+check "entries are picked by names, in the order of the file" picks 'run.tree rl2.c2\r\nrun.seqs\n\nrun.tree' 'run.seqs\nrun.tree\nrl2.c2\n'
+check "a name that no entry has is passed over" picks 'run.q\nbu.n\n' 'bu.n\n'
+check "of no names the head is left" picks '' ''
+digest=$(sha256sum <examples/phylogeny/labels)
+check "the file of a digest is taken" picks 'bu.n' 'bu.n\n' --sha256 "${digest%% *}"
+check "a file of another digest is refused" complains \
+    "labels.py: examples/line/labels: its SHA-256 is $(sha256sum <examples/line/labels | cut -c 1-64), and not ${digest%% *}: it is another file, or has changed" \
+    python3 tools/labels.py pick --sha256 "${digest%% *}" examples/line/labels "$work/names"
+picks_all() { cut -d ' ' -f 1 "$work/lines" | python3 tools/labels.py pick "examples/$1/labels" /dev/stdin | cmp -s - "examples/$1/labels"; }
+for example in line phylogeny twisting mapping-cwl; do
+    python3 tools/labels.py lines "examples/$example/labels" >"$work/lines"
+    check "of all names the label file of $example is picked as it is" picks_all "$example"
+done
+
+# A label file of many pieces, in which some names stand twice.
+python3 - "$work" <<'LARGE'
+import sys
+sys.path.insert(0, "tools")
+import labels
+head = open("examples/line/labels", "rb").read()[:36]
+entries = [labels.entry_of(b"a%d.b" % (number % 200), bytes(number * 997 % 65536)) for number in range(220)]
+put = lambda name, data: open(f"{sys.argv[1]}/{name}", "wb").write(data)
+put("large", head + b"".join(entries))
+put("wanted", head + b"".join(entry for number, entry in enumerate(entries) if number % 200 % 7 == 0))
+put("names", b"\n".join(b"a%d.b" % number for number in reversed(range(0, 200, 7))))
+LARGE
+check "a label file of long entries is picked piece by piece" cmp -s "$work/wanted" <(python3 tools/labels.py pick "$work/large" "$work/names")
+check "and from a pipe" cmp -s "$work/wanted" <(cat "$work/large" | python3 tools/labels.py pick /dev/stdin "$work/names")
+answers_alike() {
+    python3 tools/labels.py pick examples/twisting/labels examples/twisting/queries >"$work/picked" &&
+        "$program" ask examples/twisting/spec examples/twisting/view "$work/picked" examples/twisting/queries | cmp -s - examples/twisting/answers
+}
+check "what is picked for questions answers them" answers_alike
+check "an entry that is not whole is told where entries are picked" \
+    complains 'labels.py: the entry at byte 50 is not whole' python3 tools/labels.py pick "$work/cut_labels" "$work/names"
+
 # Two labels.
 two_labels() {
     python3 tools/two_labels.py "examples/$1/spec" "examples/$2/labels" "$3" "$4"

@@ -53,19 +53,24 @@ def write(data):
     if sys.stdout is None:
         raise Wrong("writing: standard output is closed")
     try:
-        put(1, data if isinstance(data, bytes) else data.encode("utf-8", "backslashreplace"))
+        put(1, data.encode("utf-8", "backslashreplace") if isinstance(data, str) else data)
     except OSError as error:
         raise Wrong(f"writing: {error.strerror}") from None
 
 
-def complain(tool, what):
-    """Writes one line on standard error. Where it is closed or full nothing is written."""
+def say(data):
+    """Writes bytes to standard error. Where it is closed or full nothing is written."""
     if sys.stderr is None:
         return
     try:
-        put(2, f"{tool}: {escaped(str(what))}\n".encode("utf-8", "backslashreplace"))
+        put(2, data)
     except OSError:
         pass
+
+
+def complain(tool, what):
+    """Writes one line on standard error."""
+    say(f"{tool}: {escaped(str(what))}\n".encode("utf-8", "backslashreplace"))
 
 
 def reason(error):
