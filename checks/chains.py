@@ -6,8 +6,7 @@
 For each specification that `check` accepts it draws a view, of which modules are closed until `view` calls it safe, and a run, finished or
 not. Of each item of the run, and of a name that is none, `lineage` and `impact` have to list what a search over the lines of `export`
 finds, in the order of the label file. In a finishing of the run the same items have to rest on one another. `explain` has to tell the first
-of the shortest chains, and `verify` to take these and longer ones, and to find the first wrong line of chains that were changed; the two
-are left out where the program does not have them.
+of the shortest chains, and `verify` to take these and longer ones, and to find the first wrong line of chains that were changed.
 
 It prints how much was compared and how much of it differs, and of each command the difference with the fewest items. Ends with 1 where
 something differs; the files of such a case are left in the folder that the variable KEEP names, under its number.
@@ -29,8 +28,6 @@ import wfprov
 from cases import Case
 
 FILES = ("spec", "view")
-# The words by which the program is asked, over the files of an example, whether it has a command.
-MAYBE = {"explain": ("events", "r.a", "r.b"), "verify": ("events", "/dev/null")}
 # How many pairs with a chain are asked for, and pairs without one, how many chains are tried that need not be shortest, and how many
 # changed ones of each chain.
 CHAINED, UNCHAINED, LONGER, CHANGED = 4, 2, 1, 1
@@ -38,24 +35,15 @@ CHAINED, UNCHAINED, LONGER, CHANGED = 4, 2, 1, 1
 Difference = collections.namedtuple("Difference", "items number words wanted found")
 
 
-def has(program, command):
-    """Whether the program has a command."""
-    words = [program, command, *FILES, *MAYBE[command]]
-    folder = os.path.join(grammars.TOP, "examples/line")
-    done = subprocess.run(words, cwd=folder, stdout=subprocess.DEVNULL, stderr=subprocess.DEVNULL, check=False)
-    return done.returncode != 1
-
-
 class Calls:
     """Calls of the program that a shell makes in a folder, one after the other: to start each from here would take longer than it takes."""
 
-    def __init__(self, commands):
-        self.commands, self.wanted = commands, []
+    def __init__(self):
+        self.wanted = []
 
     def want(self, words, text, status=0):
-        """Adds a call, with the text and the status that are wanted of it, if its command is compared."""
-        if words[0] in self.commands:
-            self.wanted.append((words, (status, text)))
+        """Adds a call, with the text and the status that are wanted of it."""
+        self.wanted.append((words, (status, text)))
 
     def made(self, program, folder):
         """Yields the words of each call, with the status and the text that are wanted, and those that are found."""
@@ -161,9 +149,9 @@ def finishing_differences(case, number):
             yield Difference(len(case.items), number, ["finishing", item], sorted(wanted), sorted(found))
 
 
-def compared(case, commands, number):
+def compared(case, number):
     """Returns the differences of the case of a number."""
-    calls = Calls(commands)
+    calls = Calls()
     want_listings(case, calls)
     want_verdicts(case, calls, want_explanations(case, calls))
     differences = list(finishing_differences(case, number))
@@ -176,12 +164,12 @@ def compared(case, commands, number):
     return differences
 
 
-def tried(program, commands, seed, number):
+def tried(program, seed, number):
     """Returns the counts and the differences of the case of a number."""
     with tempfile.TemporaryDirectory() as folder:
         try:
             case = Case(program, random.Random(f"{seed} {number}"), folder)
-            differences = compared(case, commands, number)
+            differences = compared(case, number)
         except wfprov.Ended as error:
             raise AssertionError(f"grammar {number}: {error}") from None
         if differences and os.environ.get("KEEP"):
@@ -189,17 +177,13 @@ def tried(program, commands, seed, number):
         return case.counts, differences
 
 
-def tell(counts, differences, commands):
+def tell(counts, differences):
     """Prints what was compared, and how much of it differs."""
     print(f"{counts['grammars']} grammars, and {counts['refused']} that were refused; {counts['unsafe']} modules were closed")
     print(f"{counts['grammars']} runs, of which {counts['pending']} have pending instances; {counts['items']} items, of which {counts['hidden']} are hidden")
     print(f"{counts['pairs']} pairs, and {counts['clashes']} of two runs that clash")
-    if "explain" in commands:
-        print(f"{counts['chains']} chains, of which {counts['several']} are the first of several; {counts['changed']} changed chains")
-    for command in ("finishing", "lineage", "impact", *MAYBE):
-        if command in MAYBE and command not in commands:
-            print(f"{command}: the program does not have it")
-            continue
+    print(f"{counts['chains']} chains, of which {counts['several']} are the first of several; {counts['changed']} changed chains")
+    for command in ("finishing", "lineage", "impact", "explain", "verify"):
         own = [difference for difference in differences if difference.words[0] == command]
         print(f"{command}: {counts[command]} compared, {len(own)} differ")
         for least in sorted(own)[:1]:
@@ -213,13 +197,12 @@ def main():
     words.add_argument("--seed", type=int, default=1)
     words.add_argument("--jobs", type=int, default=len(os.sched_getaffinity(0)))
     args = words.parse_args()
-    commands = ["lineage", "impact", *(command for command in MAYBE if has(args.program, command))]
     counts, differences = collections.Counter(), []
     with multiprocessing.Pool(args.jobs) as pool:
-        for own, found in pool.imap_unordered(functools.partial(tried, args.program, commands, args.seed), range(args.grammars)):
+        for own, found in pool.imap_unordered(functools.partial(tried, args.program, args.seed), range(args.grammars)):
             counts += own
             differences += found
-    tell(counts, differences, commands)
+    tell(counts, differences)
     return int(bool(differences))
 
 

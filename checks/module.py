@@ -354,6 +354,27 @@ class Calls(InFolder):
         self.assertEqual((found.leaves, found.pending, found.items), ([("i1", "P"), ("i2", "Q")], [], ["r.a", "r.b", "i1.y"]))
         self.assertEqual(found.links, [("i1.y", "i2.x"), ("r.a", "i1.x"), ("i2.y", "r.b"), ("i1.x", "i1.y"), ("i2.x", "i2.y")])
 
+    def test_listings(self):
+        """what the items of the line rest on, as docs/FORMATS.md has it, and what rests on them"""
+        files = [example("line", file) for file in ("spec", "view", "labels")]
+        self.assertEqual(wfprov.lineage(*files, "r.b"), ["r.a", "i1.y"])
+        self.assertEqual(wfprov.impact(*files, "r.a"), ["r.b", "i1.y"])
+        self.assertEqual(wfprov.impact(*files, "r.b"), [])
+        self.assertIs(wfprov.lineage(*files, "i2.y"), Answer.UNKNOWN)
+        self.assertIs(wfprov.impact(*(example("phylogeny", file) for file in ("spec", "view", "labels")), "sp.a"), Answer.HIDDEN)
+
+    def test_chains(self):
+        """the chain of the line, as docs/FORMATS.md has it, and the first wrong line of others"""
+        files = [example("line", file) for file in ("spec", "view", "events")]
+        chain = ["r.a", "via i1", "i1.y", "via i2", "r.b"]
+        self.assertEqual(wfprov.explain(*files, "r.a", "r.b"), chain)
+        self.assertIs(wfprov.explain(*files, "r.b", "r.a"), Answer.NO)
+        self.assertIs(wfprov.explain(*files, "r.a", "i2.y"), Answer.UNKNOWN)
+        self.assertIs(wfprov.explain(*(example("phylogeny", file) for file in ("spec", "view", "events")), "sp.a", "run.tree"), Answer.HIDDEN)
+        for wrong, lines_there in ((None, chain), (4, [*chain[:3], "via i1", "r.b"]), (5, chain[:4]), (6, [*chain, "via i2"]), (1, [])):
+            self.assertEqual(wfprov.verify(*files, self.file("chain", "".join(f"{line}\n" for line in lines_there))), wrong)
+        self.assert_refused(lambda: wfprov.verify(*files, self.file("chain", "r.a\ni1\n")), "chain", 2, "LineWrong", "")
+
     def test_gen(self):
         """a generated run that was worked by hand"""
         self.assertEqual(

@@ -68,6 +68,30 @@ check "it is well-formed, fetches nothing, and has each question, answer and dig
 check "it says what each answer means" has 'run.tree</code> rests on <code>run.seqs</code>' 'al.m</code> does not rest on <code>run.cfg' 'an item is not there'
 check "it has the commands" has "<code>wfprov view $once/spec $once/view</code>" "<code>wfprov trace $once/spec $once/view $once/events $once/queries</code>"
 
+# Whether each `yes` of the last page, made of these files, has the chain that `explain` writes, and no other answer has one. A chain is folded from its sixth step on.
+has_chains() {
+    python3 - "$work/page" "$program" "$@" <<'READS'
+import subprocess, sys
+import xml.etree.ElementTree as tree
+path, program, *files, queries = sys.argv[1:]
+top = tree.fromstring(open(path).read().split("\n", 1)[1])
+part = next(part for part in top.iter("section") if part.get("id") == "questions")
+seen = 0
+for line, row in zip(open(queries).read().split("\n"), part.findall(".//tbody/tr")):
+    told = subprocess.run([program, "explain", *files, *line.split()], capture_output=True, text=True).stdout
+    shown = row.findall(".//details")
+    assert len(shown) == (row.findall("td")[2].text == "yes") == (told.count("\n") > 1), line
+    for details in shown:
+        steps = told.count("via ")
+        assert details.find("pre").text + "\n" == told and details.get("open") == ("open" if steps < 6 else None), line
+        assert "".join(details.find("summary").itertext()) == f"Why: a chain of {steps} step{'s' * (steps > 1)}, which verify accepts", line
+        seen += 1
+assert seen > 1
+READS
+}
+check "each yes has its chain" has_chains $once/spec $once/view $once/events $once/queries
+check "it says what made and tried the chains" has "<code>wfprov explain $once/spec $once/view $once/events FIRST SECOND</code>" "<code>wfprov verify $once/spec $once/view $once/events CHAIN</code>"
+
 # Whether the view of the last page is that which stands beside an example.
 tells_view() {
     python3 - "$work/page" "$1" <<'READS'
@@ -88,6 +112,7 @@ check "a page is made from labels" page --labels $long/labels $long/spec $long/v
 check "it has the questions, answers and digests" is_whole $long/queries $long/answers $long/{spec,view,events,queries,labels} "$program"
 check "it says that the label file is that of the run" has 'byte for byte' "<code>wfprov ask $long/spec $long/view $long/labels $long/queries</code>"
 check "it tells its view as it is shown" tells_view $long/shown
+check "each yes has its chain beside labels" has_chains $long/spec $long/view $long/events $long/queries
 check "it says where pairs come from" has 'said by the view' 'said by the specification' 'worked out from the steps inside' 'nothing is said of it'
 
 # Whether the links on the last page are those that `export` writes.
@@ -101,7 +126,8 @@ hides() {
 check "what the view leaves closed is not on the page" hides
 check "a page is made from labels without the run" page --labels $long/labels $long/spec $long/view - $long/queries
 check "it has its questions, answers and digests" is_whole $long/queries $long/answers $long/{spec,view,queries,labels} "$program"
-check "it says so" has 'without the run'
+check "it says so" has 'made without the run, of which <code>wfprov explain</code> tells why'
+check "it has no chains" test "$(grep -c '<details\|wfprov verify' "$work/page")" = 0
 
 # Whether a page can be made where no Graphviz is found.
 without_graphviz() {
@@ -119,6 +145,20 @@ only_tells() {
 }
 check "it only tells how many there are" only_tells
 
+# A chain through a run of rounds has two steps for each, and one where they end.
+long_chain() {
+    local steps=$((2 * $(grep -c '"production":1,' "$work/many") + 1))
+    page examples/twisting/spec examples/twisting/view "$work/many" "$(text ends 'n0.a1 n0.b1\n')" || return 1
+    "$program" explain examples/twisting/spec examples/twisting/view "$work/many" n0.a1 n0.b1 >"$work/chain"
+    [ "$(grep -c '^via ' "$work/chain")" = "$steps" ] && has "<details><summary>Why: a chain of $steps steps, which" && sed -n '/<pre>/,/<\/pre>/p' "$work/page" | sed 's/.*<pre>//; s/<\/pre>.*//' |
+        cmp -s - <(head -n 21 "$work/chain" && echo "($((steps - 20)) steps left out)" && tail -n 20 "$work/chain")
+}
+check "of a long chain the ends are shown" long_chain
+bounds_chains() {
+    python3 -c 'import sys; sys.path.insert(0, "tools"); import accepted_chains; print([accepted_chains.most(size) for size in (0, 4500, 7_500_000, 75_000_000, 1 << 30)])'
+}
+check "a larger run has fewer chains, and one at least" test "$(bounds_chains)" = '[200, 200, 17, 1, 1]'
+
 head -n 20 $long/events >"$work/early"
 "$program" ingest $long/spec "$work/early" >"$work/early_labels"
 begins() {
@@ -126,7 +166,7 @@ begins() {
 }
 check "a label file of an earlier state of the run is told" begins
 goes_on() {
-    page --labels $long/labels $long/spec $long/view "$work/early" $long/queries && has 'The label file goes on'
+    page --labels $long/labels $long/spec $long/view "$work/early" $long/queries && has 'The label file goes on' 'the run that is shown does not have both items yet, and so no chain'
 }
 check "a label file of a later state of the run is told" goes_on
 
@@ -190,7 +230,7 @@ text shown 'out/a.bam out/a.vcf\nout/a.bam out/a.vcf\nout/a.vcf out/a.bam\nin/re
 about_files() {
     page --table "$two/table" "$two/spec" "$two/open" "$two/events" "$work/names" &&
         is_whole "$work/shown" "$(text said 'yes\nyes\nno\nno\n')" "$two"/{spec,open,events} "$work/names" "$two/table" "$program" &&
-        has '<code>out/a.vcf</code> rests on <code>out/a.bam</code>' 'sha1$33' "files.py --trace ask $two/spec $two/open $two/events $two/table $work/names"
+        has '<code>out/a.vcf</code> rests on <code>out/a.bam</code>' 'sha1$33' "files.py --trace ask $two/spec $two/open $two/events $two/table $work/names" 'from <code>al.bam</code> to <code>r.vcf</code>, which'
 }
 check "by a table a page has the paths of files, and a file has all of its items" about_files
 about_files_of_labels() {
@@ -240,6 +280,24 @@ check "a table of another run is told" refuses "$line/events: it has no item of 
     --table "$two/table" $line/spec $line/view $line/events "$(text bad 'f1\tf4\n')"
 check "an option that is given twice is refused" refuses 'the words are not [--labels LABELS] [--table TABLE] SPEC VIEW EVENTS QUERIES; see --help' \
     --table "$two/table" --table "$two/table" "$two/spec" "$two/open" "$two/events" "$work/names"
+
+# A program that says something else of chains than the built one: it does these lines first.
+other() {
+    printf '#!/bin/sh\n%s\nexec "%s" "$@"\n' "$1" "$program" >"$work/otherwise"
+    chmod +x "$work/otherwise"
+}
+refuses_chain() {
+    other "$2"
+    WFPROV=$work/otherwise refuses "$1" $line/spec $line/view $line/events "$(text reason 'r.a r.b\n')"
+}
+check "a chain that is not accepted is told, and not shown" refuses_chain \
+    "wfprov verify: \`no 2\` of what \`wfprov explain $line/spec $line/view $line/events r.a r.b\` writes: it is no chain of the run" \
+    '[ "$1" != explain ] || { printf "r.a\nvia i2\nr.b\n"; exit; }'
+check "a chain of other items is told" refuses_chain "wfprov explain $line/spec $line/view $line/events r.a r.b: it writes a chain of other items" \
+    '[ "$1" != explain ] || { printf "r.a\nvia i1\ni1.y\n"; exit; }'
+check "a reason that contradicts the answer is told" refuses_chain 'wfprov explain: `no` of `r.a` and `r.b`, where the answer is `yes`' '[ "$1" != explain ] || { echo no; exit; }'
+check "a chain is not shown by what explain says alone" refuses_chain \
+    "wfprov verify: \`no 1\` of what \`wfprov explain $line/spec $line/view $line/events r.a r.b\` writes: it is no chain of the run" '[ "$1" != verify ] || { echo no 1; exit; }'
 
 no_program() {
     WFPROV=$work/absent refuses "$work/absent: no program; \`./wfprov\` builds it, and the variable WFPROV may name another" $line/spec $line/view $line/events $line/queries

@@ -23,6 +23,7 @@ python3 tools/labels.py lines $line/labels >"$work/lines"
 
 printf '#wfprov files 1\nvalue\ta\t\t\t\t\tr.a\nvalue\tb\t\t\t\t\tr.b\n' >"$work/table"
 printf 'a\tb\n' >"$work/names"
+python3 tools/runs.py add "$work/lab" line $line/spec $line/view $line/labels "$work/table"
 
 # Runs a tool on words with which it writes something.
 works() {
@@ -38,6 +39,8 @@ works() {
         page) python3 tools/page.py $line/spec $line/view $line/events $line/queries ;;
         crates) python3 tools/crates.py ;;
         files) python3 tools/files.py ask $line/spec $line/view $line/labels "$work/table" a b ;;
+        runs) python3 tools/runs.py impact "$work/lab" a ;;
+        list_of_runs) python3 tools/runs.py list "$work/lab" ;;
         to_rocrate) python3 tools/to_rocrate.py "$work/export" ;;
     esac
 }
@@ -56,6 +59,8 @@ fails() {
         page) python3 tools/page.py $line/spec $line/view $line/events "$work/absent" ;;
         crates) python3 tools/crates.py "$work/absent" ;;
         files) python3 tools/files.py ask $line/spec $line/view $line/labels "$work/absent" a b ;;
+        runs) python3 tools/runs.py impact "$work/absent" a ;;
+        list_of_runs) python3 tools/runs.py list "$work/absent" ;;
         to_rocrate) python3 tools/to_rocrate.py "$work/absent" ;;
     esac
 }
@@ -67,6 +72,7 @@ tool_of() {
         file | pick) echo labels.py ;;
         impact_of_file) echo files.py ;;
         page_of_files) echo page.py ;;
+        list_of_runs) echo runs.py ;;
         *) echo "$1.py" ;;
     esac
 }
@@ -93,7 +99,7 @@ at_no_error() {
     fails "$1" >>"$work/out" 2>/dev/full || full=$?
     [ "$ended" = 2 ] && [ "$full" = 2 ] && [ ! -s "$work/out" ]
 }
-for tool in dot export labels file pick two_labels impact_of_file page page_of_files crates files to_rocrate; do
+for tool in dot export labels file pick two_labels impact_of_file page page_of_files crates files runs list_of_runs to_rocrate; do
     check "$tool: a full device is told" at_full "$tool"
     check "$tool: closed standard output is told" at_closed_output "$tool"
     check "$tool: closed standard input changes nothing" at_closed_input "$tool"
@@ -192,6 +198,7 @@ check "labels.py: a path is told as text" tells_path labels.py lines "$odd"
 check "labels.py: a path of names is told as text" tells_path labels.py pick $line/labels "$odd"
 check "two_labels.py: a path is told as text" tells_path two_labels.py "$odd" $line/labels r.a r.b
 check "files.py: a path is told as text" tells_path files.py impact $line/spec $line/view $line/labels "$odd" a
+check "runs.py: a path is told as text" tells_path runs.py list "$odd"
 check "page.py: a path is told as text" tells_path page.py $line/spec $line/view $line/events "$odd"
 check "crates.py: a path is told as text" tells_path crates.py "$odd"
 check "dot.py: a sign in a line is told as text" complains 'dot.py: line 1: `\x1b[2J` is no name' python3 tools/dot.py <(printf 'leaf \e[2J P\n')
@@ -199,10 +206,10 @@ check "dot.py: a line ends at a newline alone" complains 'dot.py: line 1: `r\r` 
 check "labels.py: a sign in a line is told as text" \
     complains 'labels.py: line 2: `\x9b2J` is not hexadecimal digits, two for each byte' python3 tools/labels.py file <(head -n 1 "$work/lines"; printf 'r.a \xc2\x9b2J\n')
 check "two_labels.py: an item is told as text" complains "two_labels.py: \`\\x1b.a\` is no item of $line/labels" python3 tools/two_labels.py $line/spec $line/labels $'\e.a' r.b
-files_of=(python3 tools/files.py impact $line/spec $line/view $line/labels "$work/table")
-check "files.py: a name is told as text" complains "files.py: $work/table: \`\\x1b.a\` is no file, checksum or action" "${files_of[@]}" $'\e.a'
+impact_of=(python3 tools/files.py impact $line/spec $line/view $line/labels "$work/table")
+check "files.py: a name is told as text" complains "files.py: $work/table: \`\\x1b.a\` is no file, checksum or action" "${impact_of[@]}" $'\e.a'
 check "files.py: text that turns the direction of writing is told as text" \
-    complains "files.py: $work/table: \`\\u202e.a\` is no file, checksum or action" "${files_of[@]}" $'\u202e.a'
+    complains "files.py: $work/table: \`\\u202e.a\` is no file, checksum or action" "${impact_of[@]}" $'\u202e.a'
 
 # A program that is none.
 printf '#!/bin/sh\nprintf "\\033[2J" >&2\nexit 2\n' >"$work/obeys"
@@ -221,7 +228,8 @@ seq 10000 | sed 's/.*/r.a r.b/' >"$work/most"
 check "page.py: 10,001 questions are refused" \
     complains "page.py: $work/more: more than 10,000 questions, which are too many for a page; \`wfprov\` answers them without one" python3 tools/page.py $line/spec $line/view $line/events "$work/more"
 most() {
-    python3 tools/page.py $line/spec $line/view $line/events "$work/filled" >"$work/page" && grep -q 'the answers to 10,000 questions' "$work/page"
+    python3 tools/page.py $line/spec $line/view $line/events "$work/filled" >"$work/page" && grep -q 'the answers to 10,000 questions' "$work/page" &&
+        grep -q 'Chains were asked for of the first 200 of the 10,000 questions that are answered' "$work/page" && [ "$(grep -c '<details' "$work/page")" = 200 ]
 }
 check "page.py: 10,000 questions make a page" most
 

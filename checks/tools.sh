@@ -49,16 +49,49 @@ draws_pending() {
     grep -q '^  "m1" .*style="dashed"' "$work/out" && grep -qF 'y1: Q\nx to y\nw to z' "$work/out" && grep -qF '"y1":"out_y" -> "m1":"in_a" [label="y1.y"];' "$work/out"
 }
 check "a pending instance and missing pairs are drawn" draws_pending
-# A question on the line: the two items, and the path between them where there is one.
+# A question on the line: the two items, and the chain between them where there is one.
 marks() {
-    "$program" export examples/line/spec examples/line/view examples/line/events | python3 tools/dot.py --question "$@" 2>&1
+    WFPROV=$program python3 tools/dot.py --question "$@" 2>&1
 }
-check "a worked question is drawn as worked" cmp -s tools/golden/dot/question.dot <(marks i1.y r.b)
-check "of a question that is answered no the two items are marked" test "$(marks r.b r.a | grep 1f5fa8 | grep -c 'oval.*filled')" = 2
-check "no path is marked from an item to itself" test "$(marks i1.y i1.y | grep -c 1f5fa8)" = 1
-check "an item of a question that is not shown is told" test "$(marks r.a i2.y)" = 'dot.py: `i2.y` is no item that is shown'
-check "missing words of a question are told" \
-    test "$(python3 tools/dot.py --question r.a 2>&1)" = "dot.py: the words behind --question are not FROM TO [FILE]; see --help"
+on_line() {
+    marks "$@" examples/line/spec examples/line/view examples/line/events
+}
+check "a worked question is drawn as worked" cmp -s tools/golden/dot/question.dot <(on_line i1.y r.b)
+check "of a question that is answered no the two items are marked" test "$(on_line r.b r.a | grep 1f5fa8 | grep -c 'oval.*filled')" = 2
+check "and nothing else" test "$(on_line r.b r.a | grep -c 1f5fa8)" = 2
+check "no chain is drawn from an item to itself" test "$(on_line i1.y i1.y | grep -c 1f5fa8)" = 1
+check "an item of a question that is not shown is told" test "$(on_line r.a i2.y)" = 'dot.py: `i2.y` is no item that is shown'
+check "what is no name of an item is told" test "$(on_line r.a r | cut -c 1-31)" = 'dot.py: wfprov explain: usage: '
+check "missing words of a question are told" test "$(marks r.a r.b)" = "dot.py: the words behind --question are not FROM TO SPEC VIEW EVENTS; see --help"
+check "a run of a question that is no regular file is told" test "$(marks r.a r.b examples/line/spec examples/line/view /dev/null)" = "dot.py: /dev/null: not a regular file"
+check "a run of a question that is refused is told" \
+    test "$(marks r.a r.b examples/line/spec examples/line/view examples/phylogeny/events)" = "dot.py: wfprov export: refused: events line 2: PositionsWrong"
+
+# Whether the parts that are drawn of a chain are these lines, each without its label, and no others.
+draws_chain() {
+    marks "${@:2}" | grep 1f5fa8 | sed 's/label="{.*}" //; s/#1f5fa8/blue/g; s/ \(penwidth\|fontcolor\|fillcolor\)=[^] ]*//g; s/^ *//' | sort | cmp -s - <(printf '%b' "$1" | sort)
+}
+head -n 2 examples/phylogeny/events >"$work/begun"
+echo '{}' >"$work/everything"
+echo '{"expand":[]}' >"$work/nothing"
+check "a chain leads through an instance that is not expanded yet" draws_chain \
+    '"re0" [shape=record style="dashed" color="blue"];\n"rp" [shape=record color="blue"];\n"run.cfg" [shape=oval color="blue" style=filled];\n"run.report" [shape=oval color="blue" style=filled];\n"run.cfg" -> "re0":"in_c" [color="blue"];\n"re0":"out_q" -> "rp":"in_q" [label="re0.q" color="blue"];\n"rp":"out_out" -> "run.report" [color="blue"];\n' \
+    run.cfg run.report examples/phylogeny/spec "$work/everything" "$work/begun"
+check "a chain goes by the entries and exits of open instances" draws_chain \
+    '"i1" [shape=record color="blue"];\n"i2" [shape=record color="blue"];\n"r.a" [shape=oval color="blue" style=filled];\n"r.b" [shape=oval color="blue" style=filled];\n"r.a" -> "i1":"in_x" [color="blue"];\n"i1":"out_y" -> "i2":"in_x" [label="i1.y" color="blue"];\n"i2":"out_y" -> "r.b" [color="blue"];\n' \
+    r.a r.b examples/line/spec examples/line/view examples/line/events
+check "a run that is left closed is the chain" draws_chain '"r" [shape=record color="blue"];\n' r.a r.b examples/line/spec "$work/nothing" examples/line/events
+
+# Whether the boxes, and the arrows with the name of an item, that are drawn blue on a long run are those that `explain` writes. An item of an instance that is open is an oval: `re0.q` alone.
+draws_explained() {
+    local files="examples/phylogeny/spec $work/everything examples/phylogeny/events"
+    marks run.cfg run.report $files | sed -n 's/^  "\([^"]*\)" \[shape=record.*1f5fa8.*/via \1/p; s/^  .* \[label="\([^"]*\)".*fontcolor.*/\1/p' | sort >"$work/drawn"
+    "$program" explain $files run.cfg run.report | sed '1d; /^re0.q$/d; $d' | sort | cmp -s - "$work/drawn" && [ "$(wc -l <"$work/drawn")" = 116 ]
+}
+check "the chain through all rounds of a loop is drawn" draws_explained
+printf '#!/bin/sh\n[ "$1" = explain ] && { echo r.a; echo via i3; echo r.b; exit; }\nexec "%s" "$@"\n' "$program" >"$work/other"
+chmod +x "$work/other"
+check "a chain of another run is told" test "$(WFPROV=$work/other python3 tools/dot.py --question r.a r.b examples/line/spec examples/line/view examples/line/events 2>&1)" = 'dot.py: chain: `i3` is no box of the picture'
 
 check "a name with a sign of the picture's language is refused" says 2 'dot.py: line 1: `a"` is no name' 'leaf a" P\n'
 

@@ -3,7 +3,8 @@
 
   ./wfprov export SPEC VIEW EVENTS | python3 tools/dot.py | dot -Tsvg > picture.svg
   python3 tools/dot.py [FILE]                    reads FILE, and standard input where none is given
-  python3 tools/dot.py --question FROM TO [FILE] marks two items in the picture, and a path that leads from the one to the other
+  python3 tools/dot.py --question FROM TO SPEC VIEW EVENTS
+                                                 draws a run, two items in it, and the chain that `wfprov explain` writes of them
   python3 tools/dot.py --spec SPEC [SPEC ..]     draws specifications, one beside the other
   python3 tools/dot.py --spec SPEC --view SHOWN  draws what a view shows of one; SHOWN has the lines that `wfprov view` writes
 
@@ -11,9 +12,11 @@ A run: an instance that the view leaves closed, or whose module has no steps, is
 where some of its outputs do not rest on each of its inputs, the box lists the pairs that do. A pending instance is a dashed box. The
 ports of an instance that is open are ovals. Arrows are links, and an arrow that carries an item has the item's name.
 
-A question is drawn in blue: an item of it is a filled oval, or an arrow with a blue name. Where links lead from FROM to TO, the arrows
-of a shortest path are thick and blue, and so are the frames of the ovals and boxes on it. The picture is no answer: `trace` and `ask`
-answer. No link leads through a pending instance, so on an unfinished run the picture may lack a path where the answer is yes.
+A question is drawn in blue: an item of it is a filled oval, or an arrow with a blue name. If TO rests on FROM, the chain that `explain`
+writes is drawn, a shortest one: the instances behind `via` have a thick blue frame and a blue text, the arrows from item to item are
+thick and blue, with a blue name for each item of the chain, and so are the frames of the ovals on them. Otherwise the two items alone are
+marked. A chain may lead through a pending instance. `export` and `explain` are asked for one picture, so the three files are regular
+ones. The program is the one that is built in this repository, or the one that the variable WFPROV names, or the one in PATH.
 
 A specification: a production is a frame with its number and its head. The grey bar at its top has the inputs of the head, and the one
 at its bottom the outputs. A box is a position with its module. It has the numbers of the productions by which the module is done, if
@@ -33,6 +36,7 @@ import sys
 
 sys.path.insert(0, os.path.dirname(os.path.abspath(__file__)))
 import terminal
+import wfprov
 from diagnosis import specs
 from diagnosis.faults import Fault
 from diagnosis.graphs import cycles
@@ -44,10 +48,11 @@ NAME = re.compile(r"[A-Za-z0-9_-]{1,64}")
 COLUMNS_OF_ONE, COLUMNS_OF_SEVERAL = 5, 3
 # How many productions the box of a composite module names.
 NAMED_PRODUCTIONS = 4
-# How a picture draws a path, the arrow of an item that is asked about, and the oval of one.
-PATH = ' color="#1f5fa8" penwidth=2'
-ASKED_ARROW = PATH + ' fontcolor="#1f5fa8"'
-ASKED_OVAL = PATH + ' style=filled fillcolor="#cfe2f7"'
+VIA = "via "
+# How a picture draws a part of a chain, one with a name, and the oval of an item that is asked about.
+CHAINED = ' color="#1f5fa8" penwidth=2'
+CHAINED_NAME = CHAINED + ' fontcolor="#1f5fa8"'
+ASKED_OVAL = CHAINED + ' style=filled fillcolor="#cfe2f7"'
 
 
 def name_at(text, place):
@@ -104,46 +109,61 @@ class Export:
         return found
 
 
-class Question:
-    """What is drawn of a question: the ports that name its two items, and the links of a path from the one to the other, as a set. A
-    picture without a question has neither."""
+class Chain:
+    """What is drawn of the lines of a chain: its items, as ports, its instances, and the links that lead from item to item through these."""
 
-    def __init__(self, export=None, items=()):
+    def __init__(self, export, lines):
+        self.items = {split_port(item, "chain") for item in lines[::2]}
+        self.instances = {name_at(line.removeprefix(VIA), "chain") for line in lines[1::2]}
+        self.export, self.onward, self.back = export, {}, {}
+        for link in export.links:
+            if not export.is_pair(link):
+                self.onward[link[0]], self.back[link[1]] = link, link
+        self.links = set()
+        for item, via, other in zip(lines[::2], lines[1::2], lines[2::2]):
+            self.take_step(split_port(item, "chain"), via.removeprefix(VIA), split_port(other, "chain"))
+
+    def take_step(self, item, instance, other):
+        """Takes the links of a step. An edge and entries lead from an item to the instance; exits lead back from the next item to it."""
+        if instance not in self.export.closed:
+            raise Wrong(f"chain: `{instance}` is no box of the picture")
+        self.walk(item, instance, self.onward, 1)
+        self.walk(other, instance, self.back, 0)
+
+    def walk(self, port, instance, way, end):
+        """Takes the links from a port to one of an instance."""
+        while port[0] != instance:
+            if port not in way:
+                raise Wrong(f"chain: no links join `{'.'.join(port)}` and `{instance}`")
+            self.links.add(way[port])
+            port = way[port][end]
+
+
+class Question:
+    """What is drawn of a question: the ports that name its two items, and the chain from the one to the other, from the lines that
+    `explain` writes. A picture without a question has neither."""
+
+    def __init__(self, export=None, items=(), lines=()):
         for item in items:
             if item not in export.items:
                 raise Wrong(f"`{item}` is no item that is shown")
         self.items = tuple(split_port(item, "question") for item in items)
-        self.links = set(path_between(export.links, *self.items)) if items else set()
+        chain = Chain(export, lines) if lines else None
+        self.links, self.instances = (chain.links, chain.instances) if chain else (set(), set())
+        self.named = {*self.items, *chain.items} if chain else set(self.items)
         self.ports = {port for link in self.links for port in link}
 
-    def of_box(self, export, instance):
+    def of_box(self, _export, instance):
         """Returns how the box of a closed instance is drawn besides."""
-        return PATH if any(link[0][0] == instance and export.is_pair(link) for link in self.links) else ""
+        return CHAINED_NAME if instance in self.instances else ""
 
     def of_oval(self, port):
         """Returns how the oval of a port is drawn besides."""
-        return ASKED_OVAL if port in self.items else PATH if port in self.ports else ""
+        return ASKED_OVAL if port in self.items else CHAINED if port in self.ports else ""
 
     def of_arrow(self, link, named):
         """Returns how an arrow is drawn besides, which has the name of an item or has none."""
-        return ASKED_ARROW if named and link[0] in self.items else PATH if link in self.links else ""
-
-
-def path_between(links, first, last):
-    """Returns the links of a shortest path of one or more links between two ports, or none where there is no path."""
-    onward, came_by, found = {}, {}, [first]
-    for link in links:
-        onward.setdefault(link[0], []).append(link)
-    for port in found:
-        for link in onward.get(port, []):
-            if link[1] not in came_by:
-                came_by[link[1]] = link
-                found.append(link[1])
-    path = []
-    while last in came_by and (not path or last != first):
-        path.append(came_by[last])
-        last = came_by[last][0]
-    return path
+        return CHAINED_NAME if named and link[0] in self.named else CHAINED if link in self.links else ""
 
 
 def found_in(name, known, place, what):
@@ -419,14 +439,31 @@ def read_export(words):
     return Export(lines_in(terminal.read_text(*words, but=", and so not what `export` writes")))
 
 
+def lines_told(words):
+    """Returns the lines that the program writes on these words."""
+    try:
+        return wfprov.lines_of(words, None)
+    except (wfprov.Ended, wfprov.NoProgram) as end:
+        raise Wrong(f"wfprov {words[0]}: {end}") from None
+
+
+def picture_of_question(items, files):
+    """Returns the lines of the picture of the run of three files, with two items and the chain from the one to the other."""
+    for file in files:
+        if os.path.exists(file) and not os.path.isfile(file):
+            raise Wrong(f"{file}: not a regular file")
+    export = Export(lines_told(["export", *files]))
+    lines = lines_told(["explain", *files, *items])
+    return run_picture(export, Question(export, items, lines if len(lines) > 1 else ()))
+
+
 def picture_of_run(words):
     """Returns the lines of the picture of a run, with the question of the words where they begin with one."""
     if words[:1] != ["--question"]:
         return run_picture(read_export(words), Question())
-    if len(words) < 3:
-        raise Wrong("the words behind --question are not FROM TO [FILE]; see --help")
-    export = read_export(words[3:])
-    return run_picture(export, Question(export, words[1:3]))
+    if len(words) != 6:
+        raise Wrong("the words behind --question are not FROM TO SPEC VIEW EVENTS; see --help")
+    return picture_of_question(words[1:3], words[3:])
 
 
 def work(words):

@@ -5,13 +5,14 @@ to the program in one call, so the answers are proved; what this module adds is 
 library alone.
 """
 import os
+import re
 import subprocess
 import tempfile
 
 import terminal
 
 HERE = os.path.dirname(os.path.dirname(os.path.abspath(__file__)))
-WIDTHS = {"action": 6, "value": 7}
+FIRST_LINE, WIDTHS = "#wfprov files 1", {"action": 6, "value": 7}
 # How many files a message lists at most.
 SHOWN = 20
 
@@ -19,6 +20,11 @@ SHOWN = 20
 def refuse(place, what):
     """Refuses what stands at a place."""
     raise terminal.Wrong(f"{place}: {what}")
+
+
+def refuse_several(place, name, files):
+    """Refuses a name that means several files, with the list of them."""
+    refuse(place, f"`{name}` means {len(files)} files: {', '.join(files[:SHOWN])}{', and more' if len(files) > SHOWN else ''}")
 
 
 def plain(field):
@@ -29,16 +35,38 @@ def plain(field):
                      for piece in parts)
 
 
+def lines_of(path, text):
+    """Yields the fields of each line of a table. The path is said of a line that is none."""
+    lines = text.split("\n")
+    if lines[0] != FIRST_LINE:
+        refuse(f"{path} line 1", f"this is no table of an importer, which begins with `{FIRST_LINE}`")
+    is_plain = "\\" not in text
+    for number, line in enumerate(lines[1:], 2):
+        if line:
+            fields = line.split("\t")
+            if len(fields) != WIDTHS.get(fields[0]):
+                refuse(f"{path} line {number}", "this is no line of an action or a value")
+            yield fields if is_plain else list(map(plain, fields))
+
+
 class File:
     """A value of the table: its name in the record, its path and checksum, the action and role that made it, and its items."""
 
     def __init__(self, fields):
-        self.identity, self.path, self.checksum, self.action, self.role = fields[:5]
-        self.items = fields[5].split(" ")
+        _, self.identity, self.path, self.checksum, self.action, self.role, items = fields
+        self.items = items.split(" ")
 
     def name(self):
         """Returns the name by which it is shown."""
         return self.path or self.identity
+
+    def names(self):
+        """Yields the names that mean it: some twice, and an empty text where one is not there. The end of a path is one where the path is none itself."""
+        yield from (self.identity, self.path, self.checksum, self.action, f"{self.action} {self.role}" if self.action else "", *self.items)
+        start = self.path.find("/")
+        while start >= 0:
+            yield self.path[start + 1:]
+            start = self.path.find("/", start + 1)
 
 
 class Table:
@@ -46,33 +74,14 @@ class Table:
 
     def __init__(self, path):
         self.path, self.files, self.actions, self.by_name = path, [], {}, {}
-        lines = terminal.read_text(path).split("\n")
-        if lines[0] != "#wfprov files 1":
-            refuse(f"{path} line 1", "this is no table of an importer, which begins with `#wfprov files 1`")
-        for number, line in enumerate(lines[1:], 2):
-            if line:
-                self.take(f"{path} line {number}", line.split("\t"))
+        for fields in lines_of(path, terminal.read_text(path)):
+            if fields[0] == "value":
+                self.files.append(File(fields))
+            else:
+                self.actions[fields[1]] = fields[1:]
         for file in self.files:
-            self.index(file)
-
-    def take(self, place, fields):
-        """Takes a line."""
-        if len(fields) != WIDTHS.get(fields[0]):
-            refuse(place, "this is no line of an action or a value")
-        fields = list(map(plain, fields[1:]))
-        if len(fields) == 5:
-            self.actions[fields[0]] = fields
-        else:
-            self.files.append(File(fields))
-
-    def index(self, file):
-        """Notes the names of a file. The end of a path is a name where the path is none itself."""
-        names = {file.identity, file.path, file.checksum, file.action, f"{file.action} {file.role}" if file.action else "", *file.items}
-        for start, sign in enumerate(file.path):
-            if sign == "/":
-                names.add(file.path[start + 1:])
-        for name in names - {""}:
-            self.by_name.setdefault(name, []).append(file)
+            for name in set(file.names()) - {""}:
+                self.by_name.setdefault(name, []).append(file)
 
     def file(self, name):
         """Returns the file that a name means."""
@@ -82,8 +91,7 @@ class Table:
         if len(found) == 1:
             return found[0]
         if found:
-            names = ", ".join(f"`{file.identity}`" + (f" ({file.path})" if file.path else "") for file in found[:SHOWN])
-            refuse(self.path, f"`{name}` means {len(found)} files: {names}{', and more' if len(found) > SHOWN else ''}")
+            refuse_several(self.path, name, [f"`{file.identity}`" + (f" ({file.path})" if file.path else "") for file in found])
         if name in self.actions:
             refuse(self.path, f"the action `{name}` has the state {self.actions[name][3]}, and made no file")
         refuse(self.path, f"`{name}` is no file, checksum or action")
@@ -128,23 +136,33 @@ class Asker:
     def __init__(self, command, spec, view, run):
         self.command, self.words = command, [spec, view, run]
 
-    def told(self, pairs):
-        """Returns for each pair of files the answers to the pairs of their items."""
+    def found(self, pairs):
+        """Returns for each pair of files the answers to the pairs of their items, by these."""
         queries = [(first, second) for one, other in pairs for first in one.items for second in other.items]
         try:
-            found = iter(asked(self.command, self.words, queries))
+            answers = iter(asked(self.command, self.words, queries))
         except terminal.Wrong as wrong:
             refuse("wfprov", wrong)
-        told = []
+        found = []
         for one, other in pairs:
-            told.append({next(found) for _ in one.items for _ in other.items})
-            if told[-1] & {"unknown", "clash"}:
+            found.append({(first, second): next(answers) for first in one.items for second in other.items})
+            if {"unknown", "clash"} & set(found[-1].values()):
                 refuse(self.words[2], f"it has no item of `{one.name()}` or of `{other.name()}`: the table is one of another run")
-        return told
+        return found
+
+    def told(self, pairs):
+        """Returns for each pair of files which answers there are to the pairs of their items."""
+        return [set(found.values()) for found in self.found(pairs)]
+
+    def joined(self, pairs):
+        """Returns the answer to each pair of files, which is `yes` where any item of the second rests on any of the first, and the first
+        two items to which it is the answer."""
+        found = [{answer: two for two, answer in reversed(answers.items())} for answers in self.found(pairs)]
+        return [next((word, two[word]) for word in ("yes", "hidden", "no") if word in two) for two in found]
 
     def answers(self, pairs):
-        """Returns the answer to each pair of files: `yes` where any item of the second rests on any of the first."""
-        return [next(word for word in ("yes", "hidden", "no") if word in told) for told in self.told(pairs)]
+        """Returns the answer to each pair of files."""
+        return [answer for answer, _ in self.joined(pairs)]
 
     def related(self, table, file, backwards, tool):
         """Returns the files that rest on a file, or those on which it rests, in the order of the table. `tool` is said before a note."""
@@ -157,15 +175,19 @@ class Asker:
         return [other for other, answers in zip(others, told) if "yes" in answers]
 
 
-def questions(table, path):
-    """Returns the pairs of files of a file of questions: two names in each line, with a tab between."""
-    pairs = []
-    for number, line in enumerate(terminal.read_text(path).splitlines(), 1):
+def named_in(path):
+    """Yields the pairs of names of a file of questions: two in each line, with a tab between. No other sign than a newline ends a line."""
+    *lines, last = re.split("\r?\n", terminal.read_text(path))
+    for number, line in enumerate(lines + [last] if last else lines, 1):
         names = line.split("\t")
         if len(names) != 2:
             refuse(f"{path} line {number}", "a question is two names with a tab between")
-        pairs.append((table.file(names[0]), table.file(names[1])))
-    return pairs
+        yield names
+
+
+def questions(table, path):
+    """Returns the pairs of files of a file of questions."""
+    return [(table.file(first), table.file(second)) for first, second in named_in(path)]
 
 
 def listed(files):

@@ -15,6 +15,11 @@ are on the page whatever the view hides. A file rests on another where any item 
 call. An item is an edge: what one step gave out and another took. On an item that goes out of the run nothing rests, and the page says
 so; what a step reads of the same value is another item.
 
+Of a run that is given, each `yes` has the chain that `wfprov explain` writes, once `wfprov verify` has accepted it: no other is shown, and
+where it is not accepted no page is written. A chain of more than 5 steps is folded, and of one of more than 100 the first and last 10 are
+shown. The program is started twice for a chain, and reads EVENTS each time: so the first 200 questions that are answered `yes` have
+chains, and no more than so many for which 256 MiB of EVENTS are read, but one at least. The page says how many have none.
+
 The picture is made by `wfprov export`, tools/dot.py and Graphviz. A run of more than 200 links has the picture of its workflow
 instead, if this has no more than 500 links, and its links are listed at the end of the page; so they are where Graphviz is not
 installed. If there are more than 2,000 links, the page has their number alone. Of the run and of the workflow the page shows only what
@@ -26,7 +31,6 @@ changes meanwhile; and a LABELS and an EVENTS of different runs. It then writes 
 The program is the one that is built in this repository, or the one that the variable WFPROV names. This tool is no part of what is
 proved. It needs Python's standard library alone.
 """
-import hashlib
 import html
 import itertools
 import json
@@ -40,17 +44,18 @@ import tempfile
 
 HERE = os.path.dirname(os.path.abspath(__file__))
 sys.path.insert(0, HERE)
+import accepted_chains
+import digests
 import file_table
 import labels as label_file
 import terminal
+from digests import PART
 from terminal import Wrong
 
 # How many links of a run are drawn and listed at most, and how many of a workflow are drawn.
 DRAWN_LINKS, LISTED_LINKS, DRAWN_WORKFLOW = 200, 2000, 500
-# How many questions a page has at most.
-QUESTIONS = 10_000
-# How many bytes are read at a time.
-PART = 1 << 20
+# How many questions a page has at most, and how many steps a chain that is not folded.
+QUESTIONS, UNFOLDED = 10_000, 5
 
 STYLE = """
 body { font: 16px/1.45 sans-serif; color: #111; background: #fff; max-width: 60rem; margin: 1.5rem auto; padding: 0 1rem; }
@@ -59,7 +64,7 @@ table { border-collapse: collapse; width: 100%; } caption { text-align: left; pa
 th, td { border: 1px solid #999; padding: .25rem .5rem; text-align: left; vertical-align: top; }
 th { background: #eee; } code { font-family: monospace; overflow-wrap: break-word; } code.digest { font-size: .85em; overflow-wrap: anywhere; } td.answer { font-weight: bold; }
 figure { margin: 1rem 0; } svg { display: block; max-width: 100%; height: auto; margin: 0 auto; }
-ul.links { columns: 18rem; padding-left: 1.2rem; font-size: .9em; }
+pre { margin: .2rem 0; white-space: pre-wrap; overflow-wrap: anywhere; } ul.links { columns: 18rem; padding-left: 1.2rem; font-size: .9em; }
 @media print {
   @page { margin: 1.5cm; }
   body { font-size: 10pt; max-width: none; margin: 0; padding: 0; }
@@ -90,12 +95,8 @@ def digest_of(path):
     """Returns the number of bytes of a regular file and its SHA-256."""
     if os.path.exists(path) and not os.path.isfile(path):
         raise Wrong(f"{path}: not a regular file")
-    found, size = hashlib.sha256(), 0
     with open(path, "rb") as file:
-        while part := file.read(PART):
-            found.update(part)
-            size += len(part)
-    return size, found.hexdigest()
+        return digests.digest_of(file)
 
 
 class Program:
@@ -107,17 +108,17 @@ class Program:
         if not os.path.isfile(self.path) or not os.access(self.path, os.X_OK):
             raise Wrong(f"{self.path}: no program; `./wfprov` builds it, and the variable WFPROV may name another")
 
-    def write(self, words, file):
-        """Writes what a command writes to a file."""
-        ran = subprocess.run([self.path, *words], stdin=subprocess.DEVNULL, stdout=file, stderr=subprocess.PIPE, check=False)
+    def write(self, words, file, given=subprocess.DEVNULL):
+        """Writes what a command writes to a file, with another file as its standard input."""
+        ran = subprocess.run([self.path, *words], stdin=given, stdout=file, stderr=subprocess.PIPE, check=False)
         if ran.returncode:
             raise Wrong(f"wfprov {shlex.join(words)}: {terminal.ended(ran.stderr, ran.returncode)}")
         file.seek(0)
 
-    def lines(self, words):
-        """Returns the lines that a command writes."""
+    def lines(self, words, given=subprocess.DEVNULL):
+        """Returns the lines that a command writes, with a file as its standard input."""
         with tempfile.TemporaryFile() as file:
-            self.write(words, file)
+            self.write(words, file, given)
             return file.read().decode().splitlines()
 
 
@@ -193,7 +194,11 @@ class Picture:
         made = subprocess.run([sys.executable, os.path.join(HERE, "dot.py"), *words], input=text, capture_output=True, check=False)
         if made.returncode:
             raise Wrong(terminal.ended(made.stderr, made.returncode))
-        drawn = subprocess.run([self.dot, "-Tsvg"], input=made.stdout, capture_output=True, check=False)
+        return self.svg(made.stdout, label)
+
+    def svg(self, text, label):
+        """Returns the picture of a text for Graphviz, as an element of HTML."""
+        drawn = subprocess.run([self.dot, "-Tsvg"], input=text, capture_output=True, check=False)
         if drawn.returncode:
             raise Wrong(f"dot -Tsvg: {terminal.ended(drawn.stderr, drawn.returncode)}")
         svg = drawn.stdout.decode()
@@ -316,10 +321,26 @@ FILE_MEANINGS = {
 
 
 class Asked:
-    """The questions, as pairs of names, with their answers; and the files of the names, or which items go out of the run."""
+    """The questions, as pairs of names, with their answers; and the files of the names, or which items go out of the run. `items` has the two
+    items of each answer, `chains` the chain of each question that has one, by its number, and `tried` says how many were asked for."""
 
-    def __init__(self, questions, answers, files=(), outputs=()):
+    def __init__(self, questions, answers, files=(), outputs=(), items=None):
         self.questions, self.answers, self.files, self.outputs = questions, answers, files, outputs
+        self.items, self.chains, self.tried = items or questions, {}, 0
+
+    def take_chains(self, program, words, is_later):
+        """Takes the chains of the first questions that are answered `yes`. If the label file is that of a later run, the run that is given
+        may lack an item."""
+        run = [words["SPEC"], words["VIEW"], words["EVENTS"]]
+        asked = [number for number, answer in enumerate(self.answers) if answer == "yes"]
+        for number in asked[: accepted_chains.most(os.path.getsize(words["EVENTS"]))]:
+            self.tried += 1
+            chain = accepted_chains.accepted(program, run, *self.items[number])
+            if not isinstance(chain, str):
+                self.chains[number] = chain
+            elif chain != "unknown" or not is_later:
+                first, second = self.items[number]
+                raise Wrong(f"wfprov explain: `{chain}` of `{first}` and `{second}`, where the answer is `yes`")
 
     def meaning(self, number):
         """Returns what an answer says of the two names of its question."""
@@ -333,18 +354,52 @@ class Asked:
         return {"hidden": "the view hides an item", "unknown": "an item is not there", "clash": "no run has both items"}[answer]
 
 
-def questions_part(asked, where):
-    """Yields the part of the page with the questions and their answers."""
+def chain_part(chain, between):
+    """Returns what is shown of a chain. `between` says of which items it is, where the question names files."""
+    lines = [*map(plain, chain.start)]
+    if not chain.is_whole:
+        lines += [f"({counted(chain.left_out(), 'step')} left out)", *map(plain, chain.end)]
+    told = f"Why: a chain of {counted(chain.steps, 'step')}{between}, which <code>verify</code> accepts"
+    is_open = ' open="open"' if chain.steps <= UNFOLDED else ""
+    return f"<details{is_open}><summary>{told}</summary><pre>{chr(10).join(lines)}</pre></details>"
+
+
+def chains_note(asked, has_run):
+    """Yields what is said of the chains on the page."""
+    total = asked.answers.count("yes")
+    if asked.chains:
+        yield (
+            "<p>Below a <code>yes</code> stands a chain of items, as <code>wfprov explain</code> wrote it: each item but the first rests on the"
+            " one before it through the step behind <code>via</code>, and no chain is shorter. <code>wfprov verify</code> has looked at its"
+            " lines one by one, and accepted them.</p>"
+        )
+    if total and not has_run:
+        yield "<p>The page was made without the run, of which <code>wfprov explain</code> tells why an item rests on another.</p>"
+    elif asked.tried < total:
+        yield (
+            f"<p>Chains were asked for of the first {asked.tried:,} of the {total:,} questions that are answered <code>yes</code>."
+            " <code>wfprov explain</code> writes the others.</p>"
+        )
+    if len(asked.chains) < asked.tried:
+        lacking = counted(asked.tried - len(asked.chains), "question")
+        yield f"<p>Of {lacking} the run that is shown does not have both items yet, and so no chain.</p>"
+
+
+def questions_part(asked, where, has_run):
+    """Yields the part of the page with the questions, their answers and chains."""
     meanings = FILE_MEANINGS if asked.files else MEANINGS
     totals = {answer: asked.answers.count(answer) for answer in meanings if answer in asked.answers}
     yield "<ul>"
     for answer, total in totals.items():
         yield f"<li><strong>{answer}</strong> ({counted(total, 'time')}): {meanings[answer].replace('WHERE', where)}.</li>"
     yield "</ul>"
+    yield from chains_note(asked, has_run)
     yield "<table>\n<thead><tr><th>No.</th><th>Question</th><th>Answer</th><th>What it says</th></tr></thead>\n<tbody>"
     for number, ((first, second), answer) in enumerate(zip(asked.questions, asked.answers)):
         question = f"Does {code(second)} rest on {code(first)}?"
-        yield f'<tr><td>{number + 1}</td><td>{question}</td><td class="answer">{answer}</td><td>{asked.meaning(number)}</td></tr>'
+        between = " from {} to {}".format(*map(code, asked.items[number])) if asked.files else ""
+        why = chain_part(asked.chains[number], between) if number in asked.chains else ""
+        yield f'<tr><td>{number + 1}</td><td>{question}</td><td class="answer">{answer}</td><td>{asked.meaning(number)}{why}</td></tr>'
     yield "</tbody>\n</table>"
 
 
@@ -355,6 +410,9 @@ def files_part(files):
         checksum = f'<code class="digest">{plain(file.checksum)}</code>' if file.checksum else "none"
         yield f"<tr><td>{code(name)}</td><td>{code(file.identity)}</td><td>{checksum}</td></tr>"
     yield "</tbody>\n</table>"
+
+
+LATER = "The label file goes on from the one that <code>wfprov ingest</code> writes of the run: the run is shown as it was earlier."
 
 
 def same_run(program, words):
@@ -372,7 +430,7 @@ def same_run(program, words):
         raise Wrong(f"{words['LABELS']}: byte {at}: not the label file of {words['EVENTS']}, nor one that begins it or goes on from it")
     if len(first) < len(second):
         return "The label file begins the one that <code>wfprov ingest</code> writes of the run, and lacks what the run made later."
-    return "The label file goes on from the one that <code>wfprov ingest</code> writes of the run: the run is shown as it was earlier."
+    return LATER
 
 
 def how_part(files, commands, agreement):
@@ -403,7 +461,17 @@ def files_call(words):
     return code("python3 tools/files.py " + shlex.join(call))
 
 
-def commands_of(words, run):
+def chain_commands(words):
+    """Returns the commands that made and tried the chains."""
+    run = [words["SPEC"], words["VIEW"], words["EVENTS"]]
+    items = "the two items between which it is" if "TABLE" in words else "the two items of its question"
+    return [
+        (["explain", *run, "FIRST", "SECOND"], f"wrote each chain; FIRST and SECOND are {items}"),
+        (["verify", *run, "CHAIN"], "accepted each chain: it wrote <code>yes</code>; CHAIN is a file with the lines that <code>explain</code> wrote"),
+    ]
+
+
+def commands_of(words, run, has_chains):
     """Returns the commands with what they were run for."""
     spec, view, queries = words["SPEC"], words["VIEW"], words["QUERIES"]
     told = [
@@ -421,6 +489,7 @@ def commands_of(words, run):
     if "TABLE" in words:
         command, what = told.pop()
         told.append(([*command[:-1], "ITEMS"], what.replace("the questions", "the lines of ITEMS") + ITEMS.format(files_call(words))))
+    told += chain_commands(words) if has_chains else []
     return [("wfprov " + shlex.join(command), f"{what[0].upper()}{what[1:]}.") for command, what in told]
 
 
@@ -432,6 +501,9 @@ A view under which this could differ from one way to finish the run to another i
 PROVED_LABELS = """<p>These answers were given from the labels of the items. It is proved that over the label file that \
 <code>wfprov ingest</code> writes of a run they are the answers of the run itself. A label file from elsewhere is accepted too, if it has \
 the form of one of this workflow; an answer <code>yes</code> or <code>no</code> then holds of each run that has both labels.</p>"""
+PROVED_CHAINS = """<p>It is proved that <code>wfprov explain</code> writes a chain exactly where the second item rests on the first, that no \
+chain of the two is shorter, and that <code>wfprov verify</code> says <code>yes</code> exactly of the lines of a chain of the run. It searches nothing, and \
+looks at each line once, so a chain can be checked by something simpler than what found it.</p>"""
 NOT_PROVED = """<p><strong>Not proved.</strong> That the specification, the view and the events describe what was really done: the pairs \
 that they give to a step are taken at their word. That the program gets what stands in these files, and that what it writes arrives: \
 this is tested. The prover, the compilers, their libraries and the system are trusted. This page, and the picture or the list of links \
@@ -489,10 +561,10 @@ def asked_of_files(command, words):
     """Returns the questions about files, and their answers."""
     table = file_table.Table(words["TABLE"])
     pairs = file_table.questions(table, words["QUERIES"])
-    answers = file_table.Asker(command[0], *command[1:4]).answers(pairs)
+    joined = file_table.Asker(command[0], *command[1:4]).joined(pairs)
     questions = [tuple(map(table.shown, pair)) for pair in pairs]
     names = {name: file for pair, two in zip(questions, pairs) for name, file in zip(pair, two)}
-    return Asked(questions, answers, names)
+    return Asked(questions, [answer for answer, _ in joined], names, items=[items for _, items in joined])
 
 
 def asked_and_answered(program, grammar, run, words):
@@ -508,10 +580,21 @@ def asked_and_answered(program, grammar, run, words):
     return Asked(questions, answers, outputs=outputs_of_run(grammar, run, words))
 
 
+def proved_part(of_labels, of_files, has_chains):
+    """Returns the part of the page that says what is proved, and what is not."""
+    proved = [PROVED] + [PROVED_LABELS] * of_labels + [PROVED_CHAINS] * has_chains
+    return proved + [NOT_PROVED] + [NOT_PROVED_LABELS] * of_labels + [NOT_PROVED_TABLE] * of_files
+
+
+def files_of(program, words):
+    """Returns the files with their words, paths, sizes and digests."""
+    files = [(word, path, *digest_of(path)) for word, path in words.items() if path != "-"]
+    return [*files, ("wfprov", program.path, *digest_of(program.path))]
+
+
 def page(program, words):
     """Returns the lines of the page."""
-    files = [(word, path, *digest_of(path)) for word, path in words.items() if path != "-"]
-    files.append(("wfprov", program.path, *digest_of(program.path)))
+    files = files_of(program, words)
     refuse_too_many(words["QUERIES"])
     of_labels = "LABELS" in words
     grammar = Grammar(program, words["SPEC"])
@@ -519,17 +602,17 @@ def page(program, words):
     run = Run(program, ["export", words["SPEC"], words["VIEW"], words["EVENTS"]]) if words["EVENTS"] != "-" else None
     agreement = same_run(program, words) if of_labels and run else ""
     asked = asked_and_answered(program, grammar, run, words)
-    picture = Picture()
+    if run:
+        asked.take_chains(program, words, agreement == LATER)
+    picture, has_chains = Picture(), bool(asked.chains)
     lines = [*head(), *opening(words, len(asked.questions))]
     lines += section("picture", "The run under the view" if run else "The workflow", run_part(picture, run, grammar, words["SPEC"], shown))
     lines += section("view", "The view in words", view_part(grammar, words, shown))
-    lines += section("questions", "Questions and answers", questions_part(asked, "label file" if of_labels else "run"))
+    lines += section("questions", "Questions and answers", questions_part(asked, "label file" if of_labels else "run", bool(run)))
     if asked.files:
         lines += section("files", "The files that the questions name", files_part(asked.files))
-    lines += section("how", "How the answers were obtained", how_part(files, commands_of(words, run), agreement))
-    proved = [PROVED, PROVED_LABELS, NOT_PROVED, NOT_PROVED_LABELS] if of_labels else [PROVED, NOT_PROVED]
-    proved += [NOT_PROVED_TABLE] if "TABLE" in words else []
-    lines += section("proved", "What is proved, and what is not", proved)
+    lines += section("how", "How the answers were obtained", how_part(files, commands_of(words, run, has_chains), agreement))
+    lines += section("proved", "What is proved, and what is not", proved_part(of_labels, "TABLE" in words, has_chains))
     if run and 0 < run.links <= LISTED_LINKS and not is_drawn(picture, run):
         lines += section("links", "The links of the run under the view", links_part(run))
     for _, path, *told in files:

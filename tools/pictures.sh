@@ -2,16 +2,17 @@
 # Makes the pictures of docs/pictures: what `export` writes of examples, specifications, labels and crates, drawn by Graphviz.
 #   bash tools/pictures.sh [FOLDER]           writes them to FOLDER, and to docs/pictures where none is given
 #   bash tools/pictures.sh --page [FOLDER]    writes page.png alone, by Chromium: a page for a reviewer, up to its answers
+#   bash tools/pictures.sh --browse [FOLDER]  writes browse.png alone, by Chromium: the page of browse.py after two clicks
 set -euo pipefail
 
 page=
 case ${1:-} in
     --help)
-        sed -n '2,4s/^# \{0,1\}//p' "${BASH_SOURCE[0]}"
+        sed -n '2,5s/^# \{0,1\}//p' "${BASH_SOURCE[0]}"
         exit
         ;;
-    --page)
-        page=yes
+    --page | --browse)
+        page=$1
         shift
         ;;
     -*)
@@ -26,14 +27,35 @@ program=crates/wfprov/out/wfprov
 [ -x "$program" ] || program=./wfprov
 mkdir -p "$folder"
 
-# The page of the three questions of the README. Below its answers stand the digests of the files, which are others for each build.
+# Writes a picture of the page at an address, of so many pixels.
+photograph() {
+    chromium --headless --no-sandbox --disable-gpu --hide-scrollbars --window-size="$3" --screenshot="$folder/$1" "$2" 2>/dev/null
+}
+
 if [ -n "$page" ]; then
     command -v chromium >/dev/null || { echo "pictures.sh: Chromium is not installed" >&2; exit 2; }
     work=$(mktemp -d)
     trap 'rm -rf "$work"' EXIT
     phylogeny=examples/phylogeny
+fi
+
+# The page of the three questions of the README. Below its answers stand the digests of the files, which are others for each build.
+if [ "$page" = --page ]; then
     python3 tools/page.py $phylogeny/spec $phylogeny/outer $phylogeny/events $phylogeny/asked >"$work/page.html"
-    chromium --headless --no-sandbox --disable-gpu --hide-scrollbars --window-size=1000,1836 --screenshot="$folder/page.png" "file://$work/page.html" 2>/dev/null
+    photograph page.png "file://$work/page.html" 1000,2046
+    exit
+fi
+
+# The page of browse.py with the first of these questions.
+if [ "$page" = --browse ]; then
+    WFPROV=$program python3 tools/browse.py $phylogeny/spec $phylogeny/events $phylogeny/outer $phylogeny/view >"$work/address" </dev/null &
+    served=$!
+    trap 'kill "$served"; rm -rf "$work"' EXIT
+    until [ -s "$work/address" ]; do
+        kill -0 "$served"
+        sleep 0.1
+    done
+    photograph browse.png "$(cat "$work/address")?first=run.cfg&second=run.report" 1000,1318
     exit
 fi
 
@@ -46,11 +68,14 @@ draw() {
     fi
 }
 
-# The picture of a run of an example under a view, from top to bottom (TB) or from left to right (LR); the words behind the files are for dot.py.
+# The picture of a run of an example under a view, from top to bottom (TB) or from left to right (LR), with a question where two items stand behind the files.
 draw_run() {
-    local name=$1 direction=$2 spec=$3 view=$4 events=$5
-    shift 5
-    "$program" export "$spec" "$view" "$events" | python3 tools/dot.py "$@" | sed "2i\  rankdir=$direction;" >"$folder/$name.dot"
+    local name=$1 direction=$2 files=("${@:3:3}")
+    if [ $# -gt 5 ]; then
+        WFPROV=$program python3 tools/dot.py --question "${@:6}" "${files[@]}"
+    else
+        "$program" export "${files[@]}" | python3 tools/dot.py
+    fi | sed "2i\  rankdir=$direction;" >"$folder/$name.dot"
     draw "$name"
 }
 
@@ -63,7 +88,7 @@ draw_specs() {
 }
 
 draw_run line TB examples/line/spec examples/line/view examples/line/events
-draw_run phylogeny LR examples/phylogeny/spec examples/phylogeny/outer examples/phylogeny/events --question run.cfg run.report
+draw_run phylogeny LR examples/phylogeny/spec examples/phylogeny/outer examples/phylogeny/events run.cfg run.report
 draw_specs phylogeny-spec examples/phylogeny/spec
 draw_specs twisting-skewed examples/twisting/spec examples/skewed/spec
 python3 tools/two_labels.py examples/phylogeny/spec examples/phylogeny/labels rl2.c2 rl55.c2 >"$folder/labels.dot"

@@ -16,6 +16,7 @@
           print(item.name, item.label.hex())
 
   wfprov.decide("spec", "view", first, second)                 and `check`, `view`, `export`, `gen`: one call of the program each
+  wfprov.explain("spec", "view", "events", first, second)      and `verify`, `lineage`, `impact`
   wfprov.call(["check", "spec"])                               any command, for its text
 
 Where the program refuses something, an exception says what: `Refused` has the place (`spec`, `queries`), the line, the kind
@@ -46,7 +47,7 @@ PIECE = 65536
 HEAD = 36
 QUERY = re.compile(r"[A-Za-z0-9_-]{1,64}\.[A-Za-z0-9_-]{1,64} [A-Za-z0-9_-]{1,64}\.[A-Za-z0-9_-]{1,64}\n")
 NAME = re.compile(r"[A-Za-z0-9_-]{1,64}")
-REFUSED = re.compile(r"refused: (spec|view|events|labels|queries|label [12])(?: line (\d+))?: (\w+)(?: (.*))?")
+REFUSED = re.compile(r"refused: (spec|view|events|labels|queries|chain|label [12])(?: line (\d+))?: (\w+)(?: (.*))?")
 
 
 class Answer(enum.Enum):
@@ -131,8 +132,8 @@ class Ended(Exception):
 class Refused(Ended):
     """A file, a line or a label is refused.
 
-    `place` is `spec`, `view`, `events`, `labels`, `queries`, `label 1` or `label 2`; `line` is a number in events and queries, and None
-    elsewhere; `kind` is the name of the fault, as `WrongShape`; and `about` is what stands behind it, as `modules`, or empty.
+    `place` is `spec`, `view`, `events`, `labels`, `queries`, `chain`, `label 1` or `label 2`; `line` is a number in events, queries and
+    chain, and None elsewhere; `kind` is the name of the fault, as `WrongShape`; and `about` is what stands behind it, as `modules`, or empty.
     """
 
     def __init__(self, message: str, status: int, place: str, line: Optional[int], kind: str, about: str) -> None:
@@ -526,6 +527,35 @@ def export(spec: Path, view_file: Path, events: Path, program: Optional[Path] = 
         else:
             {"leaf": shown.leaves, "pending": shown.pending, "link": shown.links}[kind].append((name, rest[0]))
     return shown
+
+
+def listing(command: str, files: Sequence[Path], item: str, program: Optional[Path]) -> Union[Answer, List[str]]:
+    lines = lines_of([command, *files, item], program)
+    return Answer(lines[0]) if lines in (["unknown"], ["hidden"]) else lines
+
+
+def lineage(spec: Path, view_file: Path, labels: Path, item: str, program: Optional[Path] = None) -> Union[Answer, List[str]]:
+    """Returns the names of the items on which an item rests, in the order of the label file, or that it is hidden or unknown."""
+    return listing("lineage", [spec, view_file, labels], item, program)
+
+
+def impact(spec: Path, view_file: Path, labels: Path, item: str, program: Optional[Path] = None) -> Union[Answer, List[str]]:
+    """Returns the names of the items that rest on an item, in the order of the label file, or that it is hidden or unknown."""
+    return listing("impact", [spec, view_file, labels], item, program)
+
+
+def explain(
+    spec: Path, view_file: Path, events: Path, first: str, second: str, program: Optional[Path] = None
+) -> Union[Answer, List[str]]:
+    """Returns the lines of a shortest chain from an item to one that rests on it, or the answer where there is none."""
+    lines = lines_of(["explain", spec, view_file, events, first, second], program)
+    return lines if len(lines) > 1 else Answer(lines[0])
+
+
+def verify(spec: Path, view_file: Path, events: Path, chain: Path, program: Optional[Path] = None) -> Optional[int]:
+    """Returns the number of the first wrong line of a file that is to be a chain, or None where it is one."""
+    told = lines_of(["verify", spec, view_file, events, chain], program)[0]
+    return None if told == "yes" else int(told.split()[1])
 
 
 def gen(spec: Path, count: int, seed: int, program: Optional[Path] = None) -> List[Dict[str, object]]:
