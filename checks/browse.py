@@ -33,6 +33,9 @@ import chromium
 from browsing.items import Items
 
 PAIRS, MANY = 50, 1_000_000
+# How many seconds a page may take where other work holds the processors, and how many clients say nothing meanwhile: a server that heard
+# one after another would wait ten seconds for each, and so longer.
+LATE, SILENT = 150, 20
 PHYLOGENY = os.path.join(TOP, "examples/phylogeny")
 SPEC, EVENTS, OUTER, VIEW, LABELS = (os.path.join(PHYLOGENY, name) for name in ("spec", "events", "outer", "view", "labels"))
 # Signs that HTML, the language of pictures, a shell or a terminal reads otherwise.
@@ -116,7 +119,7 @@ class Tool:
 
     def request(self, method, path, fields=(), body=None):
         """Returns what a request gets that has these fields in the place of its own."""
-        connection = http.client.HTTPConnection("127.0.0.1", self.port, timeout=60)
+        connection = http.client.HTTPConnection("127.0.0.1", self.port, timeout=LATE)
         connection.putrequest(method, path, skip_host=bool(fields), skip_accept_encoding=True)
         for name, value in fields:
             connection.putheader(name, value)
@@ -367,16 +370,20 @@ class Guards(Tested):
 
     def test_clients(self):
         """clients that say nothing do not keep others away, and many at one time get their answers"""
-        silent = [socket.create_connection(("127.0.0.1", self.tool.port)) for _ in range(10)]
+        silent = [socket.create_connection(("127.0.0.1", self.tool.port)) for _ in range(SILENT)]
         found, names = [], names_of(SPEC, OUTER, EVENTS)
-        work = [threading.Thread(target=lambda name=name: found.append((name, self.tool.get(first="run.cfg", second=name).answer()))) for name in names * 2]
+
+        def ask(name):
+            found.append((name, self.tool.get(first="run.cfg", second=name).answer()))
+
+        work = [threading.Thread(target=ask, args=[name]) for name in names]
         for thread in work:
             thread.start()
         for thread in work:
             thread.join()
         for client in silent:
             client.close()
-        self.assertEqual(sorted(found), sorted(zip(names * 2, asked(OUTER, [("run.cfg", name) for name in names] * 2))))
+        self.assertEqual(sorted(found), sorted(zip(names, asked(OUTER, [("run.cfg", name) for name in names]))))
 
 
 class Ends(Tested):

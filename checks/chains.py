@@ -11,10 +11,7 @@ of the shortest chains, and `verify` to take these and longer ones, and to find 
 It prints how much was compared and how much of it differs, and of each command the difference with the fewest items. Ends with 1 where
 something differs; the files of such a case are left in the folder that the variable KEEP names, under its number.
 """
-import argparse
 import collections
-import functools
-import multiprocessing
 import os
 import random
 import re
@@ -24,6 +21,7 @@ import sys
 import tempfile
 
 import grammars
+import many
 import wfprov
 from cases import Case
 
@@ -183,25 +181,13 @@ def tell(counts, differences):
     print(f"{counts['grammars']} runs, of which {counts['pending']} have pending instances; {counts['items']} items, of which {counts['hidden']} are hidden")
     print(f"{counts['pairs']} pairs, and {counts['clashes']} of two runs that clash")
     print(f"{counts['chains']} chains, of which {counts['several']} are the first of several; {counts['changed']} changed chains")
-    for command in ("finishing", "lineage", "impact", "explain", "verify"):
-        own = [difference for difference in differences if difference.words[0] == command]
-        print(f"{command}: {counts[command]} compared, {len(own)} differ")
-        for least in sorted(own)[:1]:
-            print(f"  grammar {least.number}, of {least.items} items: {' '.join(least.words)}: {least.found} in place of {least.wanted}")
+    many.tell(
+        ("finishing", "lineage", "impact", "explain", "verify"), counts, differences, lambda least: f"of {least.items} items: {' '.join(least.words)}"
+    )
 
 
 def main():
-    words = argparse.ArgumentParser(description=__doc__.splitlines()[0])
-    words.add_argument("program", type=os.path.abspath)
-    words.add_argument("--grammars", type=int, default=1000)
-    words.add_argument("--seed", type=int, default=1)
-    words.add_argument("--jobs", type=int, default=len(os.sched_getaffinity(0)))
-    args = words.parse_args()
-    counts, differences = collections.Counter(), []
-    with multiprocessing.Pool(args.jobs) as pool:
-        for own, found in pool.imap_unordered(functools.partial(tried, args.program, args.seed), range(args.grammars)):
-            counts += own
-            differences += found
+    _, counts, differences = many.tried(__doc__, tried)
     tell(counts, differences)
     return int(bool(differences))
 

@@ -6,6 +6,7 @@ set -euo pipefail
 cd "$(dirname "${BASH_SOURCE[0]}")/.."
 . checks/count.sh
 . checks/built.sh
+. checks/stand_in.sh
 export PYTHONDONTWRITEBYTECODE=1
 
 compares() {
@@ -13,23 +14,8 @@ compares() {
 }
 check "on ${1:-1000} small grammars the commands say what a search finds" compares "${1:-1000}" "${2:-1}"
 
-# Makes a program that is the built one, but for lines of a shell script before it is called.
-stand_in() {
-    printf '#!/bin/sh\nprogram=%q\n%s\nexec "$program" "$@"\n' "$program" "$1" >"$work/program"
-    chmod +x "$work/program"
-}
-
 # Whether it is found that such a program says something else, by these commands and no other.
-finds() {
-    stand_in "$2"
-    ! python3 checks/chains.py "$work/program" --grammars 12 >"$work/told" || return 1
-    [ "$(sed -n 's/: .* compared, [1-9][0-9]* differ$//p' "$work/told" | xargs)" = "$1" ]
-}
-
-# The lines by which what a command writes is changed by `sed`.
-changing() {
-    printf "[ \"\$1\" != %s ] || { \"\$program\" \"\$@\" | sed '%s'; exit; }" "$1" "$2"
-}
+finds() { finds_by checks/chains.py "$@"; }
 
 check "it is found that \`lineage\` and \`impact\` are exchanged" finds "lineage impact" \
     'case $1 in lineage) shift && set -- impact "$@" ;; impact) shift && set -- lineage "$@" ;; esac'

@@ -20,6 +20,7 @@ commands=(
     'impact SPEC VIEW LABELS r.a'
     'explain SPEC VIEW EVENTS r.a r.b'
     'verify SPEC VIEW EVENTS CHAIN'
+    'compare SPEC VIEW COARSE'
     'decide SPEC VIEW 20 b0'
     'export SPEC VIEW EVENTS'
     'gen SPEC 5 7'

@@ -14,6 +14,10 @@ numbers=("${@:2}")
 # The events of the line in the other order: the last line lets both go.
 tac examples/line/events >"$work/exchanged"
 
+# A view that opens all steps of the phylogeny, and one that leaves a pair of a closed step out.
+echo '{}' >"$work/everything"
+echo '{"expand":["Main"],"deps":[{"module":"Refine","pairs":[["m","r"],["m","q"]]}]}' >"$work/narrow"
+
 # The calls: their names, the example, the words, the status where no growth is refused, the file of the example that has the text then, or `own` where it is what the call writes when nothing is refused, and the line on the standard error.
 calls='ingest|line|ingest spec events|0|labels|
 ingest of held reports|line|ingest spec '$work/exchanged'|0|labels|
@@ -22,6 +26,8 @@ lineage|phylogeny|lineage spec view labels run.report|0|own|
 impact|phylogeny|impact spec view labels run.seqs|0|own|
 explain|phylogeny|explain spec view events run.seqs run.report|0|own|
 verify|line|verify spec view events chain|0|own|
+compare|phylogeny|compare spec '$work/everything' outer|0|own|
+compare of a denied pair|phylogeny|compare spec '$work/everything' '$work/narrow'|0|own|
 trace|line|trace spec view events queries|0|answers|
 trace of held reports|line|trace spec view '$work/exchanged' queries|0|answers|
 export|line|export spec view events|0|own|

@@ -354,6 +354,12 @@ class Calls(InFolder):
         self.assertEqual((found.leaves, found.pending, found.items), ([("i1", "P"), ("i2", "Q")], [], ["r.a", "r.b", "i1.y"]))
         self.assertEqual(found.links, [("i1.y", "i2.x"), ("r.a", "i1.x"), ("i2.y", "r.b"), ("i1.x", "i1.y"), ("i2.x", "i2.y")])
 
+    def test_compare(self):
+        """a coarser view by `call`, and one that is not coarser"""
+        spec, full, closed = example("line", "spec"), example("line", "view"), self.file("closed", '{"expand":[]}')
+        self.assertEqual(wfprov.call(["compare", spec, full, closed]), b"yes\nexact\n")
+        self.assert_refused(lambda: wfprov.call(["compare", spec, closed, full]), "coarse", None, "NotCoarser", "S")
+
     def test_listings(self):
         """what the items of the line rest on, as docs/FORMATS.md has it, and what rests on them"""
         files = [example("line", file) for file in ("spec", "view", "labels")]

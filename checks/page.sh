@@ -108,6 +108,9 @@ READS
 }
 check "it tells the view as it is shown" tells_view $once/shown
 
+says_nothing() { ! grep -q 'left out\|is not compared\|wfprov compare\|class="warning"' "$work/page"; }
+check "it compares no view that leaves nothing closed" says_nothing
+
 check "a page is made from labels" page --labels $long/labels $long/spec $long/view $long/events $long/queries
 check "it has the questions, answers and digests" is_whole $long/queries $long/answers $long/{spec,view,events,queries,labels} "$program"
 check "it says that the label file is that of the run" has 'byte for byte' "<code>wfprov ask $long/spec $long/view $long/labels $long/queries</code>"
@@ -202,6 +205,20 @@ large() {
         page --labels "$work/large_labels" "$work/large" "$(text closed '{"expand":["S"]}')" - "$work/empty" && { grep -q '<svg' "$work/page" || ! command -v dot >/dev/null; }
 }
 check "a large workflow has a picture only where the view shows less of it" large
+
+# Whether the page of an example under a view, which leaves steps closed, says this of the view beside the one that opens every step, and nothing else of it.
+says_beside() {
+    page "examples/$1/spec" "$(text closing "$2")" "$work/empty" "$work/empty" && has "$3" || return 1
+    [ "$(grep -cE 'Nothing is left out|denies what is so|is not compared' "$work/page")" = 1 ] || return 1
+    [ "$(grep -c 'wfprov compare examples/.* FULL ' "$work/page")" = "$4" ]
+}
+check "that a view leaves nothing out is told" says_beside phylogeny "$(cat $long/outer)" 'the view that opens every step gives the same answers' 1
+check "a pair that a view adds is told" says_beside phylogeny '{"expand":["Main"]}' 'by it, the output <code>r</code> of <code>Refine</code> rests on its input <code>c</code>, and with every step opened it does not' 1
+check "a pair that a view denies is told" says_beside phylogeny '{"expand":["Main"],"deps":[{"module":"Refine","pairs":[["m","r"],["m","q"]]}]}' \
+    'With every step opened, the output <code>q</code> of <code>Refine</code> rests on its input <code>c</code>' 1
+warns_first() { [ "$(grep -n 'class="warning"' "$work/page" | cut -d : -f 1)" -lt "$(grep -n '<section id="picture">' "$work/page" | cut -d : -f 1)" ]; }
+check "it is told at the top of the page" warns_first
+check "where the view that opens every step is not safe, that is told" says_beside skewed '{"expand":["S"]}' 'that one is not safe' 0
 
 # Questions whose lines end as other systems end them, with empty lines between.
 other_lines() {

@@ -608,6 +608,31 @@ for word in 00 18446744073709551616 0x1; do
     check "\`$word\` is no seed" says 1 'usage: wfprov COMMAND WORDS\n' drill $line/spec $line/view 1 "$word"
 done
 
+# Whether a coarser view denies what a finer one affirms.
+compares() {
+    printf '%s' "$2" >"$work/fine"
+    printf '%s' "$3" >"$work/coarse"
+    run compare "examples/$1/spec" "$work/fine" "$work/coarse" && ended 0 "$(text expected_out "$4")" "$nothing"
+}
+whole='{"expand":["Main"],"deps":[{"module":"Refine","pairs":[["m","r"],["m","q"],["c","q"]]}]}'
+narrow='{"expand":["Main"],"deps":[{"module":"Refine","pairs":[["m","r"],["m","q"]]}]}'
+denied='no Refine c q n2\n{"start":"n0"}\n{"expand":"n0","production":0,"names":["n1","n2","n3","n4"]}\n'
+check "a view that states the pairs of a closed step is exact" compares phylogeny '{}' "$whole" 'yes\nexact\n'
+check "a view that states nothing of it adds a pair" compares phylogeny '{}' '{"expand":["Main"]}' 'yes\nextra Refine c r\n'
+check "a view that leaves a pair out denies it, and a run shows it" compares phylogeny '{}' "$narrow" "$denied"
+check "a denied pair is told before one that is added" compares phylogeny '{}' "${narrow%]]*}],[\"c\",\"r\"]]}]}" "$denied"
+check "a view is exact beside itself" compares twisting '{}' '{}' 'yes\nexact\n'
+check "a view that closes a step that exchanges its ways adds a pair" compares twisting '{}' '{"expand":["S"]}' 'yes\nextra L x1 y2\n'
+check "the root itself may be denied" compares line '{}' '{"expand":[],"deps":[{"module":"S","pairs":[]}]}' 'no S a b n0\n{"start":"n0"}\n'
+refuses_coarse() {
+    printf '%s' "$2" >"$work/fine"
+    printf '%s' "$3" >"$work/coarse"
+    says 2 "refused: coarse: $4\n" compare "examples/$1/spec" "$work/fine" "$work/coarse"
+}
+check "a view that opens what the other closes is not coarser" refuses_coarse phylogeny '{"expand":["Main"]}' '{}' 'NotCoarser Refine'
+check "so it is where neither sees the step" refuses_coarse phylogeny '{"expand":[]}' '{"expand":["Build"]}' 'NotCoarser Build'
+check "a coarser view is tried by itself first" refuses_coarse phylogeny '{"expand":[]}' '{"expand":["Main","Nothing"]}' 'UnknownModule expand 1'
+
 # The items on which an item rests, and those that rest on it.
 lists() {
     local command=$1 example=$2 item=$3

@@ -25,10 +25,11 @@ PARTS = [
     ("Runs, labels and label files", ["wf_inputs/specs/RunTold", "cmd_ingest/specs/Ingested", "wf_inputs/specs/LabelsTold"]),
     ("What labels tell", ["wf_query/specs/Answers", "wf_lineage/specs/Listed", "cmd_decide/specs/Decided"]),
     ("Why an item rests on another", ["cmd_explain/specs/Reasons", "wf_reason/specs/Checked"]),
+    ("Whether a coarser view denies what a finer one affirms", ["cmd_share/specs/Told"]),
     ("What the other commands write", ["cmd_describe/specs/Does", "wf_export/specs/ExportText", "cmd_make/specs/Does"]),
     ("The program", ["wf_top/specs/Outcome", "wf_top/specs/Meets", "wf_top/specs/Counts"]),
 ]
-LAWS = ["wf_laws", "label_model", "decode_model", "verdict_model", "version_model", "report_model", "chain_model", "outcome_laws"]
+LAWS = ["wf_laws", "label_model", "decode_model", "verdict_model", "version_model", "report_model", "chain_model", "compare_model", "words_model", "package_model", "outcome_laws"]
 TABLES = re.compile(r"^\*\*" + PARTS[0][0] + r"\*\*.*?^Together \d+ files .*?$.*?(?=^## )", re.M | re.S)
 
 

@@ -23,10 +23,10 @@ has_edits() {
     [ -n "$(find "crates/$1/must-fail" -name '*.edit' -print -quit 2>/dev/null)" ]
 }
 
-# The functions of wf_laws, label_model, verdict_model, decode_model, version_model, report_model, chain_model and outcome_laws do nothing, so no edit of a body can change what they mean; and the last five crates are tests and what tests share.
+# The functions of wf_laws, label_model, verdict_model, decode_model, version_model, report_model, chain_model, compare_model, words_model, package_model and outcome_laws do nothing, so no edit of a body can change what they mean; and the last five crates are tests and what tests share.
 has_edits_or_no_code() {
     case $1 in
-        wf_laws | label_model | verdict_model | decode_model | version_model | report_model | chain_model | outcome_laws | wf_samples | base_trials | grammar_trials | label_trials | run_trials) true ;;
+        wf_laws | label_model | verdict_model | decode_model | version_model | report_model | chain_model | compare_model | words_model | package_model | outcome_laws | wf_samples | base_trials | grammar_trials | label_trials | run_trials) true ;;
         *) has_edits "$1" ;;
     esac
 }

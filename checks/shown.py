@@ -29,15 +29,19 @@ class Shown:
             self.onward.setdefault(port, []).append(other)
         self.leads_on = {item: dict(self.steps_from(item)) for item in self.place}
 
+    def ports_from(self, port):
+        """Returns the ports to which links lead from one."""
+        found, left = set(), [port]
+        while left:
+            for other in self.onward.get(left.pop(), ()):
+                if other not in found:
+                    found.add(other)
+                    left.append(other)
+        return found
+
     def resting_on(self, item):
         """Returns the items that rest on one."""
-        found, left = set(), [item]
-        while left:
-            for port in self.onward.get(left.pop(), ()):
-                if port not in found:
-                    found.add(port)
-                    left.append(port)
-        return {port for port in found if port in self.place}
+        return {port for port in self.ports_from(item) if port in self.place}
 
     def pair_of(self, port, other):
         """Returns the closed instance of which a link is a pair, or None."""

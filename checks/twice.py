@@ -22,6 +22,8 @@ EXPLAINED = {
     "wf_laws/proofs/SkewedGrammar:first, wf_laws/proofs/TwistingGrammar:first": "two worked runs that begin alike by chance",
     "wf_laws/proofs/SkewedGrammar:second, wf_laws/proofs/TwistingGrammar:second": "two worked runs that begin alike by chance",
     "bit_pack/proofs/Numbers:digit, wf_inbox/proofs/Times:one_if": "the digit of a bit and the one of a test are two readings of one small function, and neither crate stands on the other",
+    "compare_model/specs/Routes:IsEarlier, wf_recur/specs/Loops:IsBefore": "steps are compared by production and position where loops are told and where routes are, and neither crate stands on the other",
+    "compare_model/proofs/WorkedComparisons:place_no, wf_safe/specs/BodyGraph:owner_place": "the places of a body are numbered for a worked example and for the vertices of a graph, and the worked one stands on no code",
 }
 
 TOKEN = re.compile(r'"(?:[^"\\]|\\.)*"|[(){}\[\],;]|[^\s(){}\[\],;"]+')

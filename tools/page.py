@@ -25,6 +25,9 @@ instead, if this has no more than 500 links, and its links are listed at the end
 installed. If there are more than 2,000 links, the page has their number alone. Of the run and of the workflow the page shows only what
 the view shows. A page has at most 10,000 questions.
 
+Where the view leaves composite steps closed, `wfprov compare` compares it with the one that opens every step, if that one is safe. The page
+says that nothing is left out, or warns at its top of the first pair that the view denies although the two are joined.
+
 The tool refuses what `wfprov` refuses, in its words; a file that is no regular file, since each is read more than once; a file that
 changes meanwhile; and a LABELS and an EVENTS of different runs. It then writes no page. Its messages name the file or the command.
 
@@ -63,7 +66,7 @@ h1 { font-size: 1.6rem; } h2 { font-size: 1.2rem; margin-top: 2rem; border-botto
 table { border-collapse: collapse; width: 100%; } caption { text-align: left; padding: .3rem 0; }
 th, td { border: 1px solid #999; padding: .25rem .5rem; text-align: left; vertical-align: top; }
 th { background: #eee; } code { font-family: monospace; overflow-wrap: break-word; } code.digest { font-size: .85em; overflow-wrap: anywhere; } td.answer { font-weight: bold; }
-figure { margin: 1rem 0; } svg { display: block; max-width: 100%; height: auto; margin: 0 auto; }
+p.warning { border: 3px solid #b00; padding: .5rem .8rem; } figure { margin: 1rem 0; } svg { display: block; max-width: 100%; height: auto; margin: 0 auto; }
 pre { margin: .2rem 0; white-space: pre-wrap; overflow-wrap: anywhere; } ul.links { columns: 18rem; padding-left: 1.2rem; font-size: .9em; }
 @media print {
   @page { margin: 1.5cm; }
@@ -304,6 +307,54 @@ def view_part(grammar, words, shown):
         yield f"<p>The workflow has {counted(hidden, 'module')} more, which the view does not show.</p>"
 
 
+def beside_full(program, grammar, words, shown):
+    """Returns the lines that `compare` writes of the view beside the one that opens every step. There are none where that one is not safe, and
+    it is None where the view leaves no composite step closed."""
+    if not any(line.split(" ")[0] in grammar.composite and line.split(" ")[1] == "shown" for line in shown):
+        return None
+    with tempfile.NamedTemporaryFile() as full:
+        full.write(b"{}")
+        full.flush()
+        try:
+            return program.lines(["compare", words["SPEC"], full.name, words["VIEW"]])
+        except Wrong as refused:
+            if re.search(": refused: view: Unsafe [^:]*$", str(refused)):
+                return []
+            raise
+
+
+def rests_on(module, first, second):
+    """Returns that an output of a module rests on an input, in words, as the program tells the pair."""
+    return f"the output {code(second)} of {code(module)} rests on its input {code(first)}"
+
+
+def warning_part(told):
+    """Yields a warning where `compare` tells of a pair that the view denies."""
+    if told and told[0].startswith("no "):
+        yield (
+            f'<p class="warning"><strong>The view denies what is so.</strong> With every step opened, {rests_on(*told[0].split(" ")[1:4])}, in'
+            " whatever way the run is finished. The view says that it does not. So an answer <code>no</code> on this page may be"
+            " <code>yes</code> where every step is opened. The view may deny more: this is the first such pair.</p>"
+        )
+
+
+def beside_part(told):
+    """Yields what `compare` tells of a view that denies nothing, or why it tells nothing."""
+    if told == []:
+        yield (
+            "<p>The view is not compared with the one that opens every step: that one is not safe. Two ways to carry out a step disagree there"
+            " about what its outputs rest on.</p>"
+        )
+    elif told == ["yes", "exact"]:
+        yield "<p>Nothing is left out: about items that this view shows, the view that opens every step gives the same answers.</p>"
+    elif told and told[0] == "yes":
+        yield (
+            "<p>Nothing is left out: about items that this view shows, whatever is <code>yes</code> where every step is opened is <code>yes</code>"
+            f" here. The view says more: by it, {rests_on(*told[1].split(' ')[1:])}, and with every step opened it does not. So an answer"
+            " <code>yes</code> may be <code>no</code> there. This is the first such pair.</p>"
+        )
+
+
 MEANINGS = {
     "yes": "the item rests on the other; data lead from the one to the other, in whatever way the run is finished",
     "no": "the item does not rest on the other; no data lead there, in whatever way the run is finished",
@@ -471,13 +522,16 @@ def chain_commands(words):
     ]
 
 
-def commands_of(words, run, has_chains):
+def commands_of(words, run, has_chains, is_compared):
     """Returns the commands with what they were run for."""
     spec, view, queries = words["SPEC"], words["VIEW"], words["QUERIES"]
     told = [
         (["check", spec], "accepted the specification"),
         (["view", spec, view], "found the view safe, and reported what it shows"),
     ]
+    if is_compared:
+        what = "compared the view with the one that opens every step; FULL is a file with <code>{}</code>"
+        told.append((["compare", spec, "FULL", view], what))
     if run:
         told.append((["export", spec, view, words["EVENTS"]], "wrote the run under the view"))
     if "LABELS" in words:
@@ -504,6 +558,8 @@ the form of one of this workflow; an answer <code>yes</code> or <code>no</code> 
 PROVED_CHAINS = """<p>It is proved that <code>wfprov explain</code> writes a chain exactly where the second item rests on the first, that no \
 chain of the two is shorter, and that <code>wfprov verify</code> says <code>yes</code> exactly of the lines of a chain of the run. It searches nothing, and \
 looks at each line once, so a chain can be checked by something simpler than what found it.</p>"""
+PROVED_COMPARED = """<p>What <code>wfprov compare</code> says of the two views is proved as well: where it says <code>yes</code>, no answer \
+<code>yes</code> of the one that opens every step is a <code>no</code> under this one, and where it says <code>exact</code>, their answers are the same.</p>"""
 NOT_PROVED = """<p><strong>Not proved.</strong> That the specification, the view and the events describe what was really done: the pairs \
 that they give to a step are taken at their word. That the program gets what stands in these files, and that what it writes arrives: \
 this is tested. The prover, the compilers, their libraries and the system are trusted. This page, and the picture or the list of links \
@@ -580,9 +636,9 @@ def asked_and_answered(program, grammar, run, words):
     return Asked(questions, answers, outputs=outputs_of_run(grammar, run, words))
 
 
-def proved_part(of_labels, of_files, has_chains):
+def proved_part(of_labels, of_files, has_chains, is_compared):
     """Returns the part of the page that says what is proved, and what is not."""
-    proved = [PROVED] + [PROVED_LABELS] * of_labels + [PROVED_CHAINS] * has_chains
+    proved = [PROVED] + [PROVED_LABELS] * of_labels + [PROVED_CHAINS] * has_chains + [PROVED_COMPARED] * is_compared
     return proved + [NOT_PROVED] + [NOT_PROVED_LABELS] * of_labels + [NOT_PROVED_TABLE] * of_files
 
 
@@ -599,20 +655,21 @@ def page(program, words):
     of_labels = "LABELS" in words
     grammar = Grammar(program, words["SPEC"])
     shown = program.lines(["view", words["SPEC"], words["VIEW"]])
+    beside = beside_full(program, grammar, words, shown)
     run = Run(program, ["export", words["SPEC"], words["VIEW"], words["EVENTS"]]) if words["EVENTS"] != "-" else None
     agreement = same_run(program, words) if of_labels and run else ""
     asked = asked_and_answered(program, grammar, run, words)
     if run:
         asked.take_chains(program, words, agreement == LATER)
-    picture, has_chains = Picture(), bool(asked.chains)
-    lines = [*head(), *opening(words, len(asked.questions))]
+    picture, has_chains, is_compared = Picture(), bool(asked.chains), bool(beside)
+    lines = [*head(), *opening(words, len(asked.questions)), *warning_part(beside)]
     lines += section("picture", "The run under the view" if run else "The workflow", run_part(picture, run, grammar, words["SPEC"], shown))
-    lines += section("view", "The view in words", view_part(grammar, words, shown))
+    lines += section("view", "The view in words", [*view_part(grammar, words, shown), *beside_part(beside)])
     lines += section("questions", "Questions and answers", questions_part(asked, "label file" if of_labels else "run", bool(run)))
     if asked.files:
         lines += section("files", "The files that the questions name", files_part(asked.files))
-    lines += section("how", "How the answers were obtained", how_part(files, commands_of(words, run, has_chains), agreement))
-    lines += section("proved", "What is proved, and what is not", proved_part(of_labels, "TABLE" in words, has_chains))
+    lines += section("how", "How the answers were obtained", how_part(files, commands_of(words, run, has_chains, is_compared), agreement))
+    lines += section("proved", "What is proved, and what is not", proved_part(of_labels, "TABLE" in words, has_chains, is_compared))
     if run and 0 < run.links <= LISTED_LINKS and not is_drawn(picture, run):
         lines += section("links", "The links of the run under the view", links_part(run))
     for _, path, *told in files:

@@ -42,7 +42,7 @@ fi
 # The page of the three questions of the README. Below its answers stand the digests of the files, which are others for each build.
 if [ "$page" = --page ]; then
     python3 tools/page.py $phylogeny/spec $phylogeny/outer $phylogeny/events $phylogeny/asked >"$work/page.html"
-    photograph page.png "file://$work/page.html" 1000,2046
+    photograph page.png "file://$work/page.html" 1000,2085
     exit
 fi
 

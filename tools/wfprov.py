@@ -47,7 +47,7 @@ PIECE = 65536
 HEAD = 36
 QUERY = re.compile(r"[A-Za-z0-9_-]{1,64}\.[A-Za-z0-9_-]{1,64} [A-Za-z0-9_-]{1,64}\.[A-Za-z0-9_-]{1,64}\n")
 NAME = re.compile(r"[A-Za-z0-9_-]{1,64}")
-REFUSED = re.compile(r"refused: (spec|view|events|labels|queries|chain|label [12])(?: line (\d+))?: (\w+)(?: (.*))?")
+REFUSED = re.compile(r"refused: (spec|view|coarse|events|labels|queries|chain|label [12])(?: line (\d+))?: (\w+)(?: (.*))?")
 
 
 class Answer(enum.Enum):
@@ -132,8 +132,8 @@ class Ended(Exception):
 class Refused(Ended):
     """A file, a line or a label is refused.
 
-    `place` is `spec`, `view`, `events`, `labels`, `queries`, `chain`, `label 1` or `label 2`; `line` is a number in events, queries and
-    chain, and None elsewhere; `kind` is the name of the fault, as `WrongShape`; and `about` is what stands behind it, as `modules`, or empty.
+    `place` is `spec`, `view`, `coarse`, `events`, `labels`, `queries`, `chain`, `label 1` or `label 2`; `line` is a number in events,
+    queries and chain, and None elsewhere; `kind` is the name of the fault, as `WrongShape`; and `about` is what stands behind it, as `modules`, or empty.
     """
 
     def __init__(self, message: str, status: int, place: str, line: Optional[int], kind: str, about: str) -> None:

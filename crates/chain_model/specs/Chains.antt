@@ -38,6 +38,16 @@ IsExit g u m events = IsOfOpen g u m events (exits_in g)
 abbrev pub unopened_pairs : View → Assignment → Assignment
 unopened_pairs u d m i o = cond (expands u m) (d m i o) (shows u m i o)
 
+-- The instance n consumes the item x: n is seen and not open, and entries, maybe none, lead from the port that consumes x to an input of n
+pub record Consumes (g : Grammar) (u : View) (m : ℕ) (events : List Event) (x : Item) (n : Instance) : Type 0 where
+  pub seen : IsIn n (seen_in g u m events)
+  pub not_open : ¬ IsOpen g u m events n
+  pub from : Port (List ℕ)
+  pub i : ℕ
+  pub consumed : x.consumed ≡ Some from
+  pub entries : Walk (IsEntry g u m events) from (input n.name i)
+  pub input_there : i < inputs_of g n.module_no
+
 -- The item x leads through the instance n to the item y: n is seen and not open; entries, maybe none, lead from the port that consumes x to an input of n; exits, maybe none, lead from an output of n to the port that produces y; and the input and the output are a pair of n
 pub record LeadsThrough (g : Grammar) (u : View) (d : Assignment) (m : ℕ) (events : List Event) (x : Item) (n : Instance) (y : Item) : Type 0 where
   pub seen : IsIn n (seen_in g u m events)

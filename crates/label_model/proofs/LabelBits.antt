@@ -83,7 +83,8 @@ place_free g (s ∷ ss) (t ∷ ts) m k l i j c d a b e f x y hs ht hc hd q =
     let rec = place_free g ss ts (target_of g ht.0) k l i j c d a b e f x y hs' ht.2 hc hd r3.1 in
     record { steps = ap (λ z. z ∷ ss) st ∙ ap (λ z. t ∷ z) rec.steps; chain = rec.chain; alternative = rec.alternative; edge = rec.edge; rest = rec.rest }
 
-label_spread : (p : Place) (x : List Bool) → label_bits (OfEdge p) ++ x ≡ true ∷ (flat_map step_bits p.steps ++ (ending_bits p.chain p.alternative p.edge ++ x))
+-- the bits of the label of an edge, part by part
+pub label_spread : (p : Place) (x : List Bool) → label_bits (OfEdge p) ++ x ≡ true ∷ (flat_map step_bits p.steps ++ (ending_bits p.chain p.alternative p.edge ++ x))
 unfolding label_bits
 label_spread p x = simp append_assoc
 

@@ -1,16 +1,16 @@
 -- Bytes are a label of a grammar, or not.
-use Rattle.std.proofs.Common.{◌≡◌, ◌≢◌, ◌⊎◌, ◌↔◌, ℕ, zero, suc, ◌+◌, ◌-◌, ◌^◌, ◌<◌, ◌≤◌, Bool, true, false, List, [], ◌∷◌, ◌++◌, length, replicate, Option, Some, None, refl, sym, ap, ◌∙◌, subst, inl, inr, ⊎_elim, arith, length-append}
+use Rattle.std.proofs.Common.{◌≡◌, ◌≢◌, ℕ, zero, suc, ◌+◌, ◌-◌, ◌^◌, ◌<◌, ◌≤◌, Bool, true, false, List, [], ◌∷◌, ◌++◌, length, replicate, Option, Some, None, refl, sym, ap, ◌∙◌, subst, inl, inr, ⊎_elim, arith, length-append}
 use Rattle.std.proofs.lemmas.List.{length-replicate}
 use Rattle.std.proofs.lemmas.Option.{same_Some}
 use Rattle.wf_model.specs.Grammar.{Grammar, production_at, inputs_of, outputs_of, head_of, body_of, alternative_of, IsProductionOf}
 use Rattle.wf_model.specs.Reach.{Step, target_of}
 use Rattle.wf_model.specs.Linear.{IsStepOf}
-use Rattle.wf_model.proofs.Deciding.{Either, either_same, either_not, either_both, either_then, number_either, below_either, within_either, some_below}
+use Rattle.wf_model.proofs.Deciding.{Either, either_same, either_not, either_both, number_either, below_either, within_either, some_below}
 use Rattle.bit_pack.specs.Bits.{bits_of}
-use Rattle.bit_pack.specs.Gamma.{gamma, Begins, HasNoCode}
+use Rattle.bit_pack.specs.Gamma.{gamma}
 use Rattle.bit_pack.proofs.Fronts.{no_one}
 use Rattle.bit_pack.proofs.Codes.{prefix_free_law}
-use Rattle.bit_pack.proofs.CodeOrNone.{HasOne, one_or_zeros, code_or_none}
+use Rattle.bit_pack.proofs.CodeOrNone.{one_or_zeros, code_or_none}
 use Rattle.label_model.specs.Continuing.{continuing, after}
 use Rattle.label_model.specs.Reading.{IsLabelBytes, IsPadding, IsPlaceLeft, IsPartLeft, IsChainLeft, IsPortLeft, IsLabelLeft}
 use Rattle.label_model.proofs.ReadFromFront.{reading_law}

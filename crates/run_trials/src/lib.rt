@@ -6,6 +6,8 @@ mod ask_tests;
 #[cfg(test)]
 mod called;
 #[cfg(test)]
+mod compare_tests;
+#[cfg(test)]
 mod decide_tests;
 #[cfg(test)]
 mod event_tests;
@@ -15,6 +17,8 @@ mod ingest_tests;
 mod line_tests;
 #[cfg(test)]
 mod make_tests;
+#[cfg(test)]
+mod reason_tests;
 #[cfg(test)]
 mod room_tests;
 #[cfg(test)]

@@ -1,5 +1,5 @@
 -- Given pairs decide nothing of runs and of labels.
-use Rattle.std.proofs.Common.{◌≡◌, ℕ, zero, suc, ◌+◌, ◌<◌, ◌≤◌, Bool, true, false, cond, ◌||◌, List, [], ◌∷◌, ◌++◌, map, length, flat_map, zip, Option, Some, None, is_some, refl, sym, ap, ◌∙◌, subst}
+use Rattle.std.proofs.Common.{◌≡◌, ℕ, zero, suc, ◌+◌, ◌≤◌, cond, ◌||◌, List, [], ◌∷◌, ◌++◌, map, length, flat_map, zip, Option, Some, None, is_some, refl, sym, ap, ◌∙◌, subst}
 use Rattle.std.specs.Prelude.{◌==◌, not, nat_le, nat_lt}
 use Rattle.std.specs.List.{find, list_all}
 use Rattle.wf_model.specs.Lists.{IsIn, some, numbers_from}
@@ -15,9 +15,9 @@ use Rattle.label_model.specs.Continuing.{makes, derives_within, derives, steps_o
 use Rattle.label_model.specs.Labels.{OfEdge}
 use Rattle.label_model.specs.Places.{chain_by, count_after, told, steps_from, chain_from}
 use Rattle.label_model.specs.RunLabels.{address_in, labels_by, labelled}
-use Rattle.label_model.specs.Files.{entry_bytes, entry_of, entries_of, head_bytes, label_file}
+use Rattle.label_model.specs.Files.{entry_bytes, entry_of, head_bytes}
 use Rattle.report_model.specs.Reports.{Report}
-use Rattle.report_model.specs.Intake.{Intake, nothing_taken, Taking, GoesOn, and_then, without_first, is_ready, ready_in, hold, apply_unless, apply_one, apply_ready, apply_all, take_report, take_reports, end_with, intake}
+use Rattle.report_model.specs.Intake.{Intake, nothing_taken, Taking, and_then, without_first, is_ready, ready_in, hold, apply_unless, apply_one, apply_ready, take_report, take_reports, end_with, intake}
 use Rattle.version_model.specs.Versions.{AreBuiltAlike}
 use Rattle.version_model.specs.Laws.{GivenPairsLaw}
 

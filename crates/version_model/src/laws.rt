@@ -1,8 +1,8 @@
 // Laws of the versions of a grammar: each is the contract of a function that does nothing.
 ghost use Rattle.version_model.specs.Laws.{GivenPairsLaw, VersionCyclesLaw, VersionDependsLaw, VersionEntriesLaw, VersionFormedLaw, VersionLabelLaw, VersionReachLaw, VersionReportsLaw, VersionRouteLaw, VersionRunLaw, VersionSafeLaw, VersionStepLaw, VersionVerdictLaw, VersionViewLaw, VersionVisibleLaw};
-ghost use Rattle.version_model.specs.Standing.{StandingLaw, StandingRouteLaw};
+ghost use Rattle.version_model.specs.Standing.{StandingInducedLaw, StandingLaw, StandingRouteLaw};
 
-/// Where all that one grammar shows under a view stands in another, their productions induce the same pairs, and the same is reached along open routes.
+/// Where all that one grammar shows under a view stands in another, perhaps by other numbers, their productions induce the same pairs, and the same is reached along open routes.
 pub fn standing_law()
     ensures { StandingLaw }
 {}
@@ -10,6 +10,11 @@ pub fn standing_law()
 /// Where all that one grammar shows under a view stands in another, the same routes of the first are open in both.
 pub fn standing_route_law()
     ensures { StandingRouteLaw }
+{}
+
+/// Where all that one grammar shows under a view stands in another, what the productions of the other induce, its own productions induce.
+pub fn standing_induced_law()
+    ensures { StandingInducedLaw }
 {}
 
 /// Given pairs decide nothing of runs and of labels: grammars with the same start, modules and productions accept the same runs, take the same reports, and write the same label files but for the digest.

@@ -24,7 +24,7 @@ use Rattle.wf_flat.proofs.SeenNumbers.{all_differ, name_at}
 use Rattle.wf_chain.specs.declared.chain.ChainStep.{ChainStep as StepHeld}
 use Rattle.wf_chain.specs.HeldItems.{side_names, module_of}
 use Rattle.wf_chain.specs.ViewedRuns.{ViewedRunValue, grammar_in, view_in, full_in, events_in, item_in, IsItemIn}
-use Rattle.wf_chain.specs.Steps.{IsInnerEnd, IsEndOf, IsUnopened, LeadsInward, Consumes, IsLedTo, GoesOn, port_in}
+use Rattle.wf_chain.specs.Steps.{IsInnerEnd, IsEndOf, IsUnopened, LeadsInward, ConsumesIn, IsLedTo, GoesOn, port_in}
 use Rattle.wf_chain.proofs.Opening.{seen_is}
 
 -- the ends of ports that may not be there
@@ -82,9 +82,9 @@ module _ (v : ViewedRunValue) (run : IsTableOf (grammar_in v) v.run) where
     input_there : q.port.0 < length (module_of g v.run q.instance).inputs
     input_there = subst (λ s. q.port.0 < length (side_names s (module_of g v.run q.instance))) h.side h.port.in_range
 
-    pub consumes_from : (i : ItemHeld) → i.to ≡ Some p → (k : ℕ) → q.instance ≡ k → Consumes v (item_in v i) (inst_at xs k)
+    pub consumes_from : (i : ItemHeld) → i.to ≡ Some p → (k : ℕ) → q.instance ≡ k → ConsumesIn v (item_in v i) (inst_at xs k)
     consumes_from i e k same =
-        subst (λ z. Consumes v (item_in v i) (inst_at xs z)) same
+        subst (λ z. ConsumesIn v (item_in v i) (inst_at xs z)) same
         (record { seen = h.port.seen; not_open = h.not_open; from = port_in v p; i = q.port.0; consumed = ap naming e; entries = way_in; input_there = input_there })
 
     pub one_input : (n : Instance) → IsIn n (seen_in g u g.start es) → ¬ IsOpen g u g.start es n → (i : ℕ) → Walk (IsEntry g u g.start es) (port_in v p) (input n.name i) → (n ≡ inst_at xs q.instance) × (i ≡ q.port.0)
@@ -93,7 +93,7 @@ module _ (v : ViewedRunValue) (run : IsTableOf (grammar_in v) v.run) where
         (one_end (entry_once g u g.start es run.accepted.0) (no_entry g u g.start es run.accepted.0 n seen not i) (no_entry g u g.start es run.accepted.0 (inst_at xs q.instance) h.port.seen h.not_open q.port.0) w way_in
         ∙ sym (port_is Input q h.port.there h.side))
 
-    pub consumes_only : (i : ItemHeld) → i.to ≡ Some p → (n : Instance) → Consumes v (item_in v i) n → (n ≡ inst_at xs q.instance)
+    pub consumes_only : (i : ItemHeld) → i.to ≡ Some p → (n : Instance) → ConsumesIn v (item_in v i) n → (n ≡ inst_at xs q.instance)
     consumes_only i e n c =
         let from : c.from ≡ port_in v p = same_Some c.from (port_in v p) (sym c.consumed ∙ ap naming e) in
         (one_input n c.seen c.not_open c.i (subst (λ z. Walk (IsEntry g u g.start es) z (input n.name c.i)) from c.entries)).0
@@ -144,7 +144,7 @@ module _ (v : ViewedRunValue) (run : IsTableOf (grammar_in v) v.run) where
       )
 
   -- an output of the root is consumed nowhere
-  pub not_consumed : (i : ItemHeld) (n : Instance) → i.to ≡ None → Consumes v (item_in v i) n → ⊥
+  pub not_consumed : (i : ItemHeld) (n : Instance) → i.to ≡ None → ConsumesIn v (item_in v i) n → ⊥
   not_consumed i n e c = none_is_some i.to (named_port (names_in xs)) c.from e c.consumed
 
   -- a step from an item goes on exactly if its instance consumes the item, and the input leads to the next

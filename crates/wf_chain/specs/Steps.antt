@@ -6,8 +6,8 @@ use Rattle.wf_model.specs.Lists.{IsIn, Walk}
 use Rattle.wf_model.specs.Run.{Instance, IsOpen, seen_in}
 use Rattle.wf_model.specs.Links.{Port, input, output}
 use Rattle.wf_model.specs.Items.{Item, IsVisible}
-use Rattle.wf_model.specs.Grammar.{Grammar, Inner, Production, inputs_of, outputs_of}
-use Rattle.chain_model.specs.Chains.{ChainStep, IsEntry, IsExit, IsStepFrom, unopened_pairs}
+use Rattle.wf_model.specs.Grammar.{Grammar, Inner, Production, outputs_of}
+use Rattle.chain_model.specs.Chains.{ChainStep, IsEntry, IsExit, Consumes, IsStepFrom, unopened_pairs}
 use Rattle.wf_flat.specs.declared.graph.Port.{Port as PortHeld}
 use Rattle.wf_flat.specs.declared.item.Item.{Item as ItemHeld}
 use Rattle.wf_flat.specs.Table.{Table, names_in}
@@ -60,15 +60,9 @@ IsEndOf v None (Some q) = ⊥
 IsEndOf v (Some p) None = ⊥
 IsEndOf v (Some p) (Some q) = IsInnerEnd v p q
 
--- The instance n consumes the item x: n is seen and not open, and entries, maybe none, lead from the port that consumes x to an input of n
-pub record Consumes (v : ViewedRunValue) (x : Item) (n : Instance) : Type 0 where
-  pub seen : IsIn n (seen_in (grammar_in v) (view_in v) (grammar_in v).start (events_in v))
-  pub not_open : ¬ IsOpen (grammar_in v) (view_in v) (grammar_in v).start (events_in v) n
-  pub from : Port (List ℕ)
-  pub i : ℕ
-  pub consumed : x.consumed ≡ Some from
-  pub entries : Walk (IsEntry (grammar_in v) (view_in v) (grammar_in v).start (events_in v)) from (input n.name i)
-  pub input_there : i < inputs_of (grammar_in v) n.module_no
+-- an instance consumes an item, in a run under a safe view
+abbrev pub ConsumesIn : ViewedRunValue → Item → Instance → Type 0
+ConsumesIn v x n = Consumes (grammar_in v) (view_in v) (grammar_in v).start (events_in v) x n
 
 -- a port of a seen instance that is not open, on one side
 pub record IsUnopened (v : ViewedRunValue) (s : Side) (p : PortHeld) : Type 0 where
@@ -105,11 +99,11 @@ GoesOn v i s = IsStepFrom (grammar_in v) (view_in v) (full_in v) (grammar_in v).
 
 -- The instance of a number consumes an item at an input: through it the item leads to those items alone to which the input leads
 pub record IsConsumedBy (v : ViewedRunValue) (i : ItemHeld) (k : ℕ) (p : PortHeld) : Type 0 where
-  pub consumes : Consumes v (item_in v i) (inst_at v.run.instances k)
+  pub consumes : ConsumesIn v (item_in v i) (inst_at v.run.instances k)
   pub unopened : IsUnopened v Input p
   pub onward : (j : ItemHeld) → IsItemIn v j → GoesOn v i (record { via = k; item = j }) ↔ IsLedTo v p (item_in v j)
 
 -- what is wrong of a step from an item: its instance does not consume the item; or it does, and the item does not lead through it to that of the step, or the view does not show this one
 abbrev pub IsWrong : ViewedRunValue → ItemHeld → StepHeld → WrongStep → Type 0
-IsWrong v i s Via = ¬ Consumes v (item_in v i) (inst_at v.run.instances s.via)
-IsWrong v i s Onward = Consumes v (item_in v i) (inst_at v.run.instances s.via) × ¬ GoesOn v i s
+IsWrong v i s Via = ¬ ConsumesIn v (item_in v i) (inst_at v.run.instances s.via)
+IsWrong v i s Onward = ConsumesIn v (item_in v i) (inst_at v.run.instances s.via) × ¬ GoesOn v i s

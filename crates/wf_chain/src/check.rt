@@ -5,7 +5,7 @@ ghost use Rattle.wf_chain.specs.ViewedRuns.{item_in, IsItemIn, IsVisibleIn};
 ghost use Rattle.wf_model.specs.Lists.{IsIn};
 ghost use Rattle.wf_flat.specs.Graph.{inst_at};
 ghost use Rattle.wf_chain.specs.declared.chain.ChainStep.{ChainStep as StepHeld};
-ghost use Rattle.wf_chain.specs.Steps.{IsUnopened, Consumes, IsConsumedBy, IsLedTo, IsStepIn, GoesOn, IsWrong};
+ghost use Rattle.wf_chain.specs.Steps.{IsUnopened, ConsumesIn, IsConsumedBy, IsLedTo, IsStepIn, GoesOn, IsWrong};
 ghost use Rattle.wf_chain.specs.Chains.{AreStepsTo, IsChainIn, IsChainTo, end_in};
 
 use crate::chain::{Chain, ChainStep, WrongStep};
@@ -21,7 +21,7 @@ impl<'r> ViewedRun<'r> {
     pub fn consumes(&self, item: &Item, via: u32) -> Option<Port>
         requires item { IsVisibleIn self.now item.now }
         requires via { via < length self.now.run.instances }
-        ensures { MatchOption result (¬ Consumes self.now (item_in self.now item.now) (inst_at self.now.run.instances via)) (IsConsumedBy self.now item.now via) }
+        ensures { MatchOption result (¬ ConsumesIn self.now (item_in self.now item.now) (inst_at self.now.run.instances via)) (IsConsumedBy self.now item.now via) }
     {
         // The run is one of the grammar: an item is consumed by one instance alone.
         let _run = self.run;

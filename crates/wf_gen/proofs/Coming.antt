@@ -12,7 +12,8 @@ use Rattle.wf_model.proofs.Lists.{in_append_cases}
 use Rattle.wf_model.proofs.Composites.{composite_gives, composite_below}
 use Rattle.wf_gen.specs.declared.pending.Pending.{Pending as PendingHeld}
 use Rattle.wf_gen.specs.Draws.{draw}
-use Rattle.wf_gen.specs.Turns.{Pending, State, Generated, numbered_name, no_pending, pending_from, place_picked, child_count, event_of, next_turn, draws_after, after_turn, after_draws, first_state, turns, started}
+use Rattle.numbered_names.specs.Names.{numbered_name}
+use Rattle.wf_gen.specs.Turns.{Pending, State, Generated, no_pending, pending_from, place_picked, child_count, event_of, next_turn, draws_after, after_turn, after_draws, first_state, turns, started}
 use Rattle.wf_gen.specs.Coming.{IsFirst, IsNext, coming, rest_of, has_ended}
 use Rattle.wf_gen.specs.Held.{all_pending, AreComposite, IsTurn, AreLeft, IsKept}
 use Rattle.wf_gen.proofs.Lists.{left_in}

@@ -18,9 +18,10 @@ use Rattle.wf_model.proofs.Runs.{made_more, names-named, expansion_kept, expansi
 use Rattle.wf_model.proofs.Taking.{extended}
 use Rattle.wf_laws.proofs.Routes.{unmade}
 use Rattle.wf_gen.specs.Draws.{draw, drawn}
-use Rattle.wf_gen.specs.Turns.{Pending, State, no_pending, numbered_name, numbered_names, pending_from, place_picked, instance_picked, stays_on_cycle, child_count, next_turn, draws_after, after_turn, after_draws, first_state}
+use Rattle.numbered_names.specs.Names.{numbered_name, numbered_names}
+use Rattle.wf_gen.specs.Turns.{Pending, State, no_pending, pending_from, place_picked, instance_picked, stays_on_cycle, child_count, next_turn, draws_after, after_turn, after_draws, first_state}
 use Rattle.wf_gen.specs.Laws.{instance_of, IsUnexpanded}
-use Rattle.wf_gen.proofs.Numbered.{name_same, name_good, name_from, length-names, names-append, name_at, names_differ}
+use Rattle.numbered_names.proofs.Numbered.{name_same, name_good, name_from, length-names, names-append, name_at, names_differ}
 use Rattle.wf_gen.proofs.Lists.{taken_or_left, left_in}
 use Rattle.wf_gen.proofs.Children.{has_number, times, times_past, child_from, child_in, children_once, taken_gone, left_once}
 use Rattle.wf_gen.proofs.Choices.{production_fits}

@@ -13,9 +13,10 @@ use Rattle.wf_model.proofs.Lists.{in_append_left, in_map_from}
 use Rattle.wf_model.proofs.Runs.{made-append, AllExtend-append}
 use Rattle.wf_model.proofs.Taking.{nil_gives}
 use Rattle.wf_gen.specs.Draws.{seeded, draw, drawn}
-use Rattle.wf_gen.specs.Turns.{State, Generated, numbered_name, turn_picked, child_count, event_of, next_turn, draws_after, after_turn, after_draws, first_state, turns, generated}
+use Rattle.numbered_names.specs.Names.{numbered_name}
+use Rattle.wf_gen.specs.Turns.{State, Generated, turn_picked, child_count, event_of, next_turn, draws_after, after_turn, after_draws, first_state, turns, generated}
 use Rattle.wf_gen.specs.Laws.{instance_of, IsUnexpanded, IsGeneratedRun, GeneratedRunLaw, IsFull, IsStopped, GeneratedLengthLaw}
-use Rattle.wf_gen.proofs.Numbered.{name_good, name_from, length-names}
+use Rattle.numbered_names.proofs.Numbered.{name_good, name_from, length-names}
 use Rattle.wf_gen.proofs.Coming.{some_pending, no_turn, stopped, went_on}
 use Rattle.wf_gen.proofs.Following.{Follows, with_draws, first_follows, turn_follows}
 

@@ -1,5 +1,4 @@
 pub mod Drawing
-pub mod Numbered
 pub mod Lists
 pub mod Choices
 pub mod Children

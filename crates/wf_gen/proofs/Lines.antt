@@ -5,9 +5,9 @@ use Rattle.std.specs.declared.result.Result.{Result}
 use Rattle.std.specs.List.{join_by}
 use Rattle.wf_model.specs.declared.event.Event.TheVariants.{Expand}
 use Rattle.wf_json.specs.Canonical.{text_in_quotes}
-use Rattle.wf_gen.specs.Turns.{numbered_name, numbered_names}
+use Rattle.numbered_names.specs.Names.{numbered_name, numbered_names}
 use Rattle.wf_gen.specs.Lines.{event_line}
-use Rattle.wf_gen.proofs.Numbered.{names-append}
+use Rattle.numbered_names.proofs.Numbered.{names-append}
 
 module _ (text : List ℕ → List ℕ) where
   -- one name more

@@ -6,7 +6,8 @@ use Rattle.wf_model.specs.Faults.{is_nil}
 use Rattle.wf_model.specs.declared.event.Event.{Event}
 use Rattle.wf_model.specs.declared.event.Event.TheVariants.{Expand}
 use Rattle.wf_gen.specs.declared.turn.Drawn.{Drawn as DrawnHeld}
-use Rattle.wf_gen.specs.Turns.{State, numbered_name, numbered_names, child_count, event_of, next_turn, draws_after, after_turn}
+use Rattle.numbered_names.specs.Names.{numbered_name, numbered_names}
+use Rattle.wf_gen.specs.Turns.{State, child_count, event_of, next_turn, draws_after, after_turn}
 use Rattle.wf_gen.specs.Coming.{IsFirst, coming}
 use Rattle.wf_gen.specs.Held.{CanTake, IsNextTurn, IsTurn, IsTurnOrEnd, IsKept, event_drawn, turn_of}
 use Rattle.wf_gen.proofs.Coming.{some_pending, turn_next, turn_kept}

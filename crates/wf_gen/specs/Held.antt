@@ -9,7 +9,8 @@ use Rattle.wf_gen.specs.declared.pending.Pending.{Pending as PendingHeld}
 use Rattle.wf_gen.specs.declared.choice.Turn.{Turn as TurnHeld}
 use Rattle.wf_gen.specs.declared.turn.State.{State as StateHeld}
 use Rattle.wf_gen.specs.declared.turn.Drawn.{Drawn as DrawnHeld}
-use Rattle.wf_gen.specs.Turns.{Pending, Turn, State, numbered_name, numbered_names, child_count, event_of, next_turn, draws_after, after_turn, after_draws}
+use Rattle.numbered_names.specs.Names.{numbered_name, numbered_names}
+use Rattle.wf_gen.specs.Turns.{Pending, Turn, State, child_count, event_of, next_turn, draws_after, after_turn, after_draws}
 use Rattle.wf_gen.specs.Coming.{IsEnd, coming}
 
 -- a pending instance, as the definitions see it

@@ -5,7 +5,8 @@ use Rattle.wf_model.specs.Grammar.{Grammar, IsComposite}
 use Rattle.wf_model.specs.WellFormed.{IsWellFormed}
 use Rattle.wf_model.specs.declared.event.Event.{Event}
 use Rattle.wf_model.specs.Run.{Instance, made, expanded_by, IsAccepted}
-use Rattle.wf_gen.specs.Turns.{Pending, Generated, numbered_name, child_count, turn_picked, generated}
+use Rattle.numbered_names.specs.Names.{numbered_name}
+use Rattle.wf_gen.specs.Turns.{Pending, Generated, child_count, turn_picked, generated}
 
 -- the instance that is pending
 abbrev pub instance_of : Pending → Instance

@@ -1,7 +1,6 @@
 -- Generated runs: which instance a turn expands and by which production, as two draws pick them, and the events of so many turns.
-use Rattle.std.specs.Prelude.{ℕ, zero, suc, ◌+◌, ◌/◌, ◌%◌, Bool, cond, not, ◌||◌, ◌==◌, nat_lt, List, [], ◌∷◌, ◌++◌, map, length, get_or, swap_remove, Option, Some, None, codes, decimal}
+use Rattle.std.specs.Prelude.{ℕ, zero, suc, ◌+◌, ◌/◌, ◌%◌, Bool, cond, not, ◌||◌, ◌==◌, nat_lt, List, [], ◌∷◌, ◌++◌, length, get_or, swap_remove, Option, Some, None}
 use Rattle.rand_pcg.specs.Lcg.{Lcg}
-use Rattle.wf_model.specs.Lists.{numbers_from}
 use Rattle.wf_model.specs.Grammar.{Grammar, body_of}
 use Rattle.wf_model.specs.Composite.{is_composite}
 use Rattle.wf_model.specs.Faults.{is_nil}
@@ -10,6 +9,7 @@ use Rattle.wf_model.specs.declared.event.Event.{Event}
 use Rattle.wf_model.specs.declared.event.Event.TheVariants.{Start, Expand}
 use Rattle.wf_spec.specs.Tables.{productions_of}
 use Rattle.label_model.specs.Continuing.{continuing}
+use Rattle.numbered_names.specs.Names.{numbered_name, numbered_names}
 use Rattle.wf_gen.specs.Draws.{seeded, draw, drawn}
 
 -- a pending instance is one of a composite module that is not expanded: its number in the order of making, and its module
@@ -22,14 +22,6 @@ pub record State : Type 0 where
   pub made : ℕ
   pub pending : List Pending
   pub draws : Lcg
-
--- the name of the instance of a number: `n` and its decimal digits
-abbrev pub numbered_name : ℕ → List ℕ
-numbered_name k = codes "n" ++ decimal k
-
--- the names of n instances, from number k on
-abbrev pub numbered_names : ℕ → ℕ → List (List ℕ)
-numbered_names k n = map numbered_name (numbers_from k n)
 
 -- of instances with these modules, numbered from k on, those of composite modules
 abbrev pub pending_from : Grammar → ℕ → List ℕ → List Pending

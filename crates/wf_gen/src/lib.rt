@@ -4,7 +4,6 @@
 mod choice;
 mod generator;
 mod law;
-mod names;
 mod next;
 mod pending;
 mod text;

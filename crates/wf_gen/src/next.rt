@@ -1,14 +1,15 @@
 // What comes next of a generated run: an event with its names, or its line.
 ghost use Rattle.std.specs.Prelude.{◌≡◌, ◌<◌, ◌++◌, [], IfOk, OnOk, OnErr};
 ghost use Rattle.wf_model.specs.declared.event.Event.TheVariants.{Start};
-ghost use Rattle.wf_gen.specs.Turns.{numbered_name, after_turn, first_state};
+ghost use Rattle.numbered_names.specs.Names.{numbered_name};
+ghost use Rattle.wf_gen.specs.Turns.{after_turn, first_state};
 ghost use Rattle.wf_gen.specs.Coming.{IsNext, IsNextLine, coming};
 ghost use Rattle.wf_gen.specs.Held.{CanTake, IsKept, IsTurnOrEnd, event_drawn, state_of, turn_of};
 ghost use Rattle.wf_gen.specs.Lines.{event_line};
 
-use crate::names::{expand_event, start_event};
 use crate::text::{append_expand, append_start};
 use crate::turn::{Drawn, State, draw_turn, start, take_turn};
+use numbered_names::{expand_event, start_event};
 use std::alloc::{AllocError, Global};
 use wf_recur::Linear;
 use wf_spec::{Event, Grammar};
@@ -68,7 +69,13 @@ pub(crate) fn next_event(
     let Some(drawn) = coming_turn(g, most, left, state)? else {
         return Ok(None);
     };
-    let event = expand_event(alloc, drawn.turn, state.made, drawn.count)?;
+    let event = expand_event(
+        alloc,
+        drawn.turn.instance.number,
+        drawn.turn.production,
+        state.made,
+        drawn.count,
+    )?;
     take_turn(g.grammar, state, drawn)?;
     *left -= 1;
     Ok(Some(event))

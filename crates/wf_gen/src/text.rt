@@ -3,7 +3,7 @@ ghost use Rattle.std.specs.Prelude.{◌≡◌, ◌<◌, ◌≤◌, ◌+◌, ◌^
 ghost use Rattle.std.specs.List.{join_by};
 ghost use Rattle.wf_model.specs.declared.event.Event.TheVariants.{Start, Expand};
 ghost use Rattle.wf_json.specs.Canonical.{text_in_quotes};
-ghost use Rattle.wf_gen.specs.Turns.{numbered_name, numbered_names};
+ghost use Rattle.numbered_names.specs.Names.{numbered_name, numbered_names};
 ghost use Rattle.wf_gen.specs.Lines.{event_line};
 
 use crate::choice::Turn;

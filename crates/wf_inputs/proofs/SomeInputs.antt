@@ -40,10 +40,11 @@ use Rattle.wf_check.specs.FaultText.{check_text}
 use Rattle.wf_recur.specs.FaultText.{recur_text}
 use Rattle.wf_version.specs.FaultText.{version_text}
 use Rattle.wf_safe.specs.WitnessText.{unsafe_text}
+use Rattle.wf_stage.specs.Kinds.{Kind}
 use Rattle.wf_stage.specs.Stages.{Stage, OfWhole}
 use Rattle.wf_stage.specs.Outcomes.{HasOutcome}
 use Rattle.wf_stage.proofs.SomeStages.{some_stage}
-use Rattle.wf_inputs.specs.Inputs.{spec_kind, view_kind, labels_kind, SpecStage, ViewStage}
+use Rattle.wf_inputs.specs.Inputs.{spec_kind, view_kind, labels_kind, SpecStage, ViewFileStage, ViewStage}
 use Rattle.wf_json.specs.FaultText.{shape_text}
 use Rattle.wf_form.specs.FaultText.{form_text}
 use Rattle.wf_view.specs.FaultText.{view_text}
@@ -144,10 +145,14 @@ as_whole Tells Refuses bytes (inr f) = inr (None, f.0, (refl, f.1))
 pub some_spec_stage : (spec : File) (Next : HeldGrammar → End → List ℕ → Type 0) → ((h : HeldGrammar) → TellsGrammar spec.bytes h → HasOutcome (Next h)) → HasOutcome (SpecStage spec Next)
 some_spec_stage spec Next next = some_stage spec_kind [] spec TellsGrammar (OfWhole RefusesSpec) Next (as_whole (TellsGrammar spec.bytes) RefusesSpec spec.bytes (spec_or_refusal spec.bytes)) next
 
+-- so has that of a view in a file of a kind
+pub some_view_file_stage : (kind : Kind) (bytes : List ℕ) (h : HeldGrammar) → TellsGrammar bytes h → (view : File) (Next : View → End → List ℕ → Type 0) → ((u : View) → TellsView h.core view.bytes u → HasOutcome (Next u)) → HasOutcome (ViewFileStage kind h.core view Next)
+some_view_file_stage kind bytes h told view Next next =
+    some_stage kind [] view (TellsView h.core) (OfWhole (RefusesView h.core)) Next (as_whole (TellsView h.core view.bytes) (RefusesView h.core) view.bytes (view_or_refusal h.core (told_formed bytes h told) (told_proper bytes h told) view.bytes)) next
+
 -- so has that of VIEW
 pub some_view_stage : (bytes : List ℕ) (h : HeldGrammar) → TellsGrammar bytes h → (view : File) (Next : View → End → List ℕ → Type 0) → ((u : View) → TellsView h.core view.bytes u → HasOutcome (Next u)) → HasOutcome (ViewStage h.core view Next)
-some_view_stage bytes h told view Next next =
-    some_stage view_kind [] view (TellsView h.core) (OfWhole (RefusesView h.core)) Next (as_whole (TellsView h.core view.bytes) (RefusesView h.core) view.bytes (view_or_refusal h.core (told_formed bytes h told) (told_proper bytes h told) view.bytes)) next
+some_view_stage bytes h told view Next next = some_view_file_stage view_kind bytes h told view Next next
 
 -- and that of LABELS
 pub some_labels_stage : (h : HeldGrammar) (labels : File) (Next : List Entry → End → List ℕ → Type 0) → ((entries : List Entry) → TellsEntries h labels.bytes entries → HasOutcome (Next entries)) → HasOutcome (Stage labels_kind [] labels (TellsEntries h) (OfWhole (RefusesLabels h)) Next)

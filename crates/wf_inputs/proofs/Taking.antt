@@ -9,12 +9,13 @@ use Rattle.wf_io.specs.Lines.{lines_in}
 use Rattle.wf_spec.specs.Held.{HeldGrammar}
 use Rattle.label_model.specs.Files.{Entry}
 use Rattle.wf_message.specs.Endings.{End}
+use Rattle.wf_stage.specs.Kinds.{Kind}
 use Rattle.wf_stage.specs.Stages.{Stage, OfWhole}
 use Rattle.wf_stage.specs.Promises.{HasRead, HasStopped, HasReadLines, HasStoppedLines, Obeys}
 use Rattle.wf_stage.specs.Causes.{IsCause}
 use Rattle.wf_stage.proofs.Ends.{begins_nothing, nothing_put}
 use Rattle.wf_stage.proofs.Obeying.{cause_of_reading, never_writes, none_read, obeys_stop, obeys_on}
-use Rattle.wf_inputs.specs.Inputs.{spec_kind, view_kind, labels_kind, instance_most, SpecStage, ViewStage}
+use Rattle.wf_inputs.specs.Inputs.{spec_kind, view_kind, labels_kind, instance_most, SpecStage, ViewFileStage, ViewStage}
 use Rattle.wf_inputs.specs.Specification.{TellsGrammar, RefusesSpec}
 use Rattle.wf_inputs.specs.ViewTold.{TellsView, RefusesView}
 use Rattle.wf_inputs.specs.RunTold.{TellsEvents, StopsEvents, EventsStage, stops, goes_on}
@@ -36,14 +37,23 @@ module _ {S T : Type 0} {files : S → Option (List ℕ → File)} {readings : S
     spec_goes = obeys_on [] Next one_grammar (λ b h line fault told r. no_refusal b fault h told r.1)
 
   module _ (g : Grammar) where
+    module _ (kind : Kind) (Next : (List ℕ → File) → View → End → List ℕ → Type 0) where
+      -- a view in a file of a kind ends the command
+      pub view_file_stops : (s t : S) (o : T) (e : End) → HasStopped files readings faults last kind name (OfWhole (RefusesView g)) s t e → Obeys files readings faults last bytes counts out_last (name ∷ names) [] (λ f. ViewFileStage kind g (f name) (Next f)) s t o o e
+      view_file_stops = obeys_stop [] Next (λ f a. begins_nothing (Next f a))
+
+      -- it is taken on
+      pub view_file_goes : (s t u : S) (o p : T) (e : End) (v : View) → HasRead files readings faults kind name (TellsView g) s t v → Obeys files readings faults last bytes counts out_last names [] (λ f. Next f v) t u o p e → Obeys files readings faults last bytes counts out_last (name ∷ names) [] (λ f. ViewFileStage kind g (f name) (Next f)) s u o p e
+      view_file_goes = obeys_on [] Next (one_view g) (λ b v line fault told r. no_refusal_of_view g b fault v told r.1)
+
     module _ (Next : (List ℕ → File) → View → End → List ℕ → Type 0) where
       -- VIEW ends the command
       pub view_stops : (s t : S) (o : T) (e : End) → HasStopped files readings faults last view_kind name (OfWhole (RefusesView g)) s t e → Obeys files readings faults last bytes counts out_last (name ∷ names) [] (λ f. ViewStage g (f name) (Next f)) s t o o e
-      view_stops = obeys_stop [] Next (λ f a. begins_nothing (Next f a))
+      view_stops = view_file_stops view_kind Next
 
       -- the view of VIEW is taken on
       pub view_goes : (s t u : S) (o p : T) (e : End) (v : View) → HasRead files readings faults view_kind name (TellsView g) s t v → Obeys files readings faults last bytes counts out_last names [] (λ f. Next f v) t u o p e → Obeys files readings faults last bytes counts out_last (name ∷ names) [] (λ f. ViewStage g (f name) (Next f)) s u o p e
-      view_goes = obeys_on [] Next (one_view g) (λ b v line fault told r. no_refusal_of_view g b fault v told r.1)
+      view_goes = view_file_goes view_kind Next
 
     module _ (Next : (List ℕ → File) → List Event → End → List ℕ → Type 0) where
       -- EVENTS ends the command

@@ -1,6 +1,5 @@
 -- How the steps of reading a view make what its bytes tell.
 use Rattle.std.proofs.Common.{◌≡◌, ◌⊎◌, ℕ, List, None, refl, sym, subst, inl, inr, ⊎_elim}
-use Rattle.std.specs.Prelude.{codes}
 use Rattle.wf_model.specs.declared.parts.ViewParts.{ViewParts}
 use Rattle.wf_model.specs.Grammar.{Grammar}
 use Rattle.wf_model.specs.View.{View}
@@ -21,17 +20,18 @@ use Rattle.wf_inputs.specs.ViewTold.{IsViewText, TellsView, RefusesUnsafe, Refus
 use Rattle.wf_stage.specs.Stages.{OfWhole, Declines}
 use Rattle.wf_stage.proofs.Stages.{fault_declines}
 
--- a fault of parts, or want of memory
-pub view_parts_decline : (g : Grammar) (parts : ViewParts) (f : ViewFault) (e : End) → (f ≡ NoMemoryOfView) ⊎ IsFaultOf g parts f → (f ≡ NoMemoryOfView → e ≡ NoMemory) → (f ≡ NoMemoryOfView) ⊎ (e ≡ Refused (codes "view") None (view_text f)) → Declines (codes "view") (OfWhole (RefusesViewParts g) parts) e
-view_parts_decline g parts f e fault = fault_declines (codes "view") (OfWhole (RefusesViewParts g) parts) NoMemoryOfView f None (view_text f) e (⊎_elim (λ m. inl m) (λ h. inr (refl, inl (f, h, refl))) fault)
+module _ (place : List ℕ) where
+  -- a fault of parts, or want of memory
+  pub view_parts_decline : (g : Grammar) (parts : ViewParts) (f : ViewFault) (e : End) → (f ≡ NoMemoryOfView) ⊎ IsFaultOf g parts f → (f ≡ NoMemoryOfView → e ≡ NoMemory) → (f ≡ NoMemoryOfView) ⊎ (e ≡ Refused place None (view_text f)) → Declines place (OfWhole (RefusesViewParts g) parts) e
+  view_parts_decline g parts f e fault = fault_declines place (OfWhole (RefusesViewParts g) parts) NoMemoryOfView f None (view_text f) e (⊎_elim (λ m. inl m) (λ h. inr (refl, inl (f, h, refl))) fault)
 
--- a view that is not safe, whose witness was written, or want of memory
-pub unsafe_declines : (g : Grammar) (u : View) (r : Ranking) (f : SafeFault) (w : Witness) (e : End) → IsRankingOf g r → IsFault g u r f → f ≡ Unsafe w →
-    (e ≡ NoMemory) ⊎ (e ≡ Refused (codes "view") None (unsafe_text g w)) → Declines (codes "view") (OfWhole (RefusesUnsafe g) u) e
-unsafe_declines g u r f w e ranking fault is told =
-    let h : IsFault g u r (Unsafe w) = subst (IsFault g u r) is fault in
-    ⊎_elim (λ m. subst (Declines (codes "view") (OfWhole (RefusesUnsafe g) u)) (sym m) tt)
-    (λ told. subst (Declines (codes "view") (OfWhole (RefusesUnsafe g) u)) (sym told) (refl, (refl, (h.0, (r, w, ranking, h.1, refl))))) told
+  -- a view that is not safe, whose witness was written, or want of memory
+  pub unsafe_declines : (g : Grammar) (u : View) (r : Ranking) (f : SafeFault) (w : Witness) (e : End) → IsRankingOf g r → IsFault g u r f → f ≡ Unsafe w →
+      (e ≡ NoMemory) ⊎ (e ≡ Refused place None (unsafe_text g w)) → Declines place (OfWhole (RefusesUnsafe g) u) e
+  unsafe_declines g u r f w e ranking fault is told =
+      let h : IsFault g u r (Unsafe w) = subst (IsFault g u r) is fault in
+      ⊎_elim (λ m. subst (Declines place (OfWhole (RefusesUnsafe g) u)) (sym m) tt)
+      (λ told. subst (Declines place (OfWhole (RefusesUnsafe g) u)) (sym told) (refl, (refl, (h.0, (r, w, ranking, h.1, refl))))) told
 
 module _ (g : Grammar) (bytes : List ℕ) (parts : ViewParts) (read : IsViewText bytes parts) where
   -- the refusal of parts is one of the bytes that say them

@@ -7,6 +7,7 @@ use Rattle.wf_spec.specs.Held.{HeldGrammar}
 use Rattle.wf_io.specs.Told.{File}
 use Rattle.wf_io.specs.Lines.{lines_in}
 use Rattle.label_model.specs.Files.{Entry}
+use Rattle.wf_stage.specs.Kinds.{Kind}
 use Rattle.wf_stage.specs.Stages.{IsTold}
 use Rattle.wf_inputs.specs.Inputs.{spec_kind, view_kind, labels_kind, instance_most}
 use Rattle.wf_inputs.specs.Specification.{TellsGrammar}
@@ -18,9 +19,13 @@ use Rattle.wf_inputs.specs.LabelsTold.{TellsEntries}
 abbrev pub HasGrammar : File → HeldGrammar → Type 0
 HasGrammar spec h = IsTold spec_kind spec TellsGrammar h
 
--- VIEW is whole and not too long, and tells this view of a grammar, which is safe
+-- a file of a kind is whole and not too long, and tells this view of a grammar, which is safe
+abbrev pub HasViewOf : Kind → Grammar → File → View → Type 0
+HasViewOf kind g view u = IsTold kind view (TellsView g) u
+
+-- so is VIEW
 abbrev pub HasView : Grammar → File → View → Type 0
-HasView g view u = IsTold view_kind view (TellsView g) u
+HasView g view u = HasViewOf view_kind g view u
 
 -- SPEC and VIEW tell a grammar and a safe view of it
 abbrev pub HaveView : File → File → HeldGrammar → Type 0

@@ -18,6 +18,10 @@ spec_kind = record { word = codes "spec"; most = 16777216; long_fault = codes "T
 abbrev pub view_kind : Kind
 view_kind = record { word = codes "view"; most = 16777216; long_fault = codes "TooLong" }
 
+-- the second, coarser of two views that are compared
+abbrev pub coarse_kind : Kind
+coarse_kind = record { word = codes "coarse"; most = 16777216; long_fault = codes "TooLong" }
+
 -- a label file
 abbrev pub labels_kind : Kind
 labels_kind = record { word = codes "labels"; most = 1073741824; long_fault = codes "TooLong" }
@@ -30,6 +34,10 @@ instance_most = 16777216
 abbrev pub SpecStage : File → (HeldGrammar → End → List ℕ → Type 0) → End → List ℕ → Type 0
 SpecStage spec = Stage spec_kind [] spec TellsGrammar (OfWhole RefusesSpec)
 
--- VIEW of a grammar, as every command takes it
+-- a view of a grammar in a file of a kind, as every command takes it
+abbrev pub ViewFileStage : Kind → Grammar → File → (View → End → List ℕ → Type 0) → End → List ℕ → Type 0
+ViewFileStage kind g view = Stage kind [] view (TellsView g) (OfWhole (RefusesView g))
+
+-- VIEW of a grammar
 abbrev pub ViewStage : Grammar → File → (View → End → List ℕ → Type 0) → End → List ℕ → Type 0
-ViewStage g view = Stage view_kind [] view (TellsView g) (OfWhole (RefusesView g))
+ViewStage g view = ViewFileStage view_kind g view

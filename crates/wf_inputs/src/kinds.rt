@@ -14,6 +14,13 @@ pub const VIEW: FileKind = FileKind {
     too_long: b"TooLong",
 };
 
+/// The second, coarser of two views that are compared.
+pub const COARSE: FileKind = FileKind {
+    place: Place { word: b"coarse" },
+    most: 16777216,
+    too_long: b"TooLong",
+};
+
 /// A file of events, which is taken line by line.
 pub const EVENTS: Place = Place { word: b"events" };
 

@@ -11,15 +11,6 @@ use Rattle.wf_flat.specs.declared.item.Item.{Item as ItemHeld}
 use Rattle.wf_flat.specs.Table.{IsTableOf, instance_of, no_instance}
 use Rattle.wf_flat.specs.Graph.{inst_at}
 use Rattle.wf_chain.specs.ViewedRuns.{ViewedRunValue, grammar_in, view_in, events_in, item_in, IsItemIn}
-use Rattle.wf_chain.specs.Steps.{Consumes as ConsumesIn}
-use Rattle.wf_reason.specs.Right.{Consumes}
-
--- the two ways to say that an instance consumes an item
-pub consumes_from : (v : ViewedRunValue) (x : Item) (n : Instance) → ConsumesIn v x n → Consumes (grammar_in v) (view_in v) (grammar_in v).start (events_in v) x n
-consumes_from v x n h = record { seen = h.seen; not_open = h.not_open; from = h.from; i = h.i; consumed = h.consumed; entries = h.entries; input_there = h.input_there }
-
-pub consumes_in : (v : ViewedRunValue) (x : Item) (n : Instance) → Consumes (grammar_in v) (view_in v) (grammar_in v).start (events_in v) x n → ConsumesIn v x n
-consumes_in v x n h = record { seen = h.seen; not_open = h.not_open; from = h.from; i = h.i; consumed = h.consumed; entries = h.entries; input_there = h.input_there }
 
 module _ (v : ViewedRunValue) (safe : IsSafeView v.viewed) (run : IsTableOf (grammar_in v) v.run) where
   -- an item with the name of a held one is the held one

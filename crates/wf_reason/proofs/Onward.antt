@@ -10,11 +10,11 @@ use Rattle.wf_model.specs.Run.{Instance, IsRun}
 use Rattle.wf_model.specs.Links.{Port, input}
 use Rattle.wf_model.specs.Items.{Item, items, IsVisible}
 use Rattle.wf_model.proofs.ItemNames.{item_of_name}
-use Rattle.chain_model.specs.Chains.{IsEntry, LeadsThrough, ChainStep, IsStepFrom, StepsLead}
+use Rattle.chain_model.specs.Chains.{IsEntry, LeadsThrough, ChainStep, IsStepFrom, StepsLead, Consumes}
 use Rattle.chain_model.proofs.OneInstance.{one_end, entry_once, no_entry, one_seen}
 use Rattle.wf_reason.specs.declared.turn.Turn.TheVariants.{Item as ItemTurn, Instance as ViaTurn}
 use Rattle.wf_reason.specs.ChainLines.{ChainLine, ItemLine, ViaLine, next_turn, turn_behind, lines_of_step, lines_of}
-use Rattle.wf_reason.specs.Right.{Consumes, LeadToItem, LeadToInstance, AreRight, none, to_item, to_instance, AreOfChain}
+use Rattle.wf_reason.specs.Right.{LeadToItem, LeadToInstance, AreRight, none, to_item, to_instance, AreOfChain}
 use Rattle.wf_reason.proofs.LineLists.{HasLast, empty, last, has_last, last_same, not_empty, turn_further, turn_of_lines, via_not_item, lines_further, steps_further, steps_before}
 
 pub same_item : (a b : List ℕ) → ◌≡◌ {A = ChainLine} (ItemLine a) (ItemLine b) → a ≡ b

@@ -13,10 +13,10 @@ use Rattle.wf_model.specs.Run.{Instance, IsRun, seen_in}
 use Rattle.wf_model.specs.Links.{Port, input}
 use Rattle.wf_model.specs.Items.{Item, items, IsVisible}
 use Rattle.wf_model.proofs.Deciding.{Either, either_same, either_both, either_not, bytes_either, some_below, some_in}
-use Rattle.chain_model.specs.Chains.{entries_in, IsEntry, IsStepFrom}
+use Rattle.chain_model.specs.Chains.{entries_in, IsEntry, IsStepFrom, Consumes}
 use Rattle.chain_model.proofs.ChainTests.{open_either, walk_open_either, visible_either, through_either}
 use Rattle.wf_reason.specs.ChainLines.{ChainLine, ItemLine, ViaLine}
-use Rattle.wf_reason.specs.Right.{Consumes, LeadToItem, LeadToInstance, AreRight, none, to_item, to_instance, IsRightUpTo}
+use Rattle.wf_reason.specs.Right.{LeadToItem, LeadToInstance, AreRight, none, to_item, to_instance, IsRightUpTo}
 use Rattle.wf_reason.proofs.Onward.{first_leads, instance_leads, step_leads, first_right, instance_right, step_right, right_before}
 
 item_line_either : (l : ChainLine) (name : List ℕ) → Either (l ≡ ItemLine name)

@@ -10,18 +10,17 @@ use Rattle.wf_flat.specs.Graph.{inst_at}
 use Rattle.wf_safe.specs.SafeViews.{IsSafeView}
 use Rattle.wf_chain.specs.ViewedRuns.{ViewedRunValue, grammar_in, view_in, full_in, events_in, item_in, IsVisibleIn}
 use Rattle.wf_chain.specs.Steps.{GoesOn}
-use Rattle.chain_model.specs.Chains.{IsStepFrom}
+use Rattle.chain_model.specs.Chains.{IsStepFrom, Consumes}
 use Rattle.wf_reason.specs.declared.naming.Consumer.{Consumer}
 use Rattle.wf_reason.specs.declared.turn.Turn.{Turn}
 use Rattle.wf_reason.specs.declared.turn.Turn.TheVariants.{Item as ItemTurn, Instance as ViaTurn}
 use Rattle.wf_reason.specs.ChainLines.{ChainLine, ItemLine, ViaLine, next_turn, turn_behind}
 use Rattle.wf_reason.specs.HandedIn.{HandedLine, said}
-use Rattle.wf_reason.specs.Right.{Consumes, LeadToInstance, AreRight, none, to_item, to_instance, AreOfChain}
+use Rattle.wf_reason.specs.Right.{LeadToInstance, AreRight, none, to_item, to_instance, AreOfChain}
 use Rattle.wf_reason.specs.Checked.{IsCheckedText, yes, no, number_behind, last_of, yes_line, no_line}
 use Rattle.wf_reason.specs.Standing.{IsConsumer, LeadTo, LeadInto, AreWrongAt, with_one}
 use Rattle.wf_reason.proofs.Onward.{item_turn, instance_turn, first_leads, step_leads, instance_right, step_right}
 use Rattle.wf_reason.proofs.OneText.{chain_longer, chain_or_one, no_chain_ends, all_right, wrong_behind}
-use Rattle.wf_reason.proofs.Named.{consumes_from}
 
 -- the numbers of lines with one more
 number_same : (last : ℕ) (lines : List HandedLine) (h : HandedLine) (k : ℕ) → k < length lines → number_behind last (lines ++ h ∷ []) k ≡ number_behind last lines k
@@ -95,7 +94,7 @@ module _ (v : ViewedRunValue) where
 
   -- lines that lead into an instance lead to it
   pub into : (lines : List ChainLine) (i : ItemHeld) (c : Consumer) → IsConsumer v i c → LeadInto v lines i c → LeadToInstance (grammar_in v) (view_in v) (full_in v) (grammar_in v).start (events_in v) lines (inst_at v.run.instances c.via)
-  into lines i c consumer h = record { before = h.before; item = item_in v i; lead = h.lead; consumed = consumes_from v (item_in v i) (inst_at v.run.instances c.via) consumer.consumes.consumes; are = h.are }
+  into lines i c consumer h = record { before = h.before; item = item_in v i; lead = h.lead; consumed = consumer.consumes.consumes; are = h.are }
 
   -- behind an instance, an item to which it leads
   pub step_lead : (lines : List HandedLine) (number : ℕ) (i j : ItemHeld) (c : Consumer) (name : List ℕ) → LeadInto v (said lines) i c → GoesOn v i (record { via = c.via; item = j }) → (item_in v j).name ≡ name → LeadTo v (said (with_one lines number (ItemLine name))) j
@@ -138,7 +137,7 @@ module _ (v : ViewedRunValue) where
     not_item lines number i c name consumer h lacks =
         wrong_here lines number (ItemLine name) (to_instance (inst_at v.run.instances c.via) (into (said lines) i c consumer h))
         (λ q. let r = step_right (grammar_in v) (view_in v) (full_in v) (grammar_in v).start (events_in v) safe.accepted.formed run.accepted.0 h.before (item_in v i) (inst_at v.run.instances c.via) (ItemLine name) h.lead
-        (consumes_from v (item_in v i) (inst_at v.run.instances c.via) consumer.consumes.consumes) (subst (λ z. Right (z ++ ItemLine name ∷ [])) h.are q) in
+        consumer.consumes.consumes (subst (λ z. Right (z ++ ItemLine name ∷ [])) h.are q) in
         lacks r.0 r.1 (same name r.0.name r.2))
       where
         same : (a b : List ℕ) → ◌≡◌ {A = ChainLine} (ItemLine a) (ItemLine b) → b ≡ a

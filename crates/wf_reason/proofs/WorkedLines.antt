@@ -7,12 +7,12 @@ use Rattle.wf_model.specs.Items.{Item, items}
 use Rattle.wf_model.proofs.ItemNames.{item_of_name}
 use Rattle.wf_laws.specs.LineGrammar.{line, all_pairs, whole_view, events, r_a, r_b, i1_y}
 use Rattle.wf_laws.proofs.LineGrammar.{line_grammar_is_worked}
-use Rattle.chain_model.specs.Chains.{LeadsThrough}
+use Rattle.chain_model.specs.Chains.{LeadsThrough, Consumes}
 use Rattle.chain_model.specs.Examples.{i1, i2, two_steps}
 use Rattle.chain_model.proofs.OneInstance.{via_law}
 use Rattle.chain_model.proofs.WorkedChains.{chains_are_worked}
 use Rattle.wf_reason.specs.ChainLines.{ChainLine, ItemLine, ViaLine}
-use Rattle.wf_reason.specs.Right.{Consumes, LeadToItem, LeadToInstance, AreRight, none, to_item, to_instance}
+use Rattle.wf_reason.specs.Right.{LeadToItem, LeadToInstance, AreRight, none, to_item, to_instance}
 use Rattle.wf_reason.specs.Checked.{yes, no, no_line}
 use Rattle.wf_reason.specs.Examples.{through_first, LinesAreWorked}
 use Rattle.wf_reason.proofs.Onward.{consumed_through, consumed_once, first_leads, instance_leads, first_right, instance_right, step_right, same_item}

@@ -1,24 +1,13 @@
 -- Which lines of a chain are right in a run under a view.
-use Rattle.std.specs.Prelude.{◌≡◌, ℕ, ◌<◌, ◌≤◌, List, [], ◌∷◌, ◌++◌, length, take, Some}
-use Rattle.wf_model.specs.Lists.{IsIn, Walk}
-use Rattle.wf_model.specs.Grammar.{Grammar, Assignment, inputs_of}
+use Rattle.std.specs.Prelude.{◌≡◌, ℕ, ◌≤◌, List, [], ◌∷◌, ◌++◌, length, take}
+use Rattle.wf_model.specs.Lists.{IsIn}
+use Rattle.wf_model.specs.Grammar.{Grammar, Assignment}
 use Rattle.wf_model.specs.View.{View}
 use Rattle.wf_model.specs.declared.event.Event.{Event}
-use Rattle.wf_model.specs.Run.{Instance, seen_in, IsOpen}
-use Rattle.wf_model.specs.Links.{Port, input}
+use Rattle.wf_model.specs.Run.{Instance}
 use Rattle.wf_model.specs.Items.{Item, items, IsVisible}
-use Rattle.chain_model.specs.Chains.{ChainStep, IsEntry, StepsLead, IsItemChain}
+use Rattle.chain_model.specs.Chains.{ChainStep, Consumes, StepsLead, IsItemChain}
 use Rattle.wf_reason.specs.ChainLines.{ChainLine, ViaLine, lines_of}
-
--- The instance n consumes the item x: n is seen and not open, and entries, maybe none, lead from the port that consumes x to an input of n
-pub record Consumes (g : Grammar) (u : View) (m : ℕ) (events : List Event) (x : Item) (n : Instance) : Type 0 where
-  pub seen : IsIn n (seen_in g u m events)
-  pub not_open : ¬ IsOpen g u m events n
-  pub from : Port (List ℕ)
-  pub i : ℕ
-  pub consumed : x.consumed ≡ Some from
-  pub entries : Walk (IsEntry g u m events) from (input n.name i)
-  pub input_there : i < inputs_of g n.module_no
 
 -- lines are those of a visible item of the run and of steps that lead from it to the item y
 pub record LeadToItem (g : Grammar) (u : View) (d : Assignment) (m : ℕ) (events : List Event) (lines : List ChainLine) (y : Item) : Type 0 where

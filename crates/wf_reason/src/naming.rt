@@ -4,10 +4,9 @@ ghost use Rattle.wf_model.specs.Lists.{IsIn};
 ghost use Rattle.wf_model.specs.Run.{Instance};
 ghost use Rattle.wf_model.specs.Items.{Item as ItemSeen, items, IsVisible};
 ghost use Rattle.wf_flat.specs.Graph.{inst_at};
-ghost use Rattle.chain_model.specs.Chains.{IsStepFrom};
+ghost use Rattle.chain_model.specs.Chains.{IsStepFrom, Consumes};
 ghost use Rattle.wf_chain.specs.ViewedRuns.{grammar_in, view_in, full_in, events_in, item_in, IsVisibleIn};
 ghost use Rattle.wf_chain.specs.Steps.{GoesOn};
-ghost use Rattle.wf_reason.specs.Right.{Consumes};
 ghost use Rattle.wf_reason.specs.Standing.{IsConsumer};
 
 use wf_chain::ViewedRun;

@@ -4,6 +4,7 @@ use Rattle.cmd_describe.specs.Family.{describe_commands}
 use Rattle.cmd_ingest.specs.Family.{ingest_commands}
 use Rattle.cmd_ask.specs.Family.{ask_commands}
 use Rattle.cmd_explain.specs.Family.{explain_commands}
+use Rattle.cmd_share.specs.Family.{share_commands}
 use Rattle.cmd_decide.specs.Family.{decide_commands}
 use Rattle.cmd_make.specs.Family.{make_commands}
 
@@ -14,5 +15,6 @@ families =
     either ingest_commands (
     either ask_commands (
     either explain_commands (
+    either share_commands (
     either decide_commands
-    make_commands))))
+    make_commands)))))

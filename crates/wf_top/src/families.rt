@@ -8,7 +8,10 @@ pub type Families = Either<
         cmd_ingest::Family,
         Either<
             cmd_ask::Family,
-            Either<cmd_explain::Family, Either<cmd_decide::Family, cmd_make::Family>>,
+            Either<
+                cmd_explain::Family,
+                Either<cmd_share::Family, Either<cmd_decide::Family, cmd_make::Family>>,
+            >,
         >,
     >,
 >;

@@ -1,7 +1,7 @@
 use Rattle.std.proofs.Common.{◌≡◌, ◌==◌, false, refl, arith}
 use Rattle.std.proofs.lemmas.Bool.Decides.{nat_tests}
 use Rattle.wf_model.specs.declared.event.Event.TheVariants.{Start}
-use Rattle.wf_gen.specs.Turns.{numbered_name}
+use Rattle.numbered_names.specs.Names.{numbered_name}
 use Rattle.wf_gen.specs.Held.{event_drawn, state_of}
 use Rattle.wf_gen.proofs.Coming.{start_next, start_kept}
 use Rattle.wf_gen.proofs.Taking.{taken_first, taken_kept}

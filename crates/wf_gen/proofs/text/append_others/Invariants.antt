@@ -1,6 +1,6 @@
 use Rattle.std.proofs.Common.{◌≡◌, ◌++◌, codes, flat_map}
 use Rattle.wf_json.specs.Canonical.{text_in_quotes}
-use Rattle.wf_gen.specs.Turns.{numbered_names}
+use Rattle.numbered_names.specs.Names.{numbered_names}
 use Rattle.wf_gen.proofs.text.append_others.Given as goal
 
 abbrev pub invariant-loop-k : goal.invariant-loop-k

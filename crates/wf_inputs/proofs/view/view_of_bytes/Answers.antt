@@ -1,5 +1,4 @@
 use Rattle.std.proofs.Common.{◌≡◌, sym, subst}
-use Rattle.std.specs.Prelude.{codes}
 use Rattle.std.proofs.lemmas.Result.{IfErr-weaker, err_from_is_err_and}
 use Rattle.wf_model.specs.Safe.{IsSafe}
 use Rattle.wf_spec.specs.Held.{HeldGrammar}
@@ -18,14 +17,14 @@ use Rattle.wf_inputs.proofs.view.view_of_bytes.Goals as goal
 pub returns-in_err-parts-clause-declines : goal.returns-in_err-parts-clause-declines
 returns-in_err-parts-clause-declines c =
     let g = c.args.accepted.now.grammar.core in
-    handed_on (codes "view") (OfWhole (RefusesView g) c.args.bytes.now) c.from_residual.result c.in_err-parts.field-0.0 (err_from_is_err_and c.from_residual.result c.from_residual.ensures.1) (c.in_err-parts.ensures.declines g)
+    handed_on c.args.place.word.now (OfWhole (RefusesView g) c.args.bytes.now) c.from_residual.result c.in_err-parts.field-0.0 (err_from_is_err_and c.from_residual.result c.from_residual.ensures.1) (c.in_err-parts.ensures.declines g)
 
 pub returns-in_err-view-clause-declines : goal.returns-in_err-view-clause-declines
 returns-in_err-view-clause-declines c =
     let g = c.args.accepted.now.grammar.core in
-    handed_on (codes "view") (OfWhole (RefusesView g) c.args.bytes.now) c.from_residual-in_err-view.result c.in_err-view.field-0.0 (err_from_is_err_and c.from_residual-in_err-view.result c.from_residual-in_err-view.ensures.1)
-    (declines_by (codes "view") (OfWhole (RefusesViewParts g) c.in_ok-parts.parts) (OfWhole (RefusesView g) c.args.bytes.now) (λ line fault h. (h.0, refuses_by_parts g c.args.bytes.now c.in_ok-parts.parts c.in_ok-parts.ensures.ok fault h.1)) _
-    (subst (λ (h : HeldGrammar). Declines (codes "view") (OfWhole (RefusesViewParts h.core) c.in_ok-parts.parts) (end_of c.in_err-view.field-0.0)) c.grammar.ensures.grammar c.in_err-view.ensures.declines))
+    handed_on c.args.place.word.now (OfWhole (RefusesView g) c.args.bytes.now) c.from_residual-in_err-view.result c.in_err-view.field-0.0 (err_from_is_err_and c.from_residual-in_err-view.result c.from_residual-in_err-view.ensures.1)
+    (declines_by c.args.place.word.now (OfWhole (RefusesViewParts g) c.in_ok-parts.parts) (OfWhole (RefusesView g) c.args.bytes.now) (λ line fault h. (h.0, refuses_by_parts g c.args.bytes.now c.in_ok-parts.parts c.in_ok-parts.ensures.ok fault h.1)) _
+    (subst (λ (h : HeldGrammar). Declines c.args.place.word.now (OfWhole (RefusesViewParts h.core) c.in_ok-parts.parts) (end_of c.in_err-view.field-0.0)) c.grammar.ensures.grammar c.in_err-view.ensures.declines))
 
 pub returns-clause-ok : goal.returns-clause-ok
 returns-clause-ok c =
@@ -41,5 +40,5 @@ returns-clause-declines c =
     let g = c.args.accepted.now.grammar.core in
     let viewed = subst (λ (h : HeldGrammar). (c.in_ok-view.view.core ≡ view_of h.core c.in_ok-parts.parts) × IsViewed h.core c.in_ok-parts.parts) c.grammar.ensures.grammar c.in_ok-view.ensures.ok in
     IfErr-weaker c.safe_view.result _ _
-    (λ e d. declines_by (codes "view") (OfWhole (RefusesUnsafe g) c.in_ok-view.view.core) (OfWhole (RefusesView g) c.args.bytes.now) (λ line fault h. (h.0, refuses_by_view g c.args.bytes.now c.in_ok-parts.parts c.in_ok-parts.ensures.ok c.in_ok-view.view.core viewed fault h.1)) (end_of e) d)
+    (λ e d. declines_by c.args.place.word.now (OfWhole (RefusesUnsafe g) c.in_ok-view.view.core) (OfWhole (RefusesView g) c.args.bytes.now) (λ line fault h. (h.0, refuses_by_view g c.args.bytes.now c.in_ok-parts.parts c.in_ok-parts.ensures.ok c.in_ok-view.view.core viewed fault h.1)) (end_of e) d)
     c.safe_view.ensures.declines

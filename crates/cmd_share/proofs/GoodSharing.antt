@@ -1,0 +1,23 @@
+-- `compare` over good files does all that it is to do.
+use Rattle.std.proofs.Common.{ℕ, List}
+use Rattle.wf_io.specs.Told.{File}
+use Rattle.wf_stage.specs.Outcomes.{EndsInDone}
+use Rattle.wf_inputs.specs.Inputs.{coarse_kind}
+use Rattle.wf_inputs.proofs.GoodFiles.{spec_goes_on, view_goes_on, view_file_goes_on}
+use Rattle.cmd_share.specs.Words.{Command, Compare}
+use Rattle.cmd_share.specs.Told.{ComparesViews}
+use Rattle.cmd_share.specs.Does.{ComparesWith, ComparesIn, Compares, Does}
+use Rattle.cmd_share.specs.Family.{CanCompare, CanShare}
+use Rattle.cmd_share.proofs.OneComparing.{good_views}
+use Rattle.cmd_share.proofs.ToldViews.{told_two}
+
+good_compare : (spec view coarse : File) → CanCompare spec view coarse → EndsInDone (Compares spec view coarse)
+good_compare spec view coarse good e t h =
+    let g = good.grammar.core in
+    good_views g good.fine good.second (told_two spec.bytes good.grammar good.has_grammar.tells view.bytes good.fine good.has_fine.tells coarse.bytes good.second good.has_second.tells) good.coarser e t
+    (view_file_goes_on coarse_kind g coarse good.second good.has_second (ComparesViews g good.fine) e t
+    (view_goes_on g view good.fine good.has_fine (λ u. ComparesWith g u coarse) e t
+    (spec_goes_on spec good.grammar good.has_grammar (λ k. ComparesIn k.core view coarse) e t h)))
+
+pub good_sharing : (files : List ℕ → File) (c : Command) → CanShare files c → EndsInDone (Does files c)
+good_sharing files (Compare s v w) good = good_compare (files s) (files v) (files w) good

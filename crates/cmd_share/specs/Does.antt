@@ -1,0 +1,31 @@
+-- What `compare` does.
+use Rattle.std.specs.Prelude.{ℕ, List}
+use Rattle.wf_model.specs.Grammar.{Grammar}
+use Rattle.wf_model.specs.View.{View}
+use Rattle.wf_io.specs.Told.{File}
+use Rattle.wf_message.specs.Endings.{End}
+use Rattle.wf_inputs.specs.Inputs.{coarse_kind, SpecStage, ViewFileStage, ViewStage}
+use Rattle.cmd_share.specs.declared.command.Command.{Command as CommandHeld}
+use Rattle.cmd_share.specs.declared.command.Command.TheVariants.{Compare as CompareHeld}
+use Rattle.cmd_share.specs.Words.{Command, Compare}
+use Rattle.cmd_share.specs.Told.{ComparesViews}
+
+-- the second view of a grammar beside the first
+abbrev pub ComparesWith : Grammar → View → File → End → List ℕ → Type 0
+ComparesWith g u coarse = ViewFileStage coarse_kind g coarse (ComparesViews g u)
+
+-- two views of a grammar
+abbrev pub ComparesIn : Grammar → File → File → End → List ℕ → Type 0
+ComparesIn g view coarse = ViewStage g view (λ u. ComparesWith g u coarse)
+
+-- `compare` over SPEC and two views
+abbrev pub Compares : File → File → File → End → List ℕ → Type 0
+Compares spec view coarse = SpecStage spec (λ h. ComparesIn h.core view coarse)
+
+-- the command that a value is
+abbrev pub meant : CommandHeld → Command
+meant (CompareHeld w) = Compare w.spec.now w.view.now w.coarse.now
+
+-- what a command does over files
+abbrev pub Does : (List ℕ → File) → Command → End → List ℕ → Type 0
+Does files (Compare s v w) = Compares (files s) (files v) (files w)

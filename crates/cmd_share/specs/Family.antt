@@ -1,0 +1,35 @@
+-- `compare` as a family of commands.
+use Rattle.std.specs.Prelude.{ℕ, List}
+use Rattle.wf_model.specs.View.{View}
+use Rattle.wf_spec.specs.Held.{HeldGrammar}
+use Rattle.wf_io.specs.Told.{File}
+use Rattle.compare_model.specs.Coarser.{IsCoarser}
+use Rattle.wf_stage.specs.Families.{Family}
+use Rattle.wf_inputs.specs.Inputs.{coarse_kind}
+use Rattle.wf_inputs.specs.GoodFiles.{HasGrammar, HasView, HasViewOf}
+use Rattle.cmd_share.specs.Words.{Command, Compare, command_of, files_of}
+use Rattle.cmd_share.specs.Does.{Does}
+
+-- SPEC is accepted, and the two views are well-formed and safe, and the second is coarser than the first, or as coarse
+pub record CanCompare (spec view coarse : File) : Type 0 where
+  pub grammar : HeldGrammar
+  pub has_grammar : HasGrammar spec grammar
+  pub fine : View
+  pub has_fine : HasView grammar.core view fine
+  pub second : View
+  pub has_second : HasViewOf coarse_kind grammar.core coarse second
+  pub coarser : IsCoarser second fine
+
+-- the files of a command are good
+abbrev pub CanShare : (List ℕ → File) → Command → Type 0
+CanShare files (Compare s v w) = CanCompare (files s) (files v) (files w)
+
+abbrev pub share_commands : Family
+share_commands = record {
+  Command = Command;
+  command_of = command_of;
+  files_of = files_of;
+  Does = Does;
+  IsGood = CanShare;
+  PutsNothingWanting = λ c. ⊥;
+}

@@ -1,0 +1,10 @@
+pub mod Coarser
+pub mod Pairs
+pub mod RunAlong
+pub mod Routes
+pub mod Comparison
+pub mod Laws
+pub mod RunLaws
+pub mod RouteLaws
+pub mod OutcomeLaws
+pub mod Examples

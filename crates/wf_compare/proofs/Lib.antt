@@ -1,0 +1,13 @@
+mod Heads
+mod Ordered
+mod Leadings
+mod StepRoutes
+mod FirstSteps
+mod MoreBits
+mod RunSteps
+mod StepLists
+mod CoarserViews
+mod BorderPairs
+mod OpenRows
+mod RouteTold
+mod SameGrammar

@@ -1,6 +1,0 @@
-use Rattle.std.proofs.Common.{◌≡◌}
-use Rattle.wf_gen.specs.Turns.{numbered_names}
-use Rattle.wf_gen.proofs.names.numbered_names.Given as goal
-
-abbrev pub invariant-loop-k : goal.invariant-loop-k
-invariant-loop-k l = l.names.items ≡ numbered_names l.first l.k
