@@ -1,12 +1,14 @@
 #!/usr/bin/env python3
 """Compares what tools/runs.py answers of random sets of runs with a plain search over the joined graph of what `wfprov export` writes of them.
 
-  python3 checks/across.py PROGRAM SETS SEED [ANSWERING]
+  python3 checks/across.py PROGRAM SETS SEED [ANSWERING ..]
   python3 checks/across.py PROGRAM make FOLDER          writes the runs of standard input, each into a folder of FOLDER, with its label file
 
 Runs of the examples are made up by `gen`, labelled and exported under their views. A set takes some of them and gives each a random table:
 files of one item or two, made or from outside, with checksums of which other runs have some, of several kinds, or none. All pairs of its
-files are asked, and the lists of some are compared with these answers. ANSWERING is a program that answers in the place of PROGRAM.
+files are asked, and the lists of some are compared with these answers. It prints how often each answer came, or the first that differs, and
+ends with 1 then. Each program ANSWERING answers in the place of PROGRAM in the first sets of seed 1: for each there is a line with its name
+and what differs, or nothing.
 
 The joined graph has the ports of all runs and the files. A search in it knows nothing of labels, rows or rounds.
 
@@ -37,6 +39,8 @@ SOURCES = [
     ("pair", "first"), ("pair", None), ("phylogeny-once", "view"), ("mapping-cwl", None), ("skewed", "outer"),
 ]
 EACH = 2
+# In how many sets another program answers.
+TURNED = 2
 # What stands in paths that a page, a picture, a shell, a table or a terminal would read otherwise.
 ODD = ["", "", "", " ", "<b>&amp;\"'", "$(x)`y`;|*?", "\t", "\n\r", "\\t\\", "\x1b[31m", "\u202e", "%2F", "{}->[]", "a:b", "\v\x85\u2028"]
 WORDS = ("yes", "hidden", "unknown")
@@ -287,25 +291,34 @@ class Set:
             raise AssertionError(f"{kind} of `{self.name(place)}` is {told}, and {lines} is wanted")
 
 
+def difference(pool, answering, numbers, counts):
+    """Returns what first differs where a program answers, in the sets of these numbers, or nothing."""
+    os.environ["WFPROV"] = os.path.abspath(answering)
+    for number in numbers:
+        draw = random.Random(number)
+        with tempfile.TemporaryDirectory() as own:
+            try:
+                Set(draw, pool, own).compare(draw, counts)
+            except (AssertionError, terminal.Wrong) as error:
+                return f"seed {number}: {error}"
+    return ""
+
+
 def main(words):
     if words[1] == "make":
         return make(words[0], words[2])
-    program, sets, seed = os.path.abspath(words[0]), int(words[1]), int(words[2])
-    os.environ["WFPROV"] = os.path.abspath(words[3]) if len(words) > 3 else program
+    program, first, others = os.path.abspath(words[0]), int(words[2]), words[3:]
+    # Whether files are on the disk is no matter of what is asked here, and to wait for it takes long.
+    keeping.sync = keeping.sync_folder = lambda _: None
     counts = collections.Counter()
     with tempfile.TemporaryDirectory() as folder:
         jobs = [(program, folder, source, number) for number, source in enumerate(SOURCES * EACH)]
         pool = side_by_side(lambda job: Made(*job), jobs)
-        for number in range(seed, seed + sets):
-            draw = random.Random(number)
-            with tempfile.TemporaryDirectory() as own:
-                try:
-                    Set(draw, pool, own).compare(draw, counts)
-                except (AssertionError, terminal.Wrong) as error:
-                    print(f"seed {number}: {error}")
-                    return 1
-    print("  " + ", ".join(f"{counts[name]} {name}" for name in sorted(counts)))
-    return 0
+        differs = difference(pool, program, range(first, first + int(words[1])), counts)
+        print(differs or "  " + ", ".join(f"{counts[name]} {name}" for name in sorted(counts)))
+        for other in others:
+            print(f"{os.path.basename(other)}: {difference(pool, other, range(1, 1 + TURNED), collections.Counter())}")
+    return int(bool(differs))
 
 
 if __name__ == "__main__":

@@ -66,7 +66,18 @@ o
 97=o.txt e=flag
 RUNS
 
-runs() { python3 tools/runs.py "$@"; }
+# Each call of tools/runs.py is done by a process that is kept, but for those that need one of their own.
+mkfifo "$work/calls" "$work/ended"
+python3 checks/served.py tools/runs.py "$work/calls" "$work/ended" &
+exec 9<>"$work/calls" 8<>"$work/ended"
+runs() {
+    local ended
+    {
+        printf '%s\0' "$#" "$BASHPID" "$WFPROV" "$@" >&9
+        read -r -t 600 ended <&8 || ended=99
+    } 6>&1 7>&2
+    return "$ended"
+}
 # Adds runs to a folder of runs.
 adds() {
     local store=$work/$1 name
@@ -259,7 +270,7 @@ check "a folder of other files is not asked" complains "$work/runs: it is no fol
 check "a folder that is not there is told" complains "$work/absent: No such file or directory" list "$work/absent"
 check "other words are refused" complains 'call: the words are add, list, check, ask, impact or lineage with FOLDER and more; see --help' ask --once "$work/lab" s1.fq s2.fq
 takes_pipes() {
-    runs add "$work/pipes" a <(cat "$a/spec") - <(cat "$a/labels") <(cat "$a/table") <(cat "$a/events") && [ "$(runs check "$work/pipes")" = "a	ok" ]
+    python3 tools/runs.py add "$work/pipes" a <(cat "$a/spec") - <(cat "$a/labels") <(cat "$a/table") <(cat "$a/events") && [ "$(runs check "$work/pipes")" = "a	ok" ]
 }
 check "pipes may stand for all files" takes_pipes
 sums() { (cd "$work/lab/a" && sha256sum -c --quiet digests); }
@@ -268,7 +279,7 @@ full() {
     local before ended=0
     head -c 300000 /dev/zero | tr '\0' ' ' | cat "$a/spec" - >"$work/long"
     before=$(state_of lab)
-    (ulimit -f 100 && runs add "$work/lab" new "$work/long" - "$a/labels" "$a/table" >"$work/out" 2>"$work/err") || ended=$?
+    (ulimit -f 100 && python3 tools/runs.py add "$work/lab" new "$work/long" - "$a/labels" "$a/table" >"$work/out" 2>"$work/err") || ended=$?
     [ "$ended" = 2 ] && [ "$(cat "$work/err")" = "runs.py: $work/lab: File too large" ] && [ "$(state_of lab)" = "$before" ]
 }
 check "where there is no room nothing is added" full
@@ -395,17 +406,24 @@ check "what is no answer is told" \
 check "a program that is not there is told" with "$work/absent" complains "$work/absent: No such file or directory" ask "$work/lab" y.txt z.txt
 check "a run on which it dies is found" with "$work/dies" finds 'c	wfprov: ended by signal 9'
 
-# Random sets of runs.
-compared() { python3 checks/across.py "$program" "$@"; }
-check "${1:-100} random sets of runs answer as a search in the joined graph does" compared "${1:-100}" "${2:-1}"
-# Whether answers that were turned are found.
-turned() {
-    printf '#!/bin/sh\n%s "$@" | sed "s/^%s$/%s/"\n' "$program" "$1" "$2" >"$work/turns"
-    chmod 755 "$work/turns"
-    ! compared 2 1 "$work/turns" >"$work/out" 2>&1 && grep -q '^seed 1: .* is wanted$' "$work/out"
+# Random sets of runs, and programs that turn answers.
+turning() {
+    printf '#!/bin/sh\n%s "$@" | sed "s/^%s$/%s/"\n' "$program" "$1" "$2" >"$work/$1_to_$2"
+    chmod 755 "$work/$1_to_$2"
 }
-check "a yes that is turned to no is found" turned yes no
-check "a no that is turned to yes is found" turned no yes
-check "what is hidden and is told as no is found" turned hidden no
+turning yes no
+turning no yes
+turning hidden no
+compared() {
+    local ended=0
+    python3 checks/across.py "$program" "$@" "$work"/{yes_to_no,no_to_yes,hidden_to_no} >"$work/compared" || ended=$?
+    head -n 1 "$work/compared"
+    return "$ended"
+}
+check "${1:-100} random sets of runs answer as a search in the joined graph does" compared "${1:-100}" "${2:-1}"
+turned() { grep -q "^$1: seed [12]: .* is wanted$" "$work/compared"; }
+check "a yes that is turned to no is found" turned yes_to_no
+check "a no that is turned to yes is found" turned no_to_yes
+check "what is hidden and is told as no is found" turned hidden_to_no
 
 finish

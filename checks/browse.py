@@ -30,6 +30,7 @@ import xml.etree.ElementTree as tree
 TOP = os.path.dirname(os.path.dirname(os.path.abspath(__file__)))
 sys.path[:0] = [os.path.join(TOP, "tools"), os.path.join(TOP, "checks")]
 import chromium
+import results
 from browsing.items import Items
 
 PAIRS, MANY = 50, 1_000_000
@@ -698,30 +699,6 @@ class Clicks(Tested):
         self.assertIn("CORS", said)
 
 
-class Result(unittest.TestResult):
-    """Prints a line for each test."""
-
-    passed = 0
-
-    def addSuccess(self, test):
-        self.passed += 1
-        print(f"ok: {test.shortDescription()}", flush=True)
-
-    def addSkip(self, test, reason):
-        print(f"skipped: {test.shortDescription() or test.id()}: {reason}", flush=True)
-
-    def _tell(self, test, error):
-        print(f"FAILED: {test.shortDescription()}\n{self._exc_info_to_string(error, test)}", flush=True)
-
-    def addError(self, test, error):
-        super().addError(test, error)
-        self._tell(test, error)
-
-    def addFailure(self, test, error):
-        super().addFailure(test, error)
-        self._tell(test, error)
-
-
 def run_parts(program):
     """Runs the parts side by side, and returns how many tests passed and how many failed. A part that ends otherwise has failed."""
     words = [sys.executable, os.path.abspath(__file__), program]
@@ -736,19 +713,9 @@ def run_parts(program):
     return passed, failed
 
 
-def run_tests(words):
-    """Runs the tests of these words, and returns how many passed and how many failed."""
-    result, tests = Result(), unittest.defaultTestLoader
-    tests.testNamePatterns = [f"*{word}*" for word in words]
-    tests.loadTestsFromModule(sys.modules[__name__]).run(result)
-    return result.passed, len(result.errors) + len(result.failures)
-
-
 def main(words):
     os.environ["WFPROV"] = os.path.abspath(words[0])
-    passed, failed = run_tests(words[1:]) if words[1:] else run_parts(words[0])
-    print(f"{passed} passed, {failed} failed")
-    return 1 if failed or not passed else 0
+    return results.finish(*(results.run(__name__, words[1:]) if words[1:] else run_parts(words[0])))
 
 
 if __name__ == "__main__":

@@ -1,10 +1,10 @@
 """A small grammar with a view and a run of it at random, as files in a folder, and what the program shows of it."""
-import collections
+import functools
 import json
-import os
 
 import grammars
 import labels
+import many
 import wfprov
 from shown import Shown
 
@@ -14,27 +14,19 @@ TRIES = 100
 OTHER = "other-"
 
 
-class Case:
+class Case(many.Drawn):
     """The files `spec`, `view`, `events`, `finished` and `labels`: a specification that is accepted; a view that is safe; the reports of a run,
     and of a finishing of it, which may come in any order; and a label file. `items` and `instances` are those of the run, in order of
     making, and `listed` the items of the label file. These may be in any order and not be all of the run, or be more: those of another run."""
 
     def __init__(self, program, draw, folder):
-        self.program, self.draw, self.folder, self.counts = program, draw, folder, collections.Counter()
+        super().__init__(program, draw, folder)
         self.spec, self.soonest, self.seen = self.draw_grammar()
         events = self.draw_events()
         self.instances = [name for event in events for name in event.get("names", [event.get("start")])]
         self.write_events("events", events)
         self.write_events("finished", self.finishing(events))
         self.items, self.listed = self.draw_labels()
-        self.shown, self.finished = self.shown_of("events"), self.shown_of("finished")
-
-    def path(self, name):
-        return os.path.join(self.folder, name)
-
-    def write(self, name, data):
-        with open(self.path(name), "wb") as file:
-            file.write(data if isinstance(data, bytes) else data.encode())
 
     def draw_grammar(self):
         """Leaves a specification and a view. Returns the specification, the production by which each composite module ends soonest, and what the
@@ -97,6 +89,14 @@ class Case:
             listed = grammars.shuffled(self.draw, entries + others)
         self.write("labels", b"".join(labels.file_of("".join(f"{line}\n" for line in [head, *listed]))))
         return tuple([line.split(" ")[0] for line in lines] for lines in (entries, listed))
+
+    @functools.cached_property
+    def shown(self):
+        return self.shown_of("events")
+
+    @functools.cached_property
+    def finished(self):
+        return self.shown_of("finished")
 
     def shown_of(self, events):
         """Returns what the view shows of a run."""

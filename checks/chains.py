@@ -9,20 +9,12 @@ finds, in the order of the label file. In a finishing of the run the same items 
 of the shortest chains, and `verify` to take these and longer ones, and to find the first wrong line of chains that were changed.
 
 It prints how much was compared and how much of it differs, and of each command the difference with the fewest items. Ends with 1 where
-something differs; the files of such a case are left in the folder that the variable KEEP names, under its number.
+something differs.
 """
 import collections
-import os
-import random
-import re
-import shutil
-import subprocess
 import sys
-import tempfile
 
-import grammars
 import many
-import wfprov
 from cases import Case
 
 FILES = ("spec", "view")
@@ -31,27 +23,6 @@ FILES = ("spec", "view")
 CHAINED, UNCHAINED, LONGER, CHANGED = 4, 2, 1, 1
 
 Difference = collections.namedtuple("Difference", "items number words wanted found")
-
-
-class Calls:
-    """Calls of the program that a shell makes in a folder, one after the other: to start each from here would take longer than it takes."""
-
-    def __init__(self):
-        self.wanted = []
-
-    def want(self, words, text, status=0):
-        """Adds a call, with the text and the status that are wanted of it."""
-        self.wanted.append((words, (status, text)))
-
-    def made(self, program, folder):
-        """Yields the words of each call, with the status and the text that are wanted, and those that are found."""
-        with open(os.path.join(folder, "calls"), "w", encoding="utf-8") as file:
-            file.writelines(f"\"$program\" {' '.join(words)} 2>&1; printf '\\n= %s\\n' $?\n" for words, _ in self.wanted)
-        told = {**os.environ, "program": program}
-        done = subprocess.run(["sh", "calls"], cwd=folder, env=told, stdin=subprocess.DEVNULL, stdout=subprocess.PIPE, check=True)
-        found = re.split(r"\n= (\d+)\n", done.stdout.decode())
-        for (words, wanted), text, status in zip(self.wanted, found[:-1:2], found[1::2], strict=True):
-            yield words, wanted, (int(status), text)
 
 
 def text_of(lines):
@@ -149,7 +120,7 @@ def finishing_differences(case, number):
 
 def compared(case, number):
     """Returns the differences of the case of a number."""
-    calls = Calls()
+    calls = many.Calls()
     want_listings(case, calls)
     want_verdicts(case, calls, want_explanations(case, calls))
     differences = list(finishing_differences(case, number))
@@ -160,19 +131,6 @@ def compared(case, number):
     hidden = len(case.items) - len(case.shown.place)
     case.counts.update(grammars=1, items=len(case.items), hidden=hidden, pairs=len(case.items) ** 2, pending=case.shown.waits)
     return differences
-
-
-def tried(program, seed, number):
-    """Returns the counts and the differences of the case of a number."""
-    with tempfile.TemporaryDirectory() as folder:
-        try:
-            case = Case(program, random.Random(f"{seed} {number}"), folder)
-            differences = compared(case, number)
-        except wfprov.Ended as error:
-            raise AssertionError(f"grammar {number}: {error}") from None
-        if differences and os.environ.get("KEEP"):
-            shutil.copytree(folder, os.path.join(os.environ["KEEP"], str(number)), dirs_exist_ok=True)
-        return case.counts, differences
 
 
 def tell(counts, differences):
@@ -187,7 +145,7 @@ def tell(counts, differences):
 
 
 def main():
-    _, counts, differences = many.tried(__doc__, tried)
+    _, counts, differences = many.tried(__doc__, Case, compared)
     tell(counts, differences)
     return int(bool(differences))
 

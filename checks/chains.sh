@@ -4,15 +4,9 @@
 set -euo pipefail
 
 cd "$(dirname "${BASH_SOURCE[0]}")/.."
-. checks/count.sh
-. checks/built.sh
 . checks/stand_in.sh
-export PYTHONDONTWRITEBYTECODE=1
 
-compares() {
-    python3 checks/chains.py "$program" --grammars "$1" --seed "$2"
-}
-check "on ${1:-1000} small grammars the commands say what a search finds" compares "${1:-1000}" "${2:-1}"
+check "on ${1:-1000} small grammars the commands say what a search finds" agrees_by checks/chains.py "$@"
 
 # Whether it is found that such a program says something else, by these commands and no other.
 finds() { finds_by checks/chains.py "$@"; }

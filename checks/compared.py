@@ -15,11 +15,7 @@ where one of the kinds of answers came too seldom.
 """
 import collections
 import json
-import os
-import random
-import subprocess
 import sys
-import tempfile
 
 import grammars
 import labels
@@ -106,21 +102,14 @@ def told(grammar, view, coarse):
     return 0, "".join(f"{line}\n" for line in comparison.lines())
 
 
-class Views:
+class Views(many.Drawn):
     """A specification at random, as a file in a folder, and views of it."""
 
     def __init__(self, program, draw, folder):
-        self.program, self.draw, self.folder, self.counts = program, draw, folder, collections.Counter()
+        super().__init__(program, draw, folder)
         self.made, self.grammar = self.draw_grammar()
         self.soonest = {name: rule.number for name, rule in self.grammar.chosen.items()}
         self.write("spec", json.dumps(self.made))
-
-    def path(self, name):
-        return os.path.join(self.folder, name)
-
-    def write(self, name, data):
-        with open(self.path(name), "wb") as file:
-            file.write(data if isinstance(data, bytes) else data.encode())
 
     def draw_grammar(self):
         for _ in range(TRIES):
@@ -172,11 +161,6 @@ class Views:
             given = {"own": own, "more": own | others, "less": own & others, "some": others}
             if module["name"] not in kept and way != "all":
                 yield {"module": module["name"], "pairs": sorted(map(list, given[way]))}
-
-    def said(self, words):
-        """Returns the status and the text that a command ends with."""
-        ran = subprocess.run([self.program, *words], cwd=self.folder, stdout=subprocess.PIPE, stderr=subprocess.STDOUT, check=False)
-        return ran.returncode, ran.stdout.decode()
 
     def exported(self, view, events):
         return wfprov.export(self.path("spec"), self.path(view), self.path(events), self.program)
@@ -248,18 +232,8 @@ def compared(case, number):
     return differences
 
 
-def tried(program, seed, number):
-    """Returns the counts and the differences of the case of a number."""
-    with tempfile.TemporaryDirectory() as folder:
-        try:
-            case = Views(program, random.Random(f"{seed} {number}"), folder)
-            return case.counts, compared(case, number)
-        except wfprov.Ended as error:
-            raise AssertionError(f"grammar {number}: {error}") from None
-
-
 def main():
-    asked, counts, differences = many.tried(__doc__, tried)
+    asked, counts, differences = many.tried(__doc__, Views, compared)
     lacking = [kind for kind, least in LEAST.items() if counts[kind] < asked // least]
     print(f"{asked} grammars, and {counts['refused']} that were refused")
     print(f"answers: {', '.join(f'{counts[kind]} {kind}' for kind in LEAST)}{'; too few: ' + ' '.join(lacking) if lacking else ''}")

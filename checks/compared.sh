@@ -4,15 +4,9 @@
 set -euo pipefail
 
 cd "$(dirname "${BASH_SOURCE[0]}")/.."
-. checks/count.sh
-. checks/built.sh
 . checks/stand_in.sh
-export PYTHONDONTWRITEBYTECODE=1
 
-compares() {
-    python3 checks/compared.py "$program" --grammars "$1" --seed "$2"
-}
-check "on ${1:-1000} small grammars \`compare\` says what a search finds" compares "${1:-1000}" "${2:-1}"
+check "on ${1:-1000} small grammars \`compare\` says what a search finds" agrees_by checks/compared.py "$@"
 
 # A \`compare\` that does what the search does, with one change.
 cat >"$work/changed.py" <<'CHANGES'

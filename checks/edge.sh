@@ -21,6 +21,7 @@ commands=(
     'explain SPEC VIEW EVENTS r.a r.b'
     'verify SPEC VIEW EVENTS CHAIN'
     'compare SPEC VIEW COARSE'
+    'package SPEC VIEW'
     'decide SPEC VIEW 20 b0'
     'export SPEC VIEW EVENTS'
     'gen SPEC 5 7'

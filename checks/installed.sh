@@ -216,7 +216,7 @@ if command -v man >/dev/null && man --version >/dev/null 2>&1; then
 else
     echo "left out: man is not installed here, so it does not read the manual page"
 fi
-check "the completion offers the commands" offers "ask check compare decide drill explain export gen impact ingest lineage trace verify view" "$completion" wfprov ""
+check "the completion offers the commands" offers "ask check compare decide drill explain export gen impact ingest lineage package trace verify view" "$completion" wfprov ""
 check "it offers a command that is begun" offers "explain export" "$completion" wfprov ex
 check "it offers files where a form has one" offers "events" "$completion" wfprov trace spec view ev
 check "it offers no file behind the last word of a form" offers "" "$completion" wfprov check spec ev

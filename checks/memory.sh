@@ -28,6 +28,7 @@ explain|phylogeny|explain spec view events run.seqs run.report|0|own|
 verify|line|verify spec view events chain|0|own|
 compare|phylogeny|compare spec '$work/everything' outer|0|own|
 compare of a denied pair|phylogeny|compare spec '$work/everything' '$work/narrow'|0|own|
+package|phylogeny|package spec '$work/narrow'|0|own|
 trace|line|trace spec view events queries|0|answers|
 trace of held reports|line|trace spec view '$work/exchanged' queries|0|answers|
 export|line|export spec view events|0|own|

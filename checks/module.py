@@ -18,6 +18,7 @@ import unittest
 TOP = os.path.dirname(os.path.dirname(os.path.abspath(__file__)))
 sys.path.insert(0, os.path.join(TOP, "tools"))
 import labels as label_file
+import results
 import wfprov
 from wfprov import Answer
 
@@ -407,34 +408,9 @@ class Calls(InFolder):
         self.assertEqual((other.returncode, other.stdout, other.stderr.count("\n")), (2, "", 1))
 
 
-class Result(unittest.TestResult):
-    """Prints a line for each test."""
-
-    passed = 0
-
-    def addSuccess(self, test):
-        self.passed += 1
-        print(f"ok: {test.shortDescription()}", flush=True)
-
-    def _tell(self, test, error):
-        print(f"FAILED: {test.shortDescription()}\n{self._exc_info_to_string(error, test)}", flush=True)
-
-    def addError(self, test, error):
-        super().addError(test, error)
-        self._tell(test, error)
-
-    def addFailure(self, test, error):
-        super().addFailure(test, error)
-        self._tell(test, error)
-
-
 def main(words):
     os.environ["WFPROV"] = os.path.abspath(words[0])
-    result = Result()
-    unittest.defaultTestLoader.loadTestsFromModule(sys.modules[__name__]).run(result)
-    failed = len(result.errors) + len(result.failures)
-    print(f"{result.passed} passed, {failed} failed")
-    return 1 if failed or not result.passed else 0
+    return results.finish(*results.run(__name__))
 
 
 if __name__ == "__main__":

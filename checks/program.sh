@@ -633,6 +633,17 @@ check "a view that opens what the other closes is not coarser" refuses_coarse ph
 check "so it is where neither sees the step" refuses_coarse phylogeny '{"expand":[]}' '{"expand":["Build"]}' 'NotCoarser Build'
 check "a coarser view is tried by itself first" refuses_coarse phylogeny '{"expand":[]}' '{"expand":["Main","Nothing"]}' 'UnknownModule expand 1'
 
+# What a view shows, written as a package.
+packages() {
+    printf '%s' "$2" >"$work/view"
+    run package "examples/$1/spec" "$work/view" && ended 0 "$(text expected_out "$3\n")" "$nothing"
+}
+shut='{"package":1,"start":"m0","modules":[{"name":"m0","in":["i0"],"out":["o0"]}],"productions":[],"deps":[],"loops":[]}'
+check "a view that opens nothing has a package of one module" packages line '{"expand":[]}' "$shut"
+twisting='{"package":1,"start":"m0","modules":[{"name":"m0","in":["i0","i1"],"out":["o0","o1"]},{"name":"m1","in":["i0","i1"],"out":["o0","o1"]},{"name":"m2","in":["i0","i1"],"out":["o0","o1"]},{"name":"m3","in":["i0","i1"],"out":["o0","o1"]}],"productions":[{"head":"m0","body":[["p0","m1"]],"edges":[],"in":[["i0","p0.i0"],["i1","p0.i1"]],"out":[["p0.o0","o0"],["p0.o1","o1"]]},{"head":"m1","body":[["p0","m2"],["p1","m1"],["p2","m2"]],"edges":[["p0.o0","p1.i0"],["p0.o1","p1.i1"],["p1.o0","p2.i0"],["p1.o1","p2.i1"]],"in":[["i0","p0.i0"],["i1","p0.i1"]],"out":[["p2.o0","o0"],["p2.o1","o1"]]},{"head":"m1","body":[["p0","m3"]],"edges":[],"in":[["i0","p0.i0"],["i1","p0.i1"]],"out":[["p0.o0","o0"],["p0.o1","o1"]]}],"deps":[{"module":"m2","pairs":[["i0","o1"],["i1","o0"]]},{"module":"m3","pairs":[["i0","o0"],["i1","o1"]]}],"loops":[["m1",1,1]]}'
+check "a package has the pairs of the closed modules and the steps that lead back" packages twisting '{}' "$twisting"
+check "a view that opens nothing hides pairs and steps" packages twisting '{"expand":[]}' '{"package":1,"start":"m0","modules":[{"name":"m0","in":["i0","i1"],"out":["o0","o1"]}],"productions":[],"deps":[],"loops":[]}'
+
 # The items on which an item rests, and those that rest on it.
 lists() {
     local command=$1 example=$2 item=$3

@@ -26,6 +26,7 @@ PARTS = [
     ("What labels tell", ["wf_query/specs/Answers", "wf_lineage/specs/Listed", "cmd_decide/specs/Decided"]),
     ("Why an item rests on another", ["cmd_explain/specs/Reasons", "wf_reason/specs/Checked"]),
     ("Whether a coarser view denies what a finer one affirms", ["cmd_share/specs/Told"]),
+    ("What a view shows, without the specification", ["wf_package/specs/PackageText"]),
     ("What the other commands write", ["cmd_describe/specs/Does", "wf_export/specs/ExportText", "cmd_make/specs/Does"]),
     ("The program", ["wf_top/specs/Outcome", "wf_top/specs/Meets", "wf_top/specs/Counts"]),
 ]

@@ -20,7 +20,7 @@ class Shown:
     def __init__(self, exported, seen, inputs):
         pairs = {module.name: module.pairs for module in seen}
         pending = [(f"{name}.{a}", f"{name}.{b}") for name, module in exported.pending for a, b in pairs[module]]
-        self.waits = bool(exported.pending)
+        self.exported, self.waits = exported, bool(exported.pending)
         self.closed = {name for name, _ in exported.leaves + exported.pending}
         self.place = {name: place for place, name in enumerate(exported.items)}
         self.goes_in = set(exported.items[: len(inputs)])

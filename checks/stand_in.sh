@@ -1,5 +1,14 @@
-# Programs that say something else than the built one, for checks that compare it with a search: such a check has to find them out.
-# It is read by those scripts, behind built.sh.
+# Checks that compare the program with a search on small grammars at random. Such a check has to find out programs that say something else
+# than the built one. It is read by those scripts, in the place of count.sh and built.sh.
+. checks/count.sh
+. checks/built.sh
+export PYTHONDONTWRITEBYTECODE=1
+
+# Whether the check of a file finds no difference. The words behind the file are how many grammars are tried, and from which seed; 1,000 and 1
+# where they are not given.
+agrees_by() {
+    python3 "$1" "$program" --grammars "${2:-1000}" --seed "${3:-1}"
+}
 
 # Makes a program that is the built one, but for lines of a shell script before it is called.
 stand_in() {

@@ -7,6 +7,7 @@ use crate::fault::BitFault;
 use crate::scan::{next_one, number_at};
 
 /// The number of the gamma code that begins at a place, and the place behind the code.
+#[cold]
 pub fn code_at(bytes: &[u8], at: usize, most: u64) -> Result<(u64, usize), BitFault>
     requires few { length bytes.now < 2 ^ 60 }
     requires inside { at ≤ 8 * length bytes.now }

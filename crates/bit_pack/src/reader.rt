@@ -56,6 +56,7 @@ impl<'a> BitReader<'a> {
     }
 
     /// Reads one bit. The only fault is `Ended`.
+    #[inline(always)]
     pub fn bit(&mut self) -> Result<bool, BitFault>
         ensures ok { IfOk result (λ b. self.old.left ≡ b ∷ self.new.left) }
         ensures at { OnOk result (self.new.at ≡ self.old.at + 1) }
@@ -75,6 +76,7 @@ impl<'a> BitReader<'a> {
     ///
     /// A whole code of a larger number is a `TooLarge`, also where the number has more than 64 binary
     /// digits. A code that is cut off is an `Ended`. A code among the bits of one word is read at once.
+    #[inline(always)]
     pub fn gamma(&mut self, most: u64) -> Result<u64, BitFault>
         requires { most < 2 ^ 63 }
         ensures number { IfOk result (λ n. n ≤ most) }
@@ -90,6 +92,7 @@ impl<'a> BitReader<'a> {
     }
 
     /// Goes on to a place.
+    #[inline(always)]
     fn go_to(&mut self, end: usize)
         requires order { self.old.at ≤ end }
         requires inside { end ≤ self.old.at + length self.old.left }

@@ -48,6 +48,7 @@ fn word_at(bytes: &[u8], at: usize) -> (u64, usize)
 }
 
 /// The bits from the place `end` on as a word, and how many they are. Those from `at` on are held in a word, so many.
+#[inline(always)]
 pub fn next_word(bytes: &[u8], at: usize, word: u64, held: usize, end: usize) -> (u64, usize)
     requires few { length bytes.now < 2 ^ 60 }
     requires order { at ≤ end }
@@ -71,6 +72,7 @@ pub fn first_bit(word: u64) -> bool
 }
 
 /// The number of the gamma code that begins at a place, and the place behind the code. The bits from the place on are held in a word, so many: a code that is whole among them is read at once.
+#[inline(always)]
 pub fn next_code(
     bytes: &[u8],
     at: usize,

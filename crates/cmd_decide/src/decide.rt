@@ -10,7 +10,6 @@ ghost use Rattle.label_words.specs.Digits.{bytes_in};
 ghost use Rattle.cmd_decide.specs.Decided.{DecidesLabels};
 ghost use Rattle.cmd_decide.specs.Does.{Decides};
 
-use crate::verdict::verdict_of;
 use crate::words::DecideWords;
 use label_words::{HexWord, verdict_line};
 use std::alloc::Global;
@@ -20,6 +19,7 @@ use wf_label::LabelRef;
 use wf_message::{Place, Stop, refused_whole};
 use wf_safe::SafeView;
 use wf_stage::put_text;
+use wf_verdict::verdict_of;
 
 /// The two labels among the words.
 const FIRST: Place = Place { word: b"label 1" };
@@ -64,7 +64,9 @@ fn put_verdict<O: Sink>(
     let second_bytes = bytes_of(alloc, words.second)?;
     let first = label_of(v, FIRST, &first_bytes)?;
     let second = label_of(v, SECOND, &second_bytes)?;
-    let verdict = verdict_of(alloc, v, first, second)?;
+    let Ok(verdict) = verdict_of(alloc, v, first, second) else {
+        return Err(Stop::NoMemory);
+    };
     put_text(out, verdict_line(verdict))
 }
 

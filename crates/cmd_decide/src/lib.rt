@@ -4,7 +4,6 @@
 mod command;
 mod decide;
 mod family;
-mod verdict;
 mod words;
 
 pub use family::Family;

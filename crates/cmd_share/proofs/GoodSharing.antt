@@ -1,15 +1,22 @@
--- `compare` over good files does all that it is to do.
+-- `package` and `compare` over good files do all that they are to do.
 use Rattle.std.proofs.Common.{ℕ, List}
+use Rattle.wf_spec.specs.Held.{HeldGrammar}
 use Rattle.wf_io.specs.Told.{File}
 use Rattle.wf_stage.specs.Outcomes.{EndsInDone}
-use Rattle.wf_inputs.specs.Inputs.{coarse_kind}
+use Rattle.wf_inputs.specs.Inputs.{coarse_kind, ViewStage}
+use Rattle.wf_inputs.specs.GoodFiles.{HaveView}
 use Rattle.wf_inputs.proofs.GoodFiles.{spec_goes_on, view_goes_on, view_file_goes_on}
-use Rattle.cmd_share.specs.Words.{Command, Compare}
+use Rattle.cmd_share.specs.Words.{Command, Package, Compare}
 use Rattle.cmd_share.specs.Told.{ComparesViews}
-use Rattle.cmd_share.specs.Does.{ComparesWith, ComparesIn, Compares, Does}
+use Rattle.cmd_share.specs.Does.{IsPackaged, Packages, ComparesWith, ComparesIn, Compares, Does}
 use Rattle.cmd_share.specs.Family.{CanCompare, CanShare}
 use Rattle.cmd_share.proofs.OneComparing.{good_views}
 use Rattle.cmd_share.proofs.ToldViews.{told_two}
+
+good_package : (spec view : File) (h : HeldGrammar) → HaveView spec view h → EndsInDone (Packages spec view)
+good_package spec view h good e t p =
+    (view_goes_on h.core view good.1.0 good.1.1 (IsPackaged h.core) e t
+    (spec_goes_on spec h good.0 (λ k. ViewStage k.core view (IsPackaged k.core)) e t p)).0
 
 good_compare : (spec view coarse : File) → CanCompare spec view coarse → EndsInDone (Compares spec view coarse)
 good_compare spec view coarse good e t h =
@@ -20,4 +27,5 @@ good_compare spec view coarse good e t h =
     (spec_goes_on spec good.grammar good.has_grammar (λ k. ComparesIn k.core view coarse) e t h)))
 
 pub good_sharing : (files : List ℕ → File) (c : Command) → CanShare files c → EndsInDone (Does files c)
+good_sharing files (Package s v) good = good_package (files s) (files v) good.0 good.1
 good_sharing files (Compare s v w) good = good_compare (files s) (files v) (files w) good

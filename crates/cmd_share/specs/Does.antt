@@ -1,14 +1,23 @@
--- What `compare` does.
-use Rattle.std.specs.Prelude.{ℕ, List}
+-- What `package` and `compare` do.
+use Rattle.std.specs.Prelude.{◌≡◌, ℕ, List}
 use Rattle.wf_model.specs.Grammar.{Grammar}
 use Rattle.wf_model.specs.View.{View}
 use Rattle.wf_io.specs.Told.{File}
-use Rattle.wf_message.specs.Endings.{End}
+use Rattle.wf_message.specs.Endings.{End, Done}
 use Rattle.wf_inputs.specs.Inputs.{coarse_kind, SpecStage, ViewFileStage, ViewStage}
+use Rattle.wf_package.specs.PackageText.{IsPackageText}
 use Rattle.cmd_share.specs.declared.command.Command.{Command as CommandHeld}
-use Rattle.cmd_share.specs.declared.command.Command.TheVariants.{Compare as CompareHeld}
-use Rattle.cmd_share.specs.Words.{Command, Compare}
+use Rattle.cmd_share.specs.declared.command.Command.TheVariants.{Package as PackageHeld, Compare as CompareHeld}
+use Rattle.cmd_share.specs.Words.{Command, Package, Compare}
 use Rattle.cmd_share.specs.Told.{ComparesViews}
+
+-- the package of a safe view of a grammar is written
+abbrev pub IsPackaged : Grammar → View → End → List ℕ → Type 0
+IsPackaged g u ending text = (ending ≡ Done) × IsPackageText g u text
+
+-- `package` over SPEC and VIEW
+abbrev pub Packages : File → File → End → List ℕ → Type 0
+Packages spec view = SpecStage spec (λ h. ViewStage h.core view (IsPackaged h.core))
 
 -- the second view of a grammar beside the first
 abbrev pub ComparesWith : Grammar → View → File → End → List ℕ → Type 0
@@ -24,8 +33,10 @@ Compares spec view coarse = SpecStage spec (λ h. ComparesIn h.core view coarse)
 
 -- the command that a value is
 abbrev pub meant : CommandHeld → Command
+meant (PackageHeld w) = Package w.spec.now w.view.now
 meant (CompareHeld w) = Compare w.spec.now w.view.now w.coarse.now
 
 -- what a command does over files
 abbrev pub Does : (List ℕ → File) → Command → End → List ℕ → Type 0
+Does files (Package s v) = Packages (files s) (files v)
 Does files (Compare s v w) = Compares (files s) (files v) (files w)

@@ -1,4 +1,4 @@
--- `compare` as a family of commands.
+-- `package` and `compare` as a family of commands.
 use Rattle.std.specs.Prelude.{ℕ, List}
 use Rattle.wf_model.specs.View.{View}
 use Rattle.wf_spec.specs.Held.{HeldGrammar}
@@ -6,8 +6,8 @@ use Rattle.wf_io.specs.Told.{File}
 use Rattle.compare_model.specs.Coarser.{IsCoarser}
 use Rattle.wf_stage.specs.Families.{Family}
 use Rattle.wf_inputs.specs.Inputs.{coarse_kind}
-use Rattle.wf_inputs.specs.GoodFiles.{HasGrammar, HasView, HasViewOf}
-use Rattle.cmd_share.specs.Words.{Command, Compare, command_of, files_of}
+use Rattle.wf_inputs.specs.GoodFiles.{HasGrammar, HasView, HasViewOf, HaveView}
+use Rattle.cmd_share.specs.Words.{Command, Package, Compare, command_of, files_of}
 use Rattle.cmd_share.specs.Does.{Does}
 
 -- SPEC is accepted, and the two views are well-formed and safe, and the second is coarser than the first, or as coarse
@@ -22,6 +22,7 @@ pub record CanCompare (spec view coarse : File) : Type 0 where
 
 -- the files of a command are good
 abbrev pub CanShare : (List ℕ → File) → Command → Type 0
+CanShare files (Package s v) = (h : HeldGrammar) × HaveView (files s) (files v) h
 CanShare files (Compare s v w) = CanCompare (files s) (files v) (files w)
 
 abbrev pub share_commands : Family

@@ -1,4 +1,4 @@
-// The words of `compare`, and what it does.
+// The words of `package` and `compare`, and what they do.
 ghost use Rattle.std.specs.Prelude.{◌≡◌, [], Some, None, map, MatchOption};
 ghost use Rattle.wf_message.specs.Endings.{end_after};
 ghost use Rattle.wf_stage.specs.Promises.{Obeys};
@@ -6,6 +6,7 @@ ghost use Rattle.cmd_share.specs.Words.{command_of, files_of};
 ghost use Rattle.cmd_share.specs.Does.{Does, meant};
 
 use crate::compare::{CompareWords, compare_views};
+use crate::package::{PackageWords, package_view};
 use std::alloc::Global;
 use wf_io::{Shelf, Sink};
 use wf_message::Stop;
@@ -13,6 +14,7 @@ use wf_message::Stop;
 /// A command, with the names of the files that it reads.
 #[derive(Clone, Copy)]
 pub enum Command<'w> {
+    Package { words: PackageWords<'w> },
     Compare { words: CompareWords<'w> },
 }
 
@@ -22,6 +24,14 @@ impl<'w> Command<'w> {
         ensures { MatchOption result (command_of (map (λ w. w.now) words.now) ≡ None) (λ c. command_of (map (λ w. w.now) words.now) ≡ Some (meant c)) }
     {
         match words {
+            [command, spec, view] => {
+                if *command == "package" {
+                    let words = PackageWords { spec, view };
+                    Some(Command::Package { words })
+                } else {
+                    None
+                }
+            }
             [command, spec, view, coarse] => {
                 if *command == "compare" {
                     let words = CompareWords { spec, view, coarse };
@@ -45,6 +55,7 @@ impl<'w> Command<'w> {
             (λ f. Does f (meant self.now)) shelf.old shelf.new out.old out.new (end_after result) }
     {
         match self {
+            Command::Package { words } => package_view(alloc, words, shelf, out),
             Command::Compare { words } => compare_views(alloc, words, shelf, out),
         }
     }

@@ -1,3 +1,4 @@
+pub mod NamesAhead
 pub mod EntryFronts
 pub mod EntryParts
 pub mod HeadReadings

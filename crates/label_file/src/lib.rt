@@ -1,6 +1,7 @@
 //! The label file of a run: a head with the digest of the grammar, and an entry for each item in the order in which the items were made. It is written in parts, and read as a store in which an entry is found by the name of its item.
 #![tactic(auto)]
 
+mod ahead;
 mod append;
 mod fault;
 mod fault_text;

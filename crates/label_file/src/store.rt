@@ -7,6 +7,7 @@ ghost use Rattle.label_file.specs.Keys.{held};
 ghost use Rattle.label_file.specs.Adding.{IsAdded, IsRefused};
 ghost use Rattle.label_file.specs.Hashed.{AreKeyed, IsHashed, IsKeyed};
 
+use crate::ahead::Ahead;
 use crate::fault::StoreFault;
 use crate::front::{Front, count_entries, cut_front};
 use crate::head::behind_head;
@@ -19,9 +20,6 @@ use std::marker::Model;
 use wf_label::LabelRef;
 use wf_names::KeyedHash;
 use wf_recur::Linear;
-
-/// How many entries are looked up at one time.
-const AHEAD: usize = 16;
 
 /// Whether an entry has this name.
 fn holds(keyed: &KeyedHash, entries: &IndexSet<HeldEntry>, name: HashedName<'_>) -> bool
@@ -50,6 +48,51 @@ fn put<'a>(
     let _keyed = keyed;
     let is_new = entries.insert(entry)?;
     Ok(is_new)
+}
+
+/// Adds an entry behind the others, if its name is that of an item, no entry before has the name, and its label is one of the grammar. The first of these that is wrong is told in this order. After an error the entries are good for nothing.
+///
+/// Where the name is likely new, it is looked up no sooner than it is put, or its label is found wrong.
+fn add<'a>(
+    g: Linear<'_>,
+    keyed: &KeyedHash,
+    entries: &mut IndexSet<HeldEntry<'a>>,
+    front: Front<'a>,
+    name: HashedName<'a>,
+    is_likely_new: bool,
+) -> Result<(), StoreFault>
+    requires entries { AreKeyed keyed.now entries.old.keys }
+    requires cut { IsCut front }
+    requires name { name.bytes.now ≡ front.name.now }
+    requires hashed { IsHashed keyed.now name }
+    requires room { length entries.old.keys + 1 < 2 ^ 32 }
+    ensures added { OnOk result (IsAdded g.entry.grammar.now.core (held entries.old.keys) (record { name = front.entry.name.now; label = front.entry.label.now }) (held entries.new.keys)) }
+    ensures keyed { OnOk result (AreKeyed keyed.now entries.new.keys) }
+    ensures refused { IfErr result (λ f. IsRefused g.entry.grammar.now.core (held entries.old.keys) (record { name = front.entry.name.now; label = front.entry.label.now }) f) }
+{
+    let entry = entries.len() as u32;
+    if split_item(front.name).is_none() {
+        return Err(StoreFault::BadName { entry });
+    }
+    if !is_likely_new && holds(keyed, entries, name) {
+        return Err(StoreFault::NameTwice { entry });
+    }
+    let Ok(label) = LabelRef::check(g, front.label) else {
+        if holds(keyed, entries, name) {
+            return Err(StoreFault::NameTwice { entry });
+        }
+        return Err(StoreFault::BadLabel { entry });
+    };
+    let held = HeldEntry::new(
+        front.bytes,
+        front.name.len() as u8,
+        label.length(),
+        name.hash,
+    );
+    if !put(keyed, entries, held)? {
+        return Err(StoreFault::NameTwice { entry });
+    }
+    Ok(())
 }
 
 /// The label of the entry of this name; None where no entry has it.
@@ -123,82 +166,20 @@ impl<'a> Store<'a> {
     {
         let mut rest = behind_head(digests, bytes)?;
         let count = count_entries(rest);
-        let mut store = Store {
-            keyed: KeyedHash::new(key),
-            entries: IndexSet::with_capacity(alloc, count)?,
-        };
-        let mut are_new = false;
+        let keyed = KeyedHash::new(key);
+        let mut entries = IndexSet::with_capacity(alloc, count)?;
+        let mut ahead = Ahead::new();
         while !rest.is_empty() {
-            if store.length() as usize % AHEAD == 0 {
-                are_new = store.are_new(rest);
-            }
             let Some(front) = cut_front(rest) else {
                 return Err(StoreFault::Truncated {
                     offset: (bytes.len() - rest.len()) as u64,
                 });
             };
-            store.add(g, front, are_new)?;
+            let (name, is_likely_new) = ahead.next(&keyed, &entries, rest);
+            add(g, &keyed, &mut entries, front, name, is_likely_new)?;
             rest = front.rest;
         }
-        Ok(store)
-    }
-
-    /// Whether the names of the next entries, as many as are looked up at one time, are new. What is read of the table for them is at hand when they are put.
-    fn are_new(&self, bytes: &[u8]) -> bool {
-        let mut names = [HashedName {
-            bytes: &[],
-            hash: 0,
-        }; AHEAD];
-        let mut left = bytes;
-        for i in 0..AHEAD {
-            let Some(front) = cut_front(left) else {
-                break;
-            };
-            names[i] = HashedName::new(&self.keyed, front.name);
-            left = front.rest;
-        }
-        // Nothing stands between these look-ups, so they wait for memory at one time.
-        !names.iter().any(|name| self.entries.contains(name))
-    }
-
-    /// Adds an entry behind the others, if its name is that of an item, no entry before has the name, and its label is one of the grammar. The first of these that is wrong is told in this order. After an error the entries are good for nothing.
-    ///
-    /// Where the name is likely new, it is looked up no sooner than it is put, or its label is found wrong.
-    fn add(
-        &mut self,
-        g: Linear<'_>,
-        front: Front<'a>,
-        is_likely_new: bool,
-    ) -> Result<(), StoreFault>
-        requires cut { IsCut front }
-        requires room { length self.old + 1 < 2 ^ 32 }
-        ensures added { OnOk result (IsAdded g.entry.grammar.now.core self.old (record { name = front.entry.name.now; label = front.entry.label.now }) self.new) }
-        ensures refused { IfErr result (λ f. IsRefused g.entry.grammar.now.core self.old (record { name = front.entry.name.now; label = front.entry.label.now }) f) }
-    {
-        let entry = self.length();
-        if split_item(front.name).is_none() {
-            return Err(StoreFault::BadName { entry });
-        }
-        let name = HashedName::new(&self.keyed, front.name);
-        if !is_likely_new && holds(&self.keyed, &self.entries, name) {
-            return Err(StoreFault::NameTwice { entry });
-        }
-        let Ok(label) = LabelRef::check(g, front.label) else {
-            if holds(&self.keyed, &self.entries, name) {
-                return Err(StoreFault::NameTwice { entry });
-            }
-            return Err(StoreFault::BadLabel { entry });
-        };
-        let held = HeldEntry::new(
-            front.bytes,
-            front.name.len() as u8,
-            label.length(),
-            name.hash,
-        );
-        if !put(&self.keyed, &mut self.entries, held)? {
-            return Err(StoreFault::NameTwice { entry });
-        }
-        Ok(())
+        Ok(Store { keyed, entries })
     }
 
     /// The label of the entry of this name; None where no entry has it.

@@ -1,5 +1,5 @@
 -- Whether bytes are a name, or the name of an item, and where they are cut.
-use Rattle.std.proofs.Common.{◌≡◌, ◌⊎◌, ℕ, ◌<◌, ◌≤◌, List, [], ◌∷◌, ◌++◌, length, refl, sym, ap, ◌∙◌, subst, inl, inr, ⊎_elim}
+use Rattle.std.proofs.Common.{◌≡◌, ◌⊎◌, ℕ, ◌≤◌, List, [], ◌∷◌, ◌++◌, length, sym, ap, ◌∙◌, subst, inl, inr, ⊎_elim}
 use Rattle.wf_model.specs.Lists.{IsIn}
 use Rattle.wf_model.specs.Run.{IsNameByte}
 use Rattle.wf_model.specs.WellFormed.{IsShortName}

@@ -5,6 +5,6 @@ mod item;
 mod law;
 mod short;
 
-pub use item::{cut, split_item};
+pub use item::{cut_item, split_item};
 pub use law::name_law;
 pub use short::{are_short, is_short};

@@ -1,5 +1,5 @@
-mod Places
-mod ShownPairs
+pub mod Places
+pub mod ShownPairs
 mod ShownAlike
 mod PackagePairs
 mod PackageParts
@@ -7,11 +7,11 @@ mod PackageBack
 mod NumberedNames
 mod Sums
 mod PackageFormed
-mod PackageLaws
+pub mod PackageLaws
 mod PackageLoops
-mod LoopSteps
-mod ReadOnce
-mod InsideLabels
+pub mod LoopSteps
+pub mod ReadOnce
+pub mod InsideLabels
 mod ReadInGrammar
 mod PackageAlternatives
 mod ReadInPackage
@@ -20,4 +20,4 @@ mod Translations
 mod DefaultShows
 mod SameEndpoints
 mod Consulted
-mod WorkedPackages
+pub mod WorkedPackages

@@ -17,7 +17,7 @@ use Rattle.package_model.proofs.LoopSteps.{AreSteps, good_steps, loops_begin, lo
 
 module _ (g : Grammar) (loop : Loops) (are : AreSteps g loop) where
   -- chain numbers at one module, and what they stand for
-  chain_once : (m : ℕ) (c d : Option ℕ) (a b : List Step) (x y : List Bool) → StandsFor g loop m c a → StandsFor g loop m d b → chain_bits c ++ x ≡ chain_bits d ++ y → (c ≡ d) × (a ≡ b) × (x ≡ y)
+  pub chain_once : (m : ℕ) (c d : Option ℕ) (a b : List Step) (x y : List Bool) → StandsFor g loop m c a → StandsFor g loop m d b → chain_bits c ++ x ≡ chain_bits d ++ y → (c ≡ d) × (a ≡ b) × (x ≡ y)
   chain_once m None None a b x y h k e = (refl, h.1 ∙ sym k.1, e)
   chain_once m None (Some d) a b x y h k e = absurd (k.0 h.0)
   chain_once m (Some c) None a b x y h k e = absurd (h.0 k.0)
@@ -27,7 +27,7 @@ module _ (g : Grammar) (loop : Loops) (are : AreSteps g loop) where
       (ap Some s, loops_once g loop m a b h.2 k.2 (omega (arith, h.3, k.3, s)), r.1)
 
   -- where the module to which a chain number leads is composite, no part of what it stands for leads to an atomic one
-  goes_not : (m : ℕ) (c d : Option ℕ) (a b : List Step) (x y : List Bool) → StandsFor g loop m c a → GoesAlong g loop m d b → chain_bits c ++ x ≡ chain_bits d ++ y →
+  pub goes_not : (m : ℕ) (c d : Option ℕ) (a b : List Step) (x y : List Bool) → StandsFor g loop m c a → GoesAlong g loop m d b → chain_bits c ++ x ≡ chain_bits d ++ y →
       IsComposite g (module_along g m a) → IsAtomic g (module_along g m b) → ⊥
   goes_not m None None a b x y h k e comp atomic =
       atomic comp.0 comp.1.0 (comp.1.1 ∙ (ap (module_along g m) h.1 ∙ ap (module_along g m) (sym k)))

@@ -1,5 +1,5 @@
 -- The lowest column that one row has and another has not, and the first pair of two lists of rows.
-use Rattle.std.proofs.Common.{◌≡◌, ◌≢◌, ℕ, ◌+◌, ◌%◌, ◌^◌, ◌<◌, ◌≤◌, ◌⊎◌, min, true, false, List, length, get_or, bit_and, bit_xor, sym, ap, ◌∙◌, subst, inl, inr, ⊎_elim, arith}
+use Rattle.std.proofs.Common.{◌≡◌, ◌≢◌, ℕ, ◌+◌, ◌==◌, ◌%◌, ◌^◌, ◌<◌, ◌≤◌, ◌⊎◌, min, true, false, List, length, get_or, bit_and, bit_xor, sym, ap, ◌∙◌, subst, inl, inr, ⊎_elim, arith}
 use Rattle.std.specs.Int.{bit_at, w64, trailing_zeros}
 use Rattle.std.proofs.lemmas.Bool.Decides.{nat_tests}
 use Rattle.std.proofs.lemmas.Nat.{and_le_l}
@@ -21,18 +21,15 @@ one_alone x y h k e = (grind arith, grind arith)
 none_alone : (x y : ℕ) → x < 2 → y < 2 → min x ((x + y) % 2) ≡ 0 → x ≡ 1 → y ≡ 1
 none_alone x y h k e d = grind arith
 
-has_zero : (a j : ℕ) → bit_at a j ≡ 0 → has a j ≡ false
-unfolding has
-has_zero a j e = grind (arith, nat_tests)
-
 not_from : (a j : ℕ) → has a j ≡ false → bit_at a j ≡ 1 → ⊥
 unfolding has
 not_from a j e d = grind (arith, nat_tests)
 
 more_gives : (a b j : ℕ) → bit_at (more_of a b) j ≡ 1 → (has a j ≡ true) × (has b j ≡ false)
+unfolding has
 more_gives a b j e =
     let r = one_alone (bit_at a j) (bit_at b j) (bit_at-lt a j) (bit_at-lt b j) (sym (bit_more a b j) ∙ e) in
-    (has_from a j r.0, has_zero b j r.1)
+    (has_from a j r.0, ap (λ z. z == 1) r.1)
 
 no_more : (a b j : ℕ) → bit_at (more_of a b) j ≡ 0 → has a j ≡ true → has b j ≡ false → ⊥
 no_more a b j e h k = not_from b j k (none_alone (bit_at a j) (bit_at b j) (bit_at-lt a j) (bit_at-lt b j) (sym (bit_more a b j) ∙ e) (has_gives a j h))

@@ -3,6 +3,7 @@ pub mod LegsLeft
 pub mod PlacesRead
 pub mod CommonSteps
 pub mod Progressing
+pub mod Digits
 pub mod ChainSteps
 pub mod WholeCycles
 pub mod OpenLegs

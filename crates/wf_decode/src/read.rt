@@ -48,6 +48,7 @@ pub(crate) enum Taken {
 /// The leg of so many continuing steps from a module on a cycle, and the module to which they lead; `None` where the view does not expand each module that they pass, the first and the last among them.
 ///
 /// Cost: a few look-ups in tables, however many steps there are.
+#[inline(always)]
 fn chain_leg(vl: &ViewLabel<'_>, at: ModNo, count: u32) -> Option<(Leg, ModNo)>
     requires module_no { at.0 < length vl.now.grammar.modules }
     requires on_cycle { continuing vl.now.grammar at.0 ≢ None }
@@ -73,6 +74,7 @@ fn chain_leg(vl: &ViewLabel<'_>, at: ModNo, count: u32) -> Option<(Leg, ModNo)>
 }
 
 /// The module to which a step leads.
+#[inline(always)]
 fn target(vl: &ViewLabel<'_>, step: Step) -> ModNo
     requires production { step.production.0 < length vl.now.grammar.productions }
     requires position { step.position.0 < length (body_of vl.now.grammar step.production.0) }
@@ -83,6 +85,7 @@ fn target(vl: &ViewLabel<'_>, step: Step) -> ModNo
 }
 
 /// Whether the view expands the head of a production.
+#[inline(always)]
 fn expands(vl: &ViewLabel<'_>, production: ProdNo) -> bool
     requires { production.0 < length vl.now.grammar.productions }
     ensures { result ≡ is_expanded vl.now (head_of vl.now.grammar production.0) }
@@ -93,6 +96,7 @@ fn expands(vl: &ViewLabel<'_>, production: ProdNo) -> bool
 /// Takes the next mark of a label, at a module, when so many legs are held.
 ///
 /// It takes no memory. Cost: a few look-ups in tables.
+#[inline(always)]
 fn take_mark(vl: &ViewLabel<'_>, at: ModNo, mark: Mark, held: usize) -> Taken
     requires module_no { at.0 < length vl.now.grammar.modules }
     requires mark { IsMarkOf vl.now.grammar (mark_of mark) }

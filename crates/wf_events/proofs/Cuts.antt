@@ -24,18 +24,6 @@ cut_whole bytes text quoted rest end front back closed = sym (take-append-drop e
 pub same_bytes : (xs ys : List ℕ) (differ : Bool) → differ ≡ not (bytes_eq xs ys) → differ ≡ false → xs ≡ ys
 same_bytes xs ys differ told same = (bytes_eq-Decides xs ys).0 (not-false _ (sym told ∙ same))
 
-front_plain : (xs : List ℕ) (i : ℕ) → i ≤ length xs → ((k : ℕ) → k < i → not (is_plain (get_or xs k 0)) ≡ false) → is_plain_text (take i xs) ≡ true
-front_plain [] zero l h = refl
-front_plain [] (suc i) l h = absurd (omega arith)
-front_plain (x ∷ xs) zero l h = refl
-front_plain (x ∷ xs) (suc i) l h = and_from _ _ (not-false _ (h 0 (omega arith))) (front_plain xs i (omega arith) (λ k below. h (suc k) (omega arith)))
-
--- what stands before the first byte that is not plain is plain
-pub text_plain : (bytes text : List ℕ) (i : ℕ) → position (λ b. not (is_plain b)) bytes ≡ Some i → text ≡ take i bytes → is_plain_text text ≡ true
-text_plain bytes text i found is =
-    let first = position-Some (λ b. not (is_plain b)) bytes i 0 found in
-    subst (λ t. is_plain_text t ≡ true) (sym is) (front_plain bytes i (omega (arith, first.0)) first.2)
-
 -- one plain text more
 pub all_plain_more : (ns : List (List ℕ)) (n : List ℕ) → list_all is_plain_text ns ≡ true → is_plain_text n ≡ true → list_all is_plain_text (ns ++ n ∷ []) ≡ true
 all_plain_more [] n e h = and_from _ _ h refl

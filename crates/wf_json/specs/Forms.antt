@@ -36,6 +36,15 @@ two_items f g (item a (item b (item c ds))) = None
 abbrev pub pair_form : {A B : Type 0} → (Data → Option A) → (Data → Option B) → Data → Option (A × B)
 pair_form f g d = option_and_then (two_items f g) (as_array d)
 
+-- the items of exactly three, each with its form
+abbrev pub three_items : {A B C : Type 0} → (Data → Option A) → (Data → Option B) → (Data → Option C) → Items → Option (A × (B × C))
+three_items f g h no_items = None
+three_items f g h (item a ds) = both (f a) (two_items g h ds)
+
+-- a triple: a JSON array of exactly three items, each with its form
+abbrev pub triple_form : {A B C : Type 0} → (Data → Option A) → (Data → Option B) → (Data → Option C) → Data → Option (A × (B × C))
+triple_form f g h d = option_and_then (three_items f g h) (as_array d)
+
 -- the bytes before the first dot are the position, and those after it the port
 abbrev pub port_of : List ℕ → Option PortPart
 port_of s = option_map (λ i. record { pos = take i s; port = drop (i + 1) s }) (position (λ b. b == 46) s)

@@ -2,7 +2,7 @@
 ghost use Rattle.std.specs.Prelude.{◌≡◌, Option, IfOk};
 ghost use Rattle.serde_json.specs.Data.{Data};
 ghost use Rattle.serde_json.specs.View.{view, items_view};
-ghost use Rattle.wf_json.specs.Forms.{text_form, whole_form, items_form, list_form, two_items, pair_form, member_form, list_member, optional_member};
+ghost use Rattle.wf_json.specs.Forms.{text_form, whole_form, items_form, list_form, two_items, pair_form, three_items, triple_form, member_form, list_member, optional_member};
 
 use serde_json::Value;
 use std::alloc::{AllocError, Global};
@@ -98,6 +98,37 @@ pub fn pair<A: FromJson + Drop, B: FromJson + Drop>(
 {
     match value.as_array() {
         Some(list) => two(alloc, list),
+        None => Ok(None),
+    }
+}
+
+fn three<A: FromJson + Drop, B: FromJson + Drop, C: FromJson + Drop>(
+    alloc: Global,
+    list: &[Value],
+) -> Result<Option<(A, (B, C))>, AllocError>
+    ensures { IfOk result (λ o. o ≡ three_items A.form B.form C.form (items_view list.now)) }
+{
+    let [first, rest @ ..] = list else {
+        return Ok(None);
+    };
+    let Some(a) = A::from_json(alloc, first)? else {
+        return Ok(None);
+    };
+    let Some(others) = two::<B, C>(alloc, rest)? else {
+        return Ok(None);
+    };
+    Ok(Some((a, others)))
+}
+
+/// Reads a list of exactly three items, as the first and the two others; None where the value is no such list, and an error where memory was refused.
+pub fn triple<A: FromJson + Drop, B: FromJson + Drop, C: FromJson + Drop>(
+    alloc: Global,
+    value: &Value,
+) -> Result<Option<(A, (B, C))>, AllocError>
+    ensures { IfOk result (λ o. o ≡ triple_form A.form B.form C.form (view value.now)) }
+{
+    match value.as_array() {
+        Some(list) => three(alloc, list),
         None => Ok(None),
     }
 }

@@ -14,7 +14,7 @@ mod view;
 mod writing;
 
 pub use fault::{JsonFault, Member};
-pub use form::{FromJson, member, member_list, pair};
+pub use form::{FromJson, member, member_list, pair, triple};
 pub use hashing::{digest, digests};
 pub use reading::{TextFault, read_value};
 pub use spec::read_spec;

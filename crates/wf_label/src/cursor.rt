@@ -41,6 +41,7 @@ enum Ahead {
 }
 
 /// Reads a step or an ending at a module.
+#[inline(always)]
 fn part_mark(g: &Grammar, bits: &mut BitReader<'_>, m: ModNo) -> (Mark, Ahead)
     requires { HasMarks g.now.core (Ahead.Passed m) bits.old.left }
     ensures first { IsFirst g.now.core (Ahead.Passed m) bits.old.left result.0 result.1 bits.new.left }
@@ -69,6 +70,7 @@ fn part_mark(g: &Grammar, bits: &mut BitReader<'_>, m: ModNo) -> (Mark, Ahead)
 }
 
 /// Reads the chain number of a module, or what comes next if the module is on no cycle.
+#[inline(always)]
 fn place_mark(g: Linear<'_>, bits: &mut BitReader<'_>, m: ModNo) -> (Mark, Ahead)
     requires marks { HasMarks g.grammar.now.core (Ahead.Entered m) bits.old.left }
     ensures first { IsFirst g.entry.grammar.now.core (Ahead.Entered m) bits.old.left result.0 result.1 bits.new.left }
@@ -84,6 +86,7 @@ fn place_mark(g: Linear<'_>, bits: &mut BitReader<'_>, m: ModNo) -> (Mark, Ahead
 }
 
 /// Reads a port of the root, or the first mark of the place of an edge.
+#[inline(always)]
 fn label_mark(g: Linear<'_>, bits: &mut BitReader<'_>) -> (Mark, Ahead)
     requires marks { HasMarks g.grammar.now.core Ahead.Whole bits.old.left }
     ensures first { IsFirst g.entry.grammar.now.core Ahead.Whole bits.old.left result.0 result.1 bits.new.left }
@@ -103,6 +106,7 @@ fn label_mark(g: Linear<'_>, bits: &mut BitReader<'_>) -> (Mark, Ahead)
 }
 
 /// Reads the first mark of what is ahead, and tells what is ahead then.
+#[inline(always)]
 fn read_mark(g: Linear<'_>, bits: &mut BitReader<'_>, ahead: Ahead) -> Option<(Mark, Ahead)>
     requires marks { HasMarks g.grammar.now.core ahead bits.old.left }
     ensures first { MatchOption result ((ahead ≡ Ahead.Nothing) × (bits.new ≡ bits.old)) (λ r. IsFirst g.entry.grammar.now.core ahead bits.old.left r.0 r.1 bits.new.left) }
@@ -140,6 +144,7 @@ impl<'a, 'g> Cursor<'a, 'g> {
     /// The next mark, and None behind the last.
     ///
     /// Cost: linear in the bits of the mark.
+    #[inline(always)]
     pub fn next(&mut self) -> Option<Mark>
         ensures next { IsNext self.old result self.new }
         ensures named { IfSome result (λ k. IsMarkOf self.old.grammar (mark_of k)) }

@@ -13,6 +13,7 @@ use wf_recur::Linear;
 use wf_spec::{Grammar, ModNo, PosNo, ProdNo, Step};
 
 /// The continuing step of a module, and `None` where it stands on no cycle.
+#[inline(always)]
 pub(crate) fn continuing_step(g: Linear<'_>, m: ModNo) -> Option<Step>
     requires in_range { m.0 < length g.grammar.now.core.modules }
     ensures { option_map step_of result ≡ continuing g.entry.grammar.now.core m.0 }
@@ -26,6 +27,7 @@ pub(crate) fn continuing_step(g: Linear<'_>, m: ModNo) -> Option<Step>
 }
 
 /// Whether a step is the continuing one of the module.
+#[inline(always)]
 fn is_continuing(g: Linear<'_>, m: ModNo, step: Step) -> bool
     requires in_range { m.0 < length g.grammar.now.core.modules }
     ensures { result ≡ continues g.entry.grammar.now.core m.0 (step_of step) }
@@ -39,6 +41,7 @@ fn is_continuing(g: Linear<'_>, m: ModNo, step: Step) -> bool
 }
 
 /// Reads the code of a number with one added. The number is below `count`.
+#[inline(always)]
 pub(crate) fn read_number(reader: &mut BitReader<'_>, count: usize) -> Result<usize, Malformed>
     requires { count < 2 ^ 63 }
     ensures below { IfOk result (λ n. n < count) }
@@ -52,6 +55,7 @@ pub(crate) fn read_number(reader: &mut BitReader<'_>, count: usize) -> Result<us
 }
 
 /// Passes the number of one of so many ports.
+#[inline(always)]
 fn pass_port(reader: &mut BitReader<'_>, ports: usize) -> Result<(), Malformed>
     requires { ports < 2 ^ 63 }
     ensures passed { OnOk result (IsPassed (IsPortLeft ports) IsPadding reader.old reader.new) }
@@ -62,6 +66,7 @@ fn pass_port(reader: &mut BitReader<'_>, ports: usize) -> Result<(), Malformed>
 }
 
 /// Passes the chain number of a module, and gives the module to which it leads. The number is there exactly if the module stands on a cycle, and is below 2^24.
+#[inline(always)]
 fn pass_chain(g: Linear<'_>, reader: &mut BitReader<'_>, m: ModNo) -> Result<ModNo, Malformed>
     requires in_range { m.0 < length g.grammar.now.core.modules }
     ensures in_range { IfOk result (λ k. k.0 < length g.entry.grammar.now.core.modules) }
@@ -76,6 +81,7 @@ fn pass_chain(g: Linear<'_>, reader: &mut BitReader<'_>, m: ModNo) -> Result<Mod
 }
 
 /// Reads an alternative number of a module, and gives the production.
+#[inline(always)]
 pub(crate) fn read_alternative(
     g: &Grammar,
     reader: &mut BitReader<'_>,
@@ -92,6 +98,7 @@ pub(crate) fn read_alternative(
 }
 
 /// Passes the position of a step by a production, and gives the module to which the step leads.
+#[inline(always)]
 fn pass_position(g: Linear<'_>, reader: &mut BitReader<'_>, p: ProdNo) -> Result<ModNo, Malformed>
     requires in_range { p.0 < length g.grammar.now.core.productions }
     ensures in_range { IfOk result (λ m. m.0 < length g.entry.grammar.now.core.modules) }
@@ -112,6 +119,7 @@ fn pass_position(g: Linear<'_>, reader: &mut BitReader<'_>, p: ProdNo) -> Result
 }
 
 /// Passes the edge of an ending by a production.
+#[inline(always)]
 fn pass_edge(g: &Grammar, reader: &mut BitReader<'_>, p: ProdNo) -> Result<(), Malformed>
     requires { p.0 < length g.now.core.productions }
     ensures passed { OnOk result (IsPassed (IsEndingByLeft g.now.core p.0) IsPadding reader.old reader.new) }
@@ -122,6 +130,7 @@ fn pass_edge(g: &Grammar, reader: &mut BitReader<'_>, p: ProdNo) -> Result<(), M
 }
 
 /// Passes a step or an ending of a module. Of a step it gives the module to which the step leads.
+#[inline(always)]
 fn pass_part(
     g: Linear<'_>,
     reader: &mut BitReader<'_>,
@@ -146,6 +155,7 @@ fn pass_part(
 }
 
 /// Passes the first part of a place at a module: a chain number, and a step or an ending. Of a step it gives the module to which the step leads.
+#[inline(always)]
 fn pass_first(
     g: Linear<'_>,
     reader: &mut BitReader<'_>,
@@ -162,6 +172,7 @@ fn pass_first(
 }
 
 /// Passes a place at the start module.
+#[inline(always)]
 fn pass_place(g: Linear<'_>, reader: &mut BitReader<'_>) -> Result<(), Malformed>
     ensures passed { OnOk result (IsPassed (IsPlaceLeft g.entry.grammar.now.core g.entry.grammar.now.core.start) IsPadding reader.old reader.new) }
     ensures malformed { IsErr result → ¬ IsPlaceLeft g.entry.grammar.now.core g.entry.grammar.now.core.start reader.old.left }

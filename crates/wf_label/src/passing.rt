@@ -8,6 +8,7 @@ use wf_spec::ModNo;
 /// The module to which so many continuing steps lead from a module on a cycle.
 ///
 /// Takes no memory. Cost: a few look-ups in the tables, however many steps there are.
+#[inline(always)]
 pub(crate) fn passed(g: Linear<'_>, m: ModNo, c: u32) -> ModNo
     requires module_no { m.0 < length g.grammar.now.core.modules }
     requires on_cycle { continuing g.grammar.now.core m.0 ≢ None }

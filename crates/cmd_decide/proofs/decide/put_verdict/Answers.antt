@@ -1,4 +1,4 @@
-use Rattle.std.proofs.Common.{◌∙◌}
+use Rattle.std.proofs.Common.{refl, ◌∙◌}
 use Rattle.std.proofs.lemmas.Result.{err_from_is_err_and}
 use Rattle.hex.specs.Hex.{decode_of}
 use Rattle.wf_message.specs.Endings.{end_of}
@@ -32,11 +32,14 @@ returns-in_err-second g c = record {
       (second_refused h c.args.v.now.view.core _ _ _ l.0 l.1 c.deref-2.result.now (c.deref-2.ensures.value ∙ c.in_ok-second_bytes.ensures.bytes) e.0 (end_of c.in_err-second.field-0.0) e.1);
 }
 
+pub returns-in_default : goal.returns-in_default
+returns-in_default g c = record { writes = decision_wants _ _ _ _ _ _ refl }
+
 pub returns : goal.returns
 returns g c = record {
   writes =
       let h = c.args.v.now.accepted.grammar.core in
       let l = label_told h c.deref.result.now (bytes_in (decode_of c.args.words.now.first.word.now)) c.in_ok-first.first (c.deref.ensures.value ∙ c.in_ok-first_bytes.ensures.bytes) c.in_ok-first.ensures.label in
       let k = label_told h c.deref-2.result.now (bytes_in (decode_of c.args.words.now.second.word.now)) c.in_ok-second.second (c.deref-2.ensures.value ∙ c.in_ok-second_bytes.ensures.bytes) c.in_ok-second.ensures.label in
-      verdict_written h c.args.v.now.view.core _ _ l.0 k.0 l.1 k.1 c.in_ok-verdict.verdict (c.in_ok-verdict.ensures.verdict l.0 k.0 l.1.0 k.1.0 l.2 k.2) c.verdict_line.result.now c.verdict_line.ensures _ _ _ c.put_text.ensures.writes;
+      verdict_written h c.args.v.now.view.core _ _ l.0 k.0 l.1 k.1 c.in-Ok.verdict (c.in-Ok.ensures.verdict l.0 k.0 l.1.0 k.1.0 l.2 k.2) c.verdict_line.result.now c.verdict_line.ensures _ _ _ c.put_text.ensures.writes;
 }

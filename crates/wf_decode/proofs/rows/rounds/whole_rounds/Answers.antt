@@ -1,12 +1,19 @@
-use Rattle.std.proofs.Common.{◌+◌, ◌∙◌, subst, sym}
+use Rattle.std.proofs.Common.{◌≡◌, ◌+◌, subst, arith}
 use Rattle.decode_model.specs.Legs.{squares}
 use Rattle.decode_model.specs.Rows.{Progress}
+use Rattle.decode_model.proofs.RowProducts.{progress_law}
 use Rattle.wf_vlabel.specs.Seen.{matrices_of}
 use Rattle.wf_decode.specs.HeldLegs.{module_on}
 use Rattle.wf_decode.specs.Ways.{square_on}
-use Rattle.wf_decode.proofs.Progressing.{square_one, square_none}
+use Rattle.wf_decode.proofs.Progressing.{square_one}
+use Rattle.wf_decode.proofs.Digits.{passed_over}
 use Rattle.wf_decode.proofs.rows.rounds.whole_rounds.Goals as goal
-use Rattle.wf_decode.proofs.rows.rounds.whole_rounds.Goals.{then-has_column, else-has_column}
+
+pub loop-k-init : goal.loop-k-init
+loop-k-init g c =
+    let square = square_on c.args.way (matrices_of c.args.vl.now) (module_on c.args.vl.now.cycles c.args.cycle.0 c.args.place) in
+    let next = c.next_digit-k.ensures in
+    (next.within, next.one, passed_over square c.args.rounds 0 c.next_digit-k.result c.args.row c.args.row c.args.steps.now c.args.steps.now next.from next.zeros (progress_law.none c.args.row c.args.steps.now))
 
 pub loop-k-preserved : goal.loop-k-preserved
 loop-k-preserved g c =
@@ -14,10 +21,13 @@ loop-k-preserved g c =
     let q = c.args.rounds in
     let k = c.loop-k.k in
     let start = c.args.steps.now in
-    elim c.if-has_column.branch [
-      | then-has_column w ↦ subst (λ z. Progress (squares square q (k + 1)) c.args.row z start c.if-has_column.steps) (sym w.row-is)
-          (square_one square q k c.args.row c.loop-k.row start c.loop-k.steps w.row_times-row.result c.if-has_column.steps c.loop-k.invariant (sym c.has_column.ensures ∙ w.if-has_column.true) (rw w.square.ensures at w.row_times-row.ensures.union) (w.steps-is ∙ w.row_times-row.ensures.cost))
-      | else-has_column w ↦ subst (λ z. Progress (squares square q (k + 1)) c.args.row z start c.if-has_column.steps) (sym w.row-is)
-          (subst (λ z. Progress (squares square q (k + 1)) c.args.row c.loop-k.row start z) (sym w.steps-is)
-          (square_none square q k c.args.row c.loop-k.row start c.loop-k.steps c.loop-k.invariant (sym c.has_column.ensures ∙ w.if-has_column.false)))
-    ]
+    let inv = c.loop-k.invariant in
+    let next = c.next_digit-k-in-loop-k.ensures in
+    let more = square_one square q k c.args.row c.loop-k.row start c.loop-k.steps c.row_times-row.result c.row_times-row.new.steps inv.2 (inv.1 c.loop-k-test.true) (rw c.square.ensures at c.row_times-row.ensures.union) c.row_times-row.ensures.cost in
+    (next.within, next.one, passed_over square q (k + 1) c.next_digit-k-in-loop-k.result c.args.row c.row_times-row.result start c.row_times-row.new.steps next.from next.zeros more)
+
+pub returns : goal.returns
+returns g c =
+    let inv = c.loop-k.invariant in
+    let whole : c.loop-k.k ≡ 24 = omega (arith, inv.0, c.loop-k-test.false) in
+    subst (λ z. Progress (squares (square_on c.args.way (matrices_of c.args.vl.now) (module_on c.args.vl.now.cycles c.args.cycle.0 c.args.place)) c.args.rounds z) c.args.row c.loop-k.row c.args.steps.now c.loop-k.steps) whole inv.2

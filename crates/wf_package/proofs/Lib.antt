@@ -1,0 +1,13 @@
+mod ByPlace
+mod FlaggedPlaces
+mod PairRows
+mod GivenParts
+mod PlacedParts
+mod PlacedBodies
+mod LoopParts
+pub mod SameText
+mod WorkedTexts
+mod BareGrammar
+mod WholeTexts
+mod ShownFound
+pub mod OneText

@@ -1,0 +1,16 @@
+use Rattle.std.proofs.Common.{◌∙◌, get_or, arith}
+use Rattle.std.proofs.lemmas.List.{get_or_default}
+use Rattle.wf_spec.proofs.Tables.{get_in}
+use Rattle.wf_package.specs.Parts.{given_part}
+use Rattle.wf_package.proofs.ByPlace.{place_more, place_all}
+use Rattle.wf_package.proofs.pairs.placed_pairs.Goals as goal
+
+pub add_given-requires : goal.add_given-requires
+add_given-requires c = c.requires.in_range (get_or c.args.numbers.now c.loop-k.k 0) (get_in c.loop-k.k c.args.numbers.now 0 c.loop-k-test.true)
+
+pub loop-k-preserved : goal.loop-k-preserved
+loop-k-preserved c =
+    place_more (given_part c.args.v.grammar.now.core c.args.v.view.now.core) c.args.numbers.now c.loop-k.k (get_or c.args.numbers.now c.loop-k.k 0) c.loop-k-test.true (get_or_default c.args.numbers.now c.loop-k.k 0 (get_or c.args.numbers.now c.loop-k.k 0) c.loop-k-test.true) c.loop-k.invariant c.in_ok-add_given.ensures
+
+pub returns : goal.returns
+returns c = c.loop-k.invariant ∙ place_all (given_part c.args.v.grammar.now.core c.args.v.view.now.core) c.args.numbers.now c.loop-k.k (omega (arith, c.loop-k-test.false))

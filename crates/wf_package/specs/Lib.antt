@@ -1,0 +1,4 @@
+pub mod PackageText
+pub mod Laws
+pub mod Examples
+pub mod Parts
