@@ -12,7 +12,7 @@ use Rattle.bit_pack.specs.Gamma.{digits, binary, gamma}
 use Rattle.bit_pack.specs.Laws.{PrefixFreeLaw, LengthLaw, BinaryLaw, SpellingLaw, CodesLaw}
 use Rattle.bit_pack.proofs.Fronts.{same_front, same_zeros, no_one}
 use Rattle.bit_pack.proofs.Numbers.{digit_back, number_small}
-use Rattle.bit_pack.proofs.LowBits.{low_bits-number}
+use Rattle.bit_pack.proofs.LowBits.{low_bits-number, low_bits-zeros}
 
 digits_back : (ds : List ℕ) → AllBelowBase 2 ds → map (λ b. cond b 1 0) (map (λ d. eqb d 1) ds) ≡ ds
 digits_back [] h = refl
@@ -135,3 +135,13 @@ unfolding gamma
 code_parts n d h small e =
     let k : d ≡ digits n = omega (arith, digits_counted n 64 h small) in
     ap (λ z. replicate (z - 1) false ++ low_bits z n) k ∙ ap (λ z. replicate (digits n - 1) false ++ z) (binary_is n)
+
+-- the leading zeros of a number tell how many digits it has, and so what it is below
+pub below_counted : (n d : ℕ) → 1 ≤ n → n < 2 ^ 64 → d ≡ 64 - count_leading_zeros 64 n → n < 2 ^ d
+below_counted n d h small e =
+    let k : digits n ≡ d = omega (arith, digits_counted n 64 h small) in
+    subst (λ z. n < 2 ^ z) k (below_digits n)
+
+-- as many lowest digits as the code has bits are the code
+pub code_digits : (n d : ℕ) → 1 ≤ n → n < 2 ^ 64 → d ≡ 64 - count_leading_zeros 64 n → low_bits (d - 1 + d) n ≡ gamma n
+code_digits n d h small e = low_bits-zeros (d - 1) d n (below_counted n d h small e) ∙ code_parts n d h small e

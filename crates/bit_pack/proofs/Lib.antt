@@ -9,4 +9,5 @@ pub mod CodesRead
 pub mod CodeOrNone
 pub mod Words
 pub mod Filling
+pub mod WordsHeld
 pub mod Cutting

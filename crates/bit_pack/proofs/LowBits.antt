@@ -52,6 +52,19 @@ low_bits-zero w =
     let m : 0 % 2 ^ w ≡ 0 = mod-eq_of_lt (pow_pos w) in
     same_from_number (low_bits w 0) (replicate w false) (length-low_bits w 0 ∙ sym (length-replicate w false)) (number-low_bits w 0 ∙ (m ∙ sym (number-zeros w)))
 
+-- a number with no more digits has zeros before them
+pub low_bits-zeros : (z w n : ℕ) → n < 2 ^ w → low_bits (z + w) n ≡ replicate z false ++ low_bits w n
+low_bits-zeros z w n h =
+    let none : n / 2 ^ w ≡ 0 = div-eq_of_lt h in
+    low_bits-add z w n ∙ ap (λ k. k ++ low_bits w n) (ap (low_bits z) none ∙ low_bits-zero z)
+
+-- what is below a power of 2 is below the higher ones
+pub more_digits : (n v w : ℕ) → n < 2 ^ v → v ≤ w → n < 2 ^ w
+more_digits n v w h order = within n (2 ^ v) (2 ^ w) h (pow-le-pow_right (omega arith) order)
+  where
+    within : (n a b : ℕ) → n < a → a ≤ b → n < b
+    within n a b h k = omega arith
+
 pub low_bits-one : (n : ℕ) → low_bits 1 n ≡ eqb (n % 2) 1 ∷ []
 unfolding low_bits
 low_bits-one n = refl
@@ -66,7 +79,7 @@ low_bits-suc w n =
 -- They are as many as its leading zeros, but for the digits that are left out
 pub leading_zeros : (v w n : ℕ) → 0 < n → n < 2 ^ w → w ≤ v → (j : ℕ) × (count_leading_zeros v n + suc j ≡ v) × (suc j ≤ w) × (low_bits w n ≡ replicate (w - suc j) false ++ true ∷ low_bits j n)
 leading_zeros v w n h small order =
-    let t = leading_top v n h (within n (2 ^ w) (2 ^ v) small (pow-le-pow_right (omega arith) order)) in
+    let t = leading_top v n h (more_digits n w v small order) in
     let j = t.0 in
     let few : suc j ≤ w = ⊎_elim (λ (l : w < suc j). let p : 2 ^ w ≤ 2 ^ j = pow-le-pow_right (omega arith) (omega arith) in absurd (omega (arith, t.2))) (λ l. l) (cases_lt w (suc j)) in
     let k : w ≡ (w - suc j) + suc j = omega arith in
@@ -79,9 +92,6 @@ leading_zeros v w n h small order =
           (ap (λ i. i ++ low_bits (suc j) n) (low_bits-zero (w - suc j)) ∙ ap (λ i. replicate (w - suc j) false ++ i) (low_bits-suc j n ∙ ap (λ b. b ∷ low_bits j n) (eq-eqb (n / 2 ^ j % 2) 1 one))))),
     )
   where
-    within : (n a b : ℕ) → n < a → a ≤ b → n < b
-    within n a b h k = omega arith
-
     top : (n p q : ℕ) → q ≡ p * 2 → p ≤ n → n < q → n / p % 2 ≡ 1
     top n p q e l m =
         let some : 0 < p = omega arith in

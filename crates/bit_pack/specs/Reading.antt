@@ -24,6 +24,10 @@ pub record IsWord (bits : List Bool) (held word : ℕ) : Type 0 where
   pub inside : held ≤ length bits
   pub is : word ≡ number (take held bits) * 2 ^ (64 - held)
 
+-- a word of 64 bits is these bits, and then zero bits
+abbrev pub IsWordOf : List Bool → ℕ → Type 0
+IsWordOf bits word = IsWord bits (length bits) word
+
 -- a reader stands at this place of bytes, and has the next bits, so many, in a word: none only where none is left
 pub record IsReaderAt (bytes : List ℕ) (at held word : ℕ) : Type 0 where
   pub inside : at ≤ 8 * length bytes

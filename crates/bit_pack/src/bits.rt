@@ -3,6 +3,7 @@ ghost use Rattle.std.specs.Prelude.{◌≡◌, ◌+◌, ◌*◌, ◌^◌, ◌<�
 ghost use Rattle.bit_pack.specs.Bits.{packed, Holds};
 ghost use Rattle.bit_pack.specs.Written.{first_bits, IsFilled};
 
+use crate::writer::BitWriter;
 use std::marker::Model;
 
 /// Bytes that are filled with bits: those into which the bits are packed.
@@ -17,28 +18,23 @@ pub(crate) fn packed_bytes(bytes: &[u8], end: u32) -> &[u8]
 /// Bits in bytes, as a writer leaves them. A caller sees them as a list of bits.
 #[derive(Drop)]
 pub struct Bits {
-    bytes: Vec<u8>,
-    end: u32,
+    written: BitWriter,
 }
 
 impl Model for Bits {
     ghost use Rattle.std.specs.Prelude.{Bool, List};
-    ghost use Rattle.bit_pack.specs.Written.{first_bits, IsWhole};
 
     ghost Value = { List Bool };
 
-    ghost view = { λ b. first_bits b.bytes.items b.end };
-
-    ghost invariant = { λ b. IsWhole b.bytes.items b.end };
+    ghost view = { λ b. b.written };
 }
 
 impl Bits {
-    /// The first bits of bytes, which only fewer than eight zero bits follow.
-    pub(crate) fn new(bytes: Vec<u8>, end: u32) -> Bits
-        requires { IsFilled bytes.items end }
-        ensures { result ≡ first_bits bytes.items end }
+    /// The bits that were written.
+    pub(crate) fn new(written: BitWriter) -> Bits
+        ensures { result ≡ written }
     {
-        Bits { bytes, end }
+        Bits { written }
     }
 
     /// The bytes that hold the bits.
@@ -49,13 +45,15 @@ impl Bits {
         ensures packed { result.now ≡ packed self.now }
         ensures few { length result.now ≤ 2 ^ 29 }
     {
-        &self.bytes
+        // There are fewer than 2^32 bits.
+        let _count = self.written.length();
+        self.written.bytes()
     }
 
     /// How many bits there are.
     pub fn length(&self) -> u32
         ensures { result ≡ length self.now }
     {
-        self.end
+        self.written.length()
     }
 }

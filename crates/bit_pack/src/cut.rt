@@ -1,5 +1,5 @@
 // Bits that are cut off the end of bytes.
-ghost use Rattle.std.specs.Prelude.{◌≡◌, ◌+◌, ◌*◌, ◌/◌, ◌%◌, ◌<◌, ◌≤◌, length};
+ghost use Rattle.std.specs.Prelude.{◌≡◌, ◌+◌, ◌*◌, ◌/◌, ◌%◌, ◌<◌, ◌≤◌, length, vec_capacity};
 ghost use Rattle.bit_pack.specs.Written.{first_bits, IsFilled};
 
 /// Makes the bits of the last byte zero from a place on, which stands within it.
@@ -19,6 +19,7 @@ pub fn cut(bytes: &mut Vec<u8>, count: u32)
     requires { count ≤ 8 * length bytes.old.items }
     ensures bits { first_bits bytes.new.items count ≡ first_bits bytes.old.items count }
     ensures filled { IsFilled bytes.new.items count }
+    ensures capacity { vec_capacity bytes.new ≡ vec_capacity bytes.old }
 {
     let at = count as usize;
     bytes.truncate((at + 7) / 8);

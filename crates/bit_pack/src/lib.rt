@@ -12,7 +12,9 @@ mod fault;
 mod law;
 mod put;
 mod reader;
+mod roomy;
 mod scan;
+mod short;
 mod word;
 mod writer;
 
@@ -22,4 +24,6 @@ pub use law::{
     binary_law, codes_law, held_law, length_law, packed_law, prefix_free_law, spelling_law,
 };
 pub use reader::BitReader;
+pub use roomy::RoomyWriter;
+pub use word::number_of;
 pub use writer::BitWriter;

@@ -35,7 +35,7 @@ fn put_part(bytes: &mut [u8], at: usize, part: u8, count: usize)
 }
 
 /// Writes the lowest digits of a number, so many, byte by byte. The bytes have zero bits there.
-fn put_number(bytes: &mut [u8], from: usize, number: u64, count: usize)
+pub(crate) fn put_number(bytes: &mut [u8], from: usize, number: u64, count: usize)
     requires free { IsFree bytes.old from }
     requires few { length bytes.old < 2 ^ 60 }
     requires inside { from + count ≤ 8 * length bytes.old }

@@ -1,5 +1,5 @@
 // The next bits of bytes, held in a word of 64 bits. The first of them is its most significant bit.
-ghost use Rattle.std.specs.Prelude.{◌≡◌, ◌+◌, ◌*◌, ◌^◌, ◌<◌, ◌≤◌, ◌↔◌, ℕ, Bool, List, ◌∷◌, length, drop, IfOk, Err};
+ghost use Rattle.std.specs.Prelude.{◌≡◌, ◌+◌, ◌*◌, ◌^◌, ◌<◌, ◌≤◌, ◌↔◌, ℕ, Bool, List, ◌∷◌, length, min, drop, IfOk, Err};
 ghost use Rattle.bit_pack.specs.Bits.{bits_of, number};
 ghost use Rattle.bit_pack.specs.Gamma.{gamma, Begins, BeginsAbove, HasNoCode};
 ghost use Rattle.bit_pack.specs.Reading.{IsWord};
@@ -8,8 +8,9 @@ use crate::code::code_at;
 use crate::fault::BitFault;
 use crate::scan::number_at;
 
-/// The number that the bits of at most eight bytes tell.
-fn number_of(bytes: &[u8]) -> u64
+/// The number that the bits of at most eight bytes tell. Takes no memory.
+#[inline(always)]
+pub fn number_of(bytes: &[u8]) -> u64
     requires { length bytes.now ≤ 8 }
     ensures { result ≡ number (bits_of bytes.now) }
 {
@@ -23,7 +24,7 @@ fn number_of(bytes: &[u8]) -> u64
 /// The first bits of bytes as a word, and how many they are: 64 at most.
 pub fn first_word(bytes: &[u8]) -> (u64, usize)
     ensures word { IsWord (bits_of bytes.now) result.1 result.0 }
-    ensures some { result.1 ≡ 0 → 0 ≡ 8 * length bytes.now }
+    ensures held { result.1 ≡ min 64 (8 * length bytes.now) }
 {
     let first = &bytes[..bytes.len().min(8)];
     let held = 8 * first.len();

@@ -4,6 +4,7 @@ pub mod Rounds
 pub mod ChainLegs
 pub mod RowProducts
 pub mod Squares
+pub mod StillSquares
 pub mod SeenLegs
 pub mod LegRows
 pub mod LastRows

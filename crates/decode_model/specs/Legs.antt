@@ -1,5 +1,5 @@
 -- A way in legs, and the matrices of its legs.
-use Rattle.std.specs.Prelude.{◌≡◌, ℕ, zero, suc, ◌/◌, ◌%◌, ◌^◌, ◌<◌, cond, List, [], ◌∷◌, ◌++◌, map, length, take}
+use Rattle.std.specs.Prelude.{◌≡◌, ℕ, zero, suc, ◌/◌, ◌%◌, ◌^◌, ◌<◌, ◌==◌, cond, List, [], ◌∷◌, ◌++◌, map, length, take, bytes_eq}
 use Rattle.bool_mat.specs.Matrix.{Matrix, has}
 use Rattle.wf_model.specs.Grammar.{Grammar, head_of}
 use Rattle.wf_model.specs.View.{View}
@@ -30,6 +30,19 @@ abbrev pub squares : (ℕ → Matrix) → ℕ → ℕ → List Matrix
 squares square q zero = []
 squares square q (suc n) = squares square q n ++ cond (has q n) (square n ∷ []) []
 
+-- the first of the n numbers from k on at which a square has the rows of the next one, so that it is its own square; k + n where there is none
+unfoldable pub still_from : (ℕ → Matrix) → ℕ → ℕ → ℕ
+still_from square k zero = k
+still_from square k (suc n) = cond (bytes_eq (square k).rows (square (suc k)).rows) k (still_from square (suc k) n)
+
+-- the number of the first of 24 squares that is its own square, and of the last of them where none is
+abbrev pub still : (ℕ → Matrix) → ℕ
+still square = still_from square 0 23
+
+-- the squares for the binary digits of q below that number, and then its square once, where a higher digit is 1
+abbrev pub squares_to : (ℕ → Matrix) → ℕ → List Matrix
+squares_to square q = squares square q (still square) ++ cond (q / 2 ^ still square == 0) [] (square (still square) ∷ [])
+
 -- the matrices of steps on the way up: the last step comes first
 abbrev pub each_up : ViewMatrices → List Step → List Matrix
 each_up v [] = []
@@ -38,13 +51,13 @@ each_up v (s ∷ steps) = each_up v steps ++ v.out_of s ∷ []
 -- the matrices of a leg on the way down: of a chain the squares come first
 abbrev pub leg_down : ViewMatrices → Leg → List Matrix
 leg_down v (One s) = v.into s ∷ []
-leg_down v (Chain m round c) = squares (v.square_in m) (c / length round) 24 ++ map v.into (take (c % length round) round)
+leg_down v (Chain m round c) = squares_to (v.square_in m) (c / length round) ++ map v.into (take (c % length round) round)
 leg_down v (Part m steps) = map v.into steps
 
 -- the matrices of a leg on the way up: of a chain the rest comes first
 abbrev pub leg_up : ViewMatrices → Leg → List Matrix
 leg_up v (One s) = v.out_of s ∷ []
-leg_up v (Chain m round c) = each_up v (take (c % length round) round) ++ squares (v.square_out m) (c / length round) 24
+leg_up v (Chain m round c) = each_up v (take (c % length round) round) ++ squares_to (v.square_out m) (c / length round)
 leg_up v (Part m steps) = each_up v steps
 
 -- the matrices of legs on the way down: the first leg comes first

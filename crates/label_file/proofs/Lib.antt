@@ -1,3 +1,4 @@
+pub mod Laid
 pub mod NamesAhead
 pub mod EntryFronts
 pub mod EntryParts

@@ -1,6 +1,6 @@
 -- Entries of a label file that were read so far.
-use Rattle.std.proofs.Common.{◌≡◌, ◌≢◌, ℕ, ◌+◌, ◌*◌, ◌≤◌, List, [], ◌∷◌, ◌++◌, length, refl, sym, ap, ◌∙◌, subst, inl, inr, arith, length-append}
-use Rattle.std.proofs.lemmas.List.{nil_from_length}
+use Rattle.std.proofs.Common.{◌≡◌, ◌≢◌, ℕ, ◌+◌, ◌-◌, ◌*◌, ◌^◌, ◌<◌, ◌≤◌, List, [], ◌∷◌, ◌++◌, length, drop, refl, sym, ap, ◌∙◌, subst, inl, inr, arith, append_assoc, length-append}
+use Rattle.std.proofs.lemmas.List.{nil_from_length, drop_at}
 use Rattle.wf_model.specs.Lists.{IsIn, AllDiffer}
 use Rattle.wf_model.specs.Grammar.{Grammar}
 use Rattle.bit_pack.specs.Bits.{Holds}
@@ -16,6 +16,8 @@ use Rattle.label_file.specs.declared.fault.StoreFault.TheVariants.{NotLabels as 
 pub record AreReadSoFar (g : Grammar) (digests : List (List ℕ)) (bytes rest : List ℕ) (hs : List EntryHeld) : Type 0 where
   pub before : List Entry
   pub held : AreHeldOf g before hs
+  pub passed : List ℕ
+  pub parts : bytes ≡ passed ++ rest
   pub offset : ℕ
   pub place : offset + length rest ≡ length bytes
   pub few : 3 * length hs ≤ offset
@@ -62,6 +64,8 @@ pub none_read : (g : Grammar) (digests : List (List ℕ)) (found bytes rest : Li
 none_read g digests found bytes rest i l q = record {
   before = [];
   held = tt;
+  passed = head_bytes found;
+  parts = q;
   offset = 36;
   place = (let n = ap length q in let m = length-append (head_bytes found) rest in omega (arith, n, m, length-head found l));
   few = omega arith;
@@ -92,11 +96,28 @@ module _ (g : Grammar) (digests : List (List ℕ)) (bytes rest : List ℕ) (hs :
       record {
         before = read.before ++ e ∷ [];
         held = subst (λ z. AreHeldOf g (read.before ++ e ∷ []) z) (sym added.is) (held_behind g read.before hs e _ read.held one);
+        passed = read.passed ++ entry_bytes e;
+        parts = read.parts ∙ (ap (λ z. read.passed ++ z) front.is ∙ sym (append_assoc read.passed (entry_bytes e) behind));
         offset = read.offset + length (entry_bytes e);
         place = omega (arith, n, m, read.place);
         few = omega (arith, k, l, length-entry e, read.few);
         goes_on = λ a r. read.goes_on a (whole e front added.named (λ i. added.first (is_held e.name i)) label r);
       }
+
+  -- the entry that follows stands where what is left begins
+  pub stands_at : (e : Entry) (behind : List ℕ) → IsFront e rest behind → (place : ℕ) → place ≡ length bytes - length rest → IsFront e (drop place bytes) behind
+  stands_at e behind front place q =
+      let n = ap length read.parts in
+      let m = length-append read.passed rest in
+      let long : length read.passed ≡ place = omega (arith, n, m, q) in
+      let same : drop place bytes ≡ rest = ap (drop place) read.parts ∙ drop_at read.passed rest place long in
+      record { room = front.room; is = same ∙ front.is }
+
+  pub stands_before : (e : Entry) (behind : List ℕ) → IsFront e rest behind → length bytes ≤ 2 ^ 30 → length bytes - length rest < 2 ^ 30
+  stands_before e behind front few =
+      let n = ap length front.is in
+      let m = length-append (entry_bytes e) behind in
+      omega (arith, n, m, length-entry e, read.place, few)
 
   -- nothing is left
   pub all_read : length rest ≡ 0 → IsStoreOf g digests bytes hs

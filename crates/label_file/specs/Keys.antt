@@ -1,17 +1,42 @@
--- Entries as keys of a table.
-use Rattle.std.specs.Prelude.{◌==◌, ◌&&◌, ℕ, Bool, List, map, bytes_eq}
-use Rattle.label_file.specs.declared.key.HashedName.{HashedName}
+-- Entries as keys of a table, and what of the file is held by them.
+use Rattle.std.specs.Prelude.{ℕ, ◌+◌, ◌-◌, ◌*◌, ◌≤◌, List, length, take, drop, map, get_or}
+use Rattle.bit_pack.specs.Written.{first_bits, IsFilled}
+use Rattle.label_model.specs.Files.{Entry, IsFront}
 use Rattle.label_file.specs.Stored.{EntryHeld}
 
--- an entry as a key: what is held of it, and the hash of its name
-pub record EntryKey : Type 0 where
-  pub held : EntryHeld
-  pub hash : ℕ
+-- an entry as a key: the number by which it is found, the place in the file where it begins, and how many zero bits fill the last byte of its label
+pub record EntryAt : Type 0 where
+  pub number : ℕ
+  pub place : ℕ
+  pub padding : ℕ
 
--- the entries of a table
-abbrev pub held : List EntryKey → List EntryHeld
-held ks = map (λ (k : EntryKey). k.held) ks
+-- the numbers of keys
+abbrev pub numbers : List EntryAt → List ℕ
+numbers ks = map (λ (k : EntryAt). k.number) ks
 
--- whether a key has this name and hash
-abbrev pub is_key : HashedName → EntryKey → Bool
-is_key n k = (n.hash == k.hash) && bytes_eq n.bytes.now k.held.name
+-- the bytes that stand behind their number, which is told in two bytes
+abbrev pub label_read : List ℕ → List ℕ
+label_read bytes = take (get_or bytes 0 0 * 256 + get_or bytes 1 0) (drop 2 bytes)
+
+-- the entry that is read at the front of bytes
+abbrev pub front_read : List ℕ → Entry
+front_read bytes = record { name = take (get_or bytes 0 0) (drop 1 bytes); label = label_read (drop (get_or bytes 0 0) (drop 1 bytes)) }
+
+-- what is held of an entry whose label has so many zero bits at its end: its name, and the bits before these
+abbrev pub held_of : Entry → ℕ → EntryHeld
+held_of e padding = record { name = e.name; bits = first_bits e.label (8 * length e.label - padding) }
+
+-- what is held by a key of the entries of a file
+abbrev pub held_at : List ℕ → EntryAt → EntryHeld
+held_at bytes k = held_of (front_read (drop k.place bytes)) k.padding
+
+-- and by keys, in order
+abbrev pub held : List ℕ → List EntryAt → List EntryHeld
+held bytes ks = map (held_at bytes) ks
+
+-- an entry stands at this place of the bytes, and its label fills its bytes up to so many zero bits
+pub record IsPlaced (bytes : List ℕ) (place padding : ℕ) (e : Entry) : Type 0 where
+  pub rest : List ℕ
+  pub front : IsFront e (drop place bytes) rest
+  pub padded : padding ≤ 8 * length e.label
+  pub filled : IsFilled e.label (8 * length e.label - padding)

@@ -1,11 +1,12 @@
 // The names of entries to come, hashed and looked up before the entries are tried.
 ghost use Rattle.std.specs.Prelude.{◌≡◌, ◌≤◌, ◌<◌, ◌+◌, ℕ, List, [], drop};
 ghost use Rattle.label_model.specs.Files.{Entry, IsFront};
-ghost use Rattle.label_file.specs.Hashed.{AreKeyed, AreNamesAhead, IsHashed};
+ghost use Rattle.label_file.specs.Hashed.{AreNamesAhead, IsHashed};
 
 use crate::front::cut_front;
-use crate::held::HeldEntry;
+use crate::held::EntryKey;
 use crate::key::HashedName;
+use crate::table::is_taken;
 use indexmap::IndexSet;
 use wf_names::KeyedHash;
 
@@ -35,9 +36,9 @@ fn hash_names<'a>(keyed: &KeyedHash, bytes: &'a [u8], names: &mut [HashedName<'a
 }
 
 /// Whether no entry has one of the names. What is read of the table for them is at hand when they are put.
-fn are_new(entries: &IndexSet<HeldEntry<'_>>, names: &[HashedName<'_>; AHEAD]) -> bool {
+fn are_new(entries: &IndexSet<EntryKey>, names: &[HashedName<'_>; AHEAD]) -> bool {
     // Nothing stands between these look-ups, so they wait for memory at one time.
-    !names.iter().any(|name| entries.contains(name))
+    !names.iter().any(|name| is_taken(entries, name))
 }
 
 /// The name at a place, which is that of the next entry.
@@ -76,7 +77,7 @@ impl<'a> Ahead<'a> {
     }
 
     /// Hashes and looks up the names of the next entries, where all before are taken.
-    fn fill(&mut self, keyed: &KeyedHash, entries: &IndexSet<HeldEntry<'a>>, rest: &'a [u8])
+    fn fill(&mut self, keyed: &KeyedHash, entries: &IndexSet<EntryKey>, rest: &'a [u8])
         requires at { self.old.at ≤ 16 }
         requires ahead { AreNamesAhead keyed.now rest.now (drop self.old.at self.old.names) }
         ensures at { self.new.at < 16 }
@@ -94,7 +95,7 @@ impl<'a> Ahead<'a> {
     pub(crate) fn next(
         &mut self,
         keyed: &KeyedHash,
-        entries: &IndexSet<HeldEntry<'a>>,
+        entries: &IndexSet<EntryKey>,
         rest: &'a [u8],
     ) -> (HashedName<'a>, bool)
         requires at { self.old.at ≤ 16 }

@@ -1,12 +1,11 @@
 // An entry, cut from the front of bytes.
 ghost use Rattle.std.specs.Prelude.{◌≡◌, ◌≢◌, ◌*◌, ◌/◌, ◌%◌, ◌^◌, ◌<◌, ◌≤◌, ◌∷◌, ◌++◌, ℕ, List, length, IfSome, IfNone};
 ghost use Rattle.label_model.specs.Files.{Entry, IsFront};
-ghost use Rattle.label_file.specs.Layout.{IsCut};
+ghost use Rattle.label_file.specs.Layout.{entry_at_front};
 
-/// An entry at the front of bytes, and the bytes behind it. Its own bytes are those from the name on, without the length of the name.
+/// An entry at the front of bytes, and the bytes behind it.
 #[derive(Clone, Copy)]
 pub(crate) struct Front<'a> {
-    pub(crate) bytes: &'a [u8],
     pub(crate) name: &'a [u8],
     pub(crate) label: &'a [u8],
     pub(crate) rest: &'a [u8],
@@ -36,18 +35,12 @@ fn cut_label(bytes: &[u8]) -> Option<(&[u8], &[u8])>
 ///
 /// Takes no memory, and reads four bytes at most.
 pub(crate) fn cut_front(bytes: &[u8]) -> Option<Front<'_>>
-    ensures some { IfSome result (λ f. IsFront (record { name = f.name.now; label = f.label.now }) bytes.now f.rest.now) }
-    ensures cut { IfSome result IsCut }
+    ensures some { IfSome result (λ f. IsFront (entry_at_front f) bytes.now f.rest.now) }
     ensures none { IfNone result ((e : Entry) (rest : List ℕ) → IsFront e bytes.now rest → ⊥) }
 {
     let (name, behind) = cut_name(bytes)?;
     let (label, rest) = cut_label(behind)?;
-    Some(Front {
-        bytes: &bytes[1..bytes.len() - rest.len()],
-        name,
-        label,
-        rest,
-    })
+    Some(Front { name, label, rest })
 }
 
 /// How many whole entries stand at the front of bytes, one behind the other. Their names and labels are not looked at.

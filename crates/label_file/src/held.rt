@@ -1,120 +1,88 @@
 // An entry that is held, as a key of a table.
-ghost use Rattle.std.specs.Prelude.{◌≡◌, ◌==◌, ◌&&◌, ◌+◌, ◌^◌, ◌<◌, ◌≤◌, length, take, bytes_eq};
+ghost use Rattle.std.specs.Prelude.{◌≡◌, ◌==◌, ◌^◌, ◌<◌};
 ghost use Rattle.std.specs.Hash as fed;
 ghost use Rattle.std.specs.Cmp.Rules.{comparing, hashing};
-ghost use Rattle.std.specs.Cmp.Lexicographic.{bytes_decides};
-ghost use Rattle.std.proofs.Common.{ap, rules};
-ghost use Rattle.std.proofs.lemmas.Bool.{and_parts, eqb-true};
-ghost use Rattle.bit_pack.specs.Written.{first_bits, IsFilled};
-ghost use Rattle.label_file.specs.Layout.{label_behind};
-ghost use Rattle.label_file.specs.Keys.{is_key};
+ghost use Rattle.std.proofs.Common.{rules};
 
-use crate::key::HashedName;
-use indexmap::Equivalent;
 use std::hash::{Hash, Hasher};
 use std::marker::Model;
 use std::mem::size_of;
-use wf_label::LabelRef;
 
-/// An entry of a label file whose label was tried: its bytes there from the name on to the end of the label, how many of them are the name, how many zero bits fill the last byte, and the hash of the name. It takes 24 bytes. A caller sees the name, the bits of the label and the hash.
+/// Where an entry of a label file stands, in 64 bits: a number of 31 bits, by which it is found; the place in the file where it begins, of 30 bits; and in 3 bits how many zero bits fill the last byte of its label. Two of one number are equal.
 #[derive(Drop)]
-pub struct HeldEntry<'a> {
-    bytes: &'a [u8],
-    hash: u32,
-    name: u8,
-    padding: u8,
+pub struct EntryKey {
+    word: u64,
 }
 
 // A store holds millions of entries.
-const _: () = prove!(size_of::<HeldEntry<'static>>() == 24);
+const _: () = prove!(size_of::<EntryKey>() == 8);
 
-impl<'a> Model for HeldEntry<'a> {
-    ghost use Rattle.label_file.specs.Layout.{entry_in, IsEntryIn};
-    ghost use Rattle.label_file.specs.Keys.{EntryKey};
+impl Model for EntryKey {
+    ghost use Rattle.std.specs.Prelude.{◌/◌, ◌%◌, ◌^◌};
+    ghost use Rattle.label_file.specs.Keys.{EntryAt};
 
-    ghost Value = { EntryKey };
+    ghost Value = { EntryAt };
 
-    ghost view = { λ e. record { held = entry_in e.bytes.now e.name e.padding; hash = e.hash } };
-
-    ghost invariant = { λ e. IsEntryIn e.bytes.now e.name e.padding };
+    ghost view = { λ k. record { number = k.word / 2 ^ 33; place = k.word / 8 % 2 ^ 30; padding = k.word % 8 } };
 }
 
-impl<'a> HeldEntry<'a> {
-    /// The entry of these bytes, of which so many are the name; the label behind it has so many bits.
-    pub(crate) fn new(bytes: &'a [u8], name: u8, bits: u32, hash: u32) -> HeldEntry<'a>
-        requires room { name + 2 ≤ length bytes.now }
-        requires few { length bytes.now < 2 ^ 17 }
-        requires filled { IsFilled (label_behind name bytes.now) bits }
-        ensures name { result.held.name ≡ take name bytes.now }
-        ensures bits { result.held.bits ≡ first_bits (label_behind name bytes.now) bits }
-        ensures hash { result.hash ≡ hash }
+impl EntryKey {
+    /// The key of an entry.
+    pub(crate) fn new(number: u32, place: u32, padding: u8) -> EntryKey
+        requires number { number < 2 ^ 31 }
+        requires place { place < 2 ^ 30 }
+        requires padding { padding < 8 }
+        ensures number { result.number ≡ number }
+        ensures place { result.place ≡ place }
+        ensures padding { result.padding ≡ padding }
     {
-        let room = 8 * (bytes.len() - name as usize - 2);
-        let padding = (room - bits as usize) as u8;
-        HeldEntry {
-            bytes,
-            hash,
-            name,
-            padding,
+        EntryKey {
+            word: number as u64 * (1 << 33) + place as u64 * 8 + padding as u64,
         }
     }
 
-    /// The name.
-    pub(crate) fn name(&self) -> &'a [u8]
-        ensures { result.now ≡ self.now.held.name }
+    /// The number.
+    fn number(&self) -> u32
+        ensures { result ≡ self.now.number }
     {
-        &self.bytes[..self.name as usize]
+        (self.word / (1 << 33)) as u32
     }
 
-    /// The label.
-    pub(crate) fn label(&self) -> LabelRef<'a>
-        ensures { result ≡ self.now.held.bits }
+    /// The place where the entry begins.
+    pub(crate) fn place(&self) -> u32
+        ensures { result ≡ self.now.place }
     {
-        let label = &self.bytes[self.name as usize + 2..];
-        LabelRef::new(label, 8 * label.len() as u32 - self.padding as u32)
+        (self.word / 8 % (1 << 30)) as u32
     }
 
-    /// The hash of the name.
-    fn hash_value(&self) -> u32
-        ensures { result ≡ self.now.hash }
+    /// How many zero bits fill the last byte of the label.
+    pub(crate) fn padding(&self) -> u8
+        ensures { result ≡ self.now.padding }
     {
-        self.hash
+        (self.word % 8) as u8
     }
 }
 
-impl<'a> PartialEq for HeldEntry<'a> {
-    ghost eq = { λ a b. (a.hash == b.hash) && bytes_eq a.held.name b.held.name };
+impl PartialEq for EntryKey {
+    ghost eq = { λ a b. a.number == b.number };
 
     ghost laws = { Prim.search (comparing, rules) };
 
-    fn eq(&self, other: &HeldEntry<'a>) -> bool {
-        self.hash_value() == other.hash_value() && self.name() == other.name()
+    fn eq(&self, other: &EntryKey) -> bool {
+        self.number() == other.number()
     }
 }
 
-impl<'a> Eq for HeldEntry<'a> {
+impl Eq for EntryKey {
     ghost laws = { Prim.search (comparing, rules) };
 }
 
-impl<'a> Hash for HeldEntry<'a> {
-    ghost hash_input = { λ a. fed.u32 a.hash };
+impl Hash for EntryKey {
+    ghost hash_input = { λ k. fed.u32 k.number };
 
     ghost respects_eq = { Prim.search (hashing, rules) };
 
     fn hash<H: Hasher>(&self, state: &mut H) {
-        state.write_u32(self.hash_value());
-    }
-}
-
-impl<'n, 'a> Equivalent<HeldEntry<'a>> for &HashedName<'n> {
-    ghost equivalent = { λ q k. is_key q.now k };
-
-    ghost respects_hash = { λ q k h. ap fed.u32 (eqb-true q.now.hash k.hash (and_parts _ _ h).0) };
-
-    ghost respects_eq = { λ q x y h. λ i. (eqb-true q.now.hash x.hash (and_parts _ _ h).0 i == y.hash) &&
-        bytes_eq ((bytes_decides q.now.bytes.now x.held.name).0 (and_parts _ _ h).1 i) y.held.name };
-
-    fn equivalent(&self, key: &HeldEntry<'a>) -> bool {
-        self.hash == key.hash_value() && self.bytes == key.name()
+        state.write_u32(self.number());
     }
 }

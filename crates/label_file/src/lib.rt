@@ -6,11 +6,15 @@ mod append;
 mod fault;
 mod fault_text;
 mod front;
+mod guesses;
 mod head;
 mod held;
 mod key;
+mod laying;
 mod store;
+mod table;
 
 pub use append::{append_entry, append_head, append_item};
 pub use fault::{StoreFault, StoreSpot};
+pub use guesses::{GUESSES, Guesses};
 pub use store::Store;

@@ -24,10 +24,10 @@ padding_either bits = ⊎_elim
     (one_or_zeros bits)
 
 -- bits begin with the code of a number with one added, and others are left
-abbrev BeginsWith : List Bool → Type 0
+abbrev pub BeginsWith : List Bool → Type 0
 BeginsWith bits = (n : ℕ) × (left : List Bool) × (bits ≡ gamma (n + 1) ++ left)
 
-code_either : (bits : List Bool) → Either (BeginsWith bits)
+pub code_either : (bits : List Bool) → Either (BeginsWith bits)
 code_either bits = ⊎_elim
     (λ r. let from_one = r.2.from_one in let e : r.0 ≡ (r.0 - 1) + 1 = omega arith in inl (r.0 - 1, r.1, r.2.is ∙ ap (λ n. gamma n ++ r.1) e))
     (λ none. inr (λ h. none (h.0 + 1) h.1 (omega arith) h.2))
@@ -53,7 +53,7 @@ rest_shorter m n bits rest e =
     let a = ap length e in let b = length-append (gamma (m + 1)) (gamma (n + 1) ++ rest) in let c = length-append (gamma (n + 1)) rest in omega arith
 
 -- what follows one code is not longer
-left_shorter : (n : ℕ) (bits left : List Bool) → bits ≡ gamma (n + 1) ++ left → length left ≤ length bits
+pub left_shorter : (n : ℕ) (bits left : List Bool) → bits ≡ gamma (n + 1) ++ left → length left ≤ length bits
 left_shorter n bits left e = let a = ap length e in let b = length-append (gamma (n + 1)) left in omega arith
 
 -- steps are the same or not
@@ -68,7 +68,7 @@ module _ (g : Grammar) where
       go None none = inr (λ e. let q = sym none ∙ e in absurd (cc))
       go (Some s) is = either_same (λ e. is ∙ ap Some e) (λ e. same_Some s t (sym is ∙ e)) (step_either s t)
 
-  step_of_either : (m : ℕ) (s : Step) → Either (IsStepOf g m s)
+  pub step_of_either : (m : ℕ) (s : Step) → Either (IsStepOf g m s)
   step_of_either m s = either_same
       (λ h. record { in_range = h.0; head = h.1; position = h.2 })
       (λ h. (h.in_range, h.head, h.position))

@@ -2,7 +2,7 @@
 use Rattle.std.proofs.Common.{◌≡◌, ℕ, ◌/◌, ◌%◌, ◌<◌, true, false, cond, ◌++◌, map, length, take, sym, ap, ◌∙◌, subst, arith}
 use Rattle.std.proofs.Math.Nat.{mod-lt}
 use Rattle.decode_model.specs.Rows.{Progress}
-use Rattle.decode_model.specs.Legs.{Part, leg_steps, squares, each_up, leg_down, leg_up}
+use Rattle.decode_model.specs.Legs.{Part, leg_steps, squares_to, each_up, leg_down, leg_up}
 use Rattle.wf_recur.specs.declared.table.CycleNo.{CycleNo}
 use Rattle.wf_recur.specs.Cycles.{round_at}
 use Rattle.wf_vlabel.specs.Seen.{ViewLabelSeen, matrices_of}
@@ -40,25 +40,25 @@ module _ (l : ViewLabelSeen) (k : CycleNo) (j n first : ℕ) where
         few_steps l.cycles k.0 j place r (omega arith) ∙ ap (λ z. take z round) e
 
     -- going down, whole rounds and then the rest
-    pub whole_down : is_whole l k.0 ≡ true → Progress (squares ((matrices_of l).square_in (module_on l.cycles k.0 j)) q 24) first next start then →
+    pub whole_down : is_whole l k.0 ≡ true → Progress (squares_to ((matrices_of l).square_in (module_on l.cycles k.0 j)) q) first next start then →
         Progress (map (matrices_of l).into (leg_steps (chain_from l.cycles k.0 j r))) next row then now → Progress (leg_down (matrices_of l) (leg_of l (ChainHeld k j n))) first row start now
     whole_down e a b =
         let v = matrices_of l in
         let square = v.square_in (module_on l.cycles k.0 j) in
         let steps = leg_steps (chain_from l.cycles k.0 j r) in
-        let same : squares square q 24 ++ map v.into steps ≡ leg_down v (chain_from l.cycles k.0 j n) =
-        ap (λ z. squares square z 24 ++ map v.into steps) whole_rounds ∙ ap (λ z. squares square (n / length (round_from l.cycles k.0 j)) 24 ++ map v.into z) whole_rest in
+        let same : squares_to square q ++ map v.into steps ≡ leg_down v (chain_from l.cycles k.0 j n) =
+        ap (λ z. squares_to square z ++ map v.into steps) whole_rounds ∙ ap (λ z. squares_to square (n / length (round_from l.cycles k.0 j)) ++ map v.into z) whole_rest in
         subst (λ z. Progress z first row start now) (same ∙ ap (leg_down v) (sym (whole_leg e)))
-        (progress_append (squares square q 24) (map v.into steps) first next row start then now a b)
+        (progress_append (squares_to square q) (map v.into steps) first next row start then now a b)
 
     -- going up, the rest and then whole rounds
     pub whole_up : is_whole l k.0 ≡ true → Progress (each_up (matrices_of l) (leg_steps (chain_from l.cycles k.0 j r))) first next start then →
-        Progress (squares ((matrices_of l).square_out (module_on l.cycles k.0 j)) q 24) next row then now → Progress (leg_up (matrices_of l) (leg_of l (ChainHeld k j n))) first row start now
+        Progress (squares_to ((matrices_of l).square_out (module_on l.cycles k.0 j)) q) next row then now → Progress (leg_up (matrices_of l) (leg_of l (ChainHeld k j n))) first row start now
     whole_up e a b =
         let v = matrices_of l in
         let square = v.square_out (module_on l.cycles k.0 j) in
         let steps = leg_steps (chain_from l.cycles k.0 j r) in
-        let same : each_up v steps ++ squares square q 24 ≡ leg_up v (chain_from l.cycles k.0 j n) =
-        ap (λ z. each_up v steps ++ squares square z 24) whole_rounds ∙ ap (λ z. each_up v z ++ squares square (n / length (round_from l.cycles k.0 j)) 24) whole_rest in
+        let same : each_up v steps ++ squares_to square q ≡ leg_up v (chain_from l.cycles k.0 j n) =
+        ap (λ z. each_up v steps ++ squares_to square z) whole_rounds ∙ ap (λ z. each_up v z ++ squares_to square (n / length (round_from l.cycles k.0 j))) whole_rest in
         subst (λ z. Progress z first row start now) (same ∙ ap (leg_up v) (sym (whole_leg e)))
-        (progress_append (each_up v steps) (squares square q 24) first next row start then now a b)
+        (progress_append (each_up v steps) (squares_to square q) first next row start then now a b)

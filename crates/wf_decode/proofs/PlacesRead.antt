@@ -17,6 +17,10 @@ stands_held l legs at d k j n i e h =
     let held : AreHeld l h.0 false (ChainHeld k j n ∷ drop (at + 1) legs) = subst (AreHeld l h.0 false) (drop_at legs at d (ChainHeld k j n) i e) h.1 in
     held.1
 
+-- the module at a place, from the number of the place
+pub place_read : (t : CyclesSeen) (k at place m : ℕ) → at ≡ place → m ≡ get_or (get_or t.rounds k []) at 0 → m ≡ get_or (get_or t.rounds k []) place 0
+place_read t k at place m e is = is ∙ ap (λ z. get_or (get_or t.rounds k []) z 0) e
+
 module _ (l : ViewLabelSeen) (label : IsViewLabel l) (t : CyclesSeen) (same : t ≡ l.cycles) (k j n many m : ℕ) (cycle : k < length l.cycles.rounds) (place : j < length (round_at l.cycles k))
     (many_is : many ≡ length (get_or t.rounds k [])) (is : m ≡ get_or (get_or t.rounds k []) ((j + n) % many) 0) where
   pub length_read : many ≡ length (round_at l.cycles k)

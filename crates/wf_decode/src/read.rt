@@ -6,7 +6,7 @@ ghost use Rattle.wf_model.specs.Reach.{target_of};
 ghost use Rattle.label_model.specs.Continuing.{continuing};
 ghost use Rattle.label_model.specs.Labels.{Label, IsLabel, label_bits};
 ghost use Rattle.wf_recur.specs.Cycles.{step_of};
-ghost use Rattle.wf_label.specs.Marks.{Mark as MarkSeen, IsMarkOf, mark_of};
+ghost use Rattle.wf_label.specs.Marks.{Mark as MarkSeen, AreLeft, IsMarkOf, mark_of, marks_of};
 ghost use Rattle.wf_label.specs.Values.{AreLabelBits};
 ghost use Rattle.wf_vlabel.specs.Seen.{IsLabelOfView, is_expanded};
 ghost use Rattle.wf_decode.specs.declared.leg.Leg.{Leg as LegHeld};
@@ -14,7 +14,7 @@ ghost use Rattle.wf_decode.specs.Marking.{IsReading, IsTaken, IsChainHeld, IsCut
 ghost use Rattle.wf_decode.specs.Reading.{IsTold, most_legs};
 
 use crate::leg::Leg;
-use wf_label::{LabelRef, Mark};
+use wf_label::{Codes, Cursor, LabelRef, Mark, turns};
 use wf_spec::{EdgeNo, ModNo, PortNo, ProdNo, Step};
 use wf_vlabel::ViewLabel;
 
@@ -63,7 +63,8 @@ fn chain_leg(vl: &ViewLabel<'_>, at: ModNo, count: u32) -> Option<(Leg, ModNo)>
         }
     }
     let length = cycles.length(on.cycle) as u64;
-    let to = (on.place as u64 + count as u64) % length;
+    let turned = turns(on.place as u64 + count as u64, length);
+    let to = turned.1;
     prove!(to < 65536);
     let leg = Leg::Chain {
         cycle: on.cycle,
@@ -143,10 +144,32 @@ pub(crate) fn read_label(vl: &ViewLabel<'_>, label: &LabelRef<'_>, legs: &mut [L
     ensures room { length legs.new ≡ length legs.old }
 {
     let g = vl.linear();
-    let mut cursor = label.cursor(g);
+    match label.short_cursor(g) {
+        Some(cursor) => read_marks(vl, label, cursor, legs),
+        None => read_marks(vl, label, label.cursor(g), legs),
+    }
+}
+
+/// The same, from a reader of the marks of the label.
+#[inline(always)]
+fn read_marks<R: Codes + Drop>(
+    vl: &ViewLabel<'_>,
+    label: &LabelRef<'_>,
+    cursor: Cursor<'_, R>,
+    legs: &mut [Leg],
+) -> Told
+    requires label { AreLabelBits vl.now.grammar label.now }
+    requires room { most_legs vl.now.grammar ≤ length legs.old }
+    requires grammar { cursor.grammar ≡ vl.now.grammar }
+    requires marks { (x : Label) → IsLabel vl.now.grammar x → label.now ≡ label_bits x → AreLeft cursor (marks_of vl.now.grammar x) }
+    ensures told { (u : View) (x : Label) → IsLabelOfView vl.now u → IsLabel vl.now.grammar x → label.now ≡ label_bits x → IsTold vl.now u x result legs.new }
+    ensures room { length legs.new ≡ length legs.old }
+{
+    let g = vl.linear();
+    let mut left = cursor;
     let mut at = g.grammar.start();
     let mut held = 0;
-    while let Some(mark) = cursor.next() {
+    while let Some(mark) = left.next() {
         match take_mark(vl, at, mark, held) {
             Taken::Ends(told) => return told,
             Taken::Goes(leg, to) => {

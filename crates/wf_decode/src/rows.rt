@@ -16,6 +16,7 @@ use crate::rows::continuing::{continuing_down, continuing_up};
 use crate::rows::rounds::whole_rounds;
 use bool_mat::{Steps, row_times};
 use std::sync::ledger::Ledger;
+use wf_label::turns;
 use wf_recur::CycleNo;
 use wf_vlabel::{ViewLabel, Way};
 
@@ -69,9 +70,10 @@ fn down_chain<L: Ledger>(
     if vl.cut(cycle, place).is_some() {
         return continuing_down(vl, cycle, place, count, row, steps);
     }
-    let length = cycles.length(cycle) as u32;
-    let row = whole_rounds(vl, Way::Down, cycle, place, count / length, row, steps);
-    continuing_down(vl, cycle, place, count % length, row, steps)
+    let length = cycles.length(cycle) as u64;
+    let turned = turns(count as u64, length);
+    let row = whole_rounds(vl, Way::Down, cycle, place, turned.0 as u32, row, steps);
+    continuing_down(vl, cycle, place, turned.1 as u32, row, steps)
 }
 
 /// The row times the matrices on the way up the legs, the last leg first: of a chain of a cycle that the view shows whole those of the rest first, its last step first, and then those of whole rounds, by squares.
@@ -119,7 +121,8 @@ fn up_chain<L: Ledger>(
     if vl.cut(cycle, place).is_some() {
         return continuing_up(vl, cycle, place, count, row, steps);
     }
-    let length = cycles.length(cycle) as u32;
-    let row = continuing_up(vl, cycle, place, count % length, row, steps);
-    whole_rounds(vl, Way::Up, cycle, place, count / length, row, steps)
+    let length = cycles.length(cycle) as u64;
+    let turned = turns(count as u64, length);
+    let row = continuing_up(vl, cycle, place, turned.1 as u32, row, steps);
+    whole_rounds(vl, Way::Up, cycle, place, turned.0 as u32, row, steps)
 }

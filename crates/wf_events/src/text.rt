@@ -2,18 +2,25 @@
 ghost use Rattle.std.specs.Prelude.{◌≡◌, ◌++◌, ◌∷◌, ◌≤◌, true, length, take, IfSome};
 ghost use Rattle.wf_events.specs.Plain.{is_plain, is_plain_text};
 
-/// The bytes behind a piece; None where they do not begin with it.
+/// The bytes behind a piece; None where they do not begin with it. In line, a piece of known length is compared by words.
+#[inline(always)]
 pub(crate) fn behind<'a>(bytes: &'a [u8], piece: &[u8]) -> Option<&'a [u8]>
     ensures { IfSome result (λ rest. bytes.now ≡ piece.now ++ rest.now) }
 {
     bytes.strip_prefix(piece)
 }
 
-/// Whether a byte stands for itself in a text.
+/// Whether a byte stands for itself in a text. Digits and letters, of which names are made, are told by one range or two.
 #[inline(always)]
 fn stands_for_itself(b: u8) -> bool
     ensures { result ≡ is_plain b }
 {
+    if 34 < b && b < 92 {
+        return true;
+    }
+    if 92 < b && b <= 126 {
+        return true;
+    }
     32 <= b && b <= 126 && b != 34 && b != 92
 }
 

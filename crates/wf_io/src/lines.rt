@@ -144,6 +144,11 @@ impl<'n> Lines<'n> {
         &self.window.bytes()[..self.text]
     }
 
+    /// All that is held, from the line that was last lent on. Nothing is promised of it: it serves to look ahead.
+    pub fn window(&self) -> &[u8] {
+        self.window.bytes()
+    }
+
     /// Whether it holds no whole line, and the file is to be read on.
     pub fn wants(&self) -> bool
         ensures { result ≡ self.now.wants }

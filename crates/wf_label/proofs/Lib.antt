@@ -4,8 +4,11 @@ pub mod AlternativeNumbers
 pub mod Passes
 pub mod PartsLeft
 pub mod WholeLabels
+pub mod ShortWords
+pub mod Shared
 pub mod MarksRead
 pub mod MarksSpelled
 pub mod MarksNamed
 pub mod LabelFirst
+pub mod LabelBegun
 pub mod Counts

@@ -1,7 +1,8 @@
 -- A label that was read up to its padding.
-use Rattle.std.proofs.Common.{◌≡◌, ◌↔◌, ℕ, ◌+◌, ◌-◌, ◌*◌, ◌^◌, ◌<◌, Bool, false, List, [], ◌++◌, length, take, drop, replicate, refl, sym, ap, ◌∙◌, subst, arith, append_assoc, append-nil, length-append}
+use Rattle.std.proofs.Common.{◌≡◌, ◌↔◌, ℕ, ◌+◌, ◌-◌, ◌*◌, ◌^◌, ◌<◌, Bool, false, List, [], ◌++◌, length, take, drop, replicate, Result, Ok, Err, refl, sym, ap, ◌∙◌, subst, arith, append_assoc, append-nil, length-append}
 use Rattle.std.proofs.Math.Seq.{take-append_seam, drop-append_seam}
 use Rattle.std.proofs.lemmas.List.{length-replicate}
+use Rattle.std.specs.Result.{IfErr}
 use Rattle.wf_model.specs.Grammar.{Grammar}
 use Rattle.wf_model.specs.Linear.{IsLinear}
 use Rattle.wf_model.specs.WellFormed.{IsWellFormed}
@@ -14,7 +15,7 @@ use Rattle.label_model.specs.Reading.{IsPadding as IsPaddingLeft, IsLabelBytes, 
 use Rattle.label_model.proofs.LabelBits.{prefix_free_law}
 use Rattle.label_model.proofs.LabelRoom.{room_law}
 use Rattle.label_model.proofs.ReadFromFront.{reading_law, left_label}
-use Rattle.wf_label.specs.Parts.{IsPassed}
+use Rattle.wf_label.specs.Parts.{IsPassed, at_front}
 use Rattle.wf_label.specs.Values.{AreLabelBits}
 use Rattle.wf_label.proofs.Passes.{passed_back}
 
@@ -37,10 +38,6 @@ left_padding : (bits : List Bool) → IsPaddingLeft bits → IsPadding bits
 left_padding bits h =
     let n = ap length h.2 ∙ length-replicate h.0 false in
     record { few = omega (arith, n, h.1); zeros = h.2 ∙ ap (λ z. replicate z false) (sym n) }
-
--- a reader of all bits of the bytes
-abbrev pub at_front : List ℕ → Reading
-at_front bytes = record { at = 0; left = bits_of bytes }
 
 module _ (g : Grammar) (bytes : List ℕ) (r : Reading) (h : IsPassed (IsLabelLeft g) IsPaddingLeft (at_front bytes) r) where
   -- the place of the reader
@@ -83,3 +80,8 @@ pub few_bytes : (g : Grammar) (bytes : List ℕ) → IsWellFormed g → IsLinear
 few_bytes g bytes formed linear many l =
     let room = room_law g formed linear l.0 l.1 in
     omega (arith, room, l.2.few, sym (length-bits_of bytes) ∙ (ap length l.2.is ∙ length-append (label_bits l.0) (replicate l.2.padding false)), length-replicate l.2.padding false)
+
+-- what holds holds at each error
+pub at_error : {T E : Type 0} (P : Type 0) (r : Result T E) → P → IfErr r (λ _. P)
+at_error P (Ok x) h = tt
+at_error P (Err e) h = h

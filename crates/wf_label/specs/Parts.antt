@@ -1,7 +1,9 @@
 -- What is read of a label from the front, part by part.
 use Rattle.std.specs.Prelude.{◌≡◌, ◌≢◌, ◌↔◌, ℕ, ◌+◌, ◌<◌, Bool, true, false, List, ◌∷◌, ◌++◌, length, Option, Some, None}
 use Rattle.wf_model.specs.declared.numbers.ModNo.{ModNo}
+use Rattle.wf_model.specs.declared.numbers.ProdNo.{ProdNo}
 use Rattle.wf_model.specs.Grammar.{Grammar, head_of, alternative_of, IsProductionOf}
+use Rattle.bit_pack.specs.Bits.{bits_of}
 use Rattle.bit_pack.specs.Gamma.{gamma}
 use Rattle.bit_pack.specs.Reading.{Reading}
 use Rattle.label_model.specs.Reading.{IsPadding, IsPlaceLeft, IsPartLeft}
@@ -12,6 +14,10 @@ pub record IsPassed (before after : List Bool → Type 0) (old new : Reading) : 
   pub is : old.left ≡ bits ++ new.left
   pub at : new.at ≡ old.at + length bits
   pub same : (left : List Bool) → before (bits ++ left) ↔ after left
+
+-- a reader of all bits of the bytes
+abbrev pub at_front : List ℕ → Reading
+at_front bytes = record { at = 0; left = bits_of bytes }
 
 -- the code of n + 1 was read
 pub record IsNumberRead (n : ℕ) (old new : Reading) : Type 0 where
@@ -38,3 +44,15 @@ IsEndingByLeft g p bits = IsPartLeft g (head_of g p) (false ∷ (gamma (alternat
 abbrev pub IsNextLeft : Grammar → Option ModNo → List Bool → Type 0
 IsNextLeft g None bits = IsPadding bits
 IsNextLeft g (Some m) bits = IsPlaceLeft g m.0 bits
+
+-- a chain number was passed, which leads from the one module to the other
+abbrev pub IsChainPassed : Grammar → ModNo → ModNo → Reading → Reading → Type 0
+IsChainPassed g m k = IsPassed (IsPlaceLeft g m.0) (IsPartLeft g k.0)
+
+-- the position of a step by the production was passed, which leads to the module
+abbrev pub IsPositionPassed : Grammar → ProdNo → ModNo → Reading → Reading → Type 0
+IsPositionPassed g p m = IsPassed (IsStepByLeft g p.0) (IsPlaceLeft g m.0)
+
+-- a step or an ending of the module was passed; a step leads to a module
+abbrev pub IsPartPassed : Grammar → ModNo → Option ModNo → Reading → Reading → Type 0
+IsPartPassed g k to = IsPassed (IsPartLeft g k.0) (IsNextLeft g to)

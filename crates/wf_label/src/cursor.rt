@@ -4,9 +4,11 @@ ghost use Rattle.label_model.specs.Labels.{Label, label_bits, IsLabel};
 ghost use Rattle.wf_label.specs.Marks.{marks_of, mark_of, HasMarks, IsMarkOf, IsFirst, IsNext, AreLeft};
 ghost use Rattle.wf_label.specs.Values.{AreLabelBits};
 
-use crate::parts::{continuing_step, read_alternative, read_number};
+use crate::codes::Codes;
+use crate::parts::{continuing_step, read_alternative};
 use crate::passing::passed;
 use crate::reference::LabelRef;
+use crate::short::{ShortBytes, ShortReader};
 use bit_pack::BitReader;
 use std::marker::Model;
 use wf_recur::Linear;
@@ -42,19 +44,19 @@ enum Ahead {
 
 /// Reads a step or an ending at a module.
 #[inline(always)]
-fn part_mark(g: &Grammar, bits: &mut BitReader<'_>, m: ModNo) -> (Mark, Ahead)
-    requires { HasMarks g.now.core (Ahead.Passed m) bits.old.left }
-    ensures first { IsFirst g.now.core (Ahead.Passed m) bits.old.left result.0 result.1 bits.new.left }
-    ensures fewer { length bits.new.left < length bits.old.left }
+fn part_mark<R: Codes>(g: &Grammar, bits: &mut R, m: ModNo) -> (Mark, Ahead)
+    requires { HasMarks g.now.core (Ahead.Passed m) (R.reading bits.old).left }
+    ensures first { IsFirst g.now.core (Ahead.Passed m) (R.reading bits.old).left result.0 result.1 (R.reading bits.new).left }
+    ensures fewer { length (R.reading bits.new).left < length (R.reading bits.old).left }
 {
     // A grammar is well-formed.
     let _formed = g.start();
-    let is_step = bits.bit().unwrap();
+    let is_step = bits.next_bit().unwrap();
     let production = read_alternative(g, bits, m).unwrap();
     let rule = g.production(production);
     if is_step {
         let positions = rule.positions();
-        let i = read_number(bits, positions.len()).unwrap();
+        let i = bits.next_number(positions.len()).unwrap();
         prove!(i < 64);
         let position = PosNo(i as u8);
         let step = Step {
@@ -63,7 +65,7 @@ fn part_mark(g: &Grammar, bits: &mut BitReader<'_>, m: ModNo) -> (Mark, Ahead)
         };
         return (Mark::Into(step), Ahead::Entered(positions[i].module));
     }
-    let e = read_number(bits, rule.edges().len()).unwrap();
+    let e = bits.next_number(rule.edges().len()).unwrap();
     prove!(e < 4096);
     let edge = EdgeNo(e as u16);
     (Mark::End { production, edge }, Ahead::Nothing)
@@ -71,34 +73,34 @@ fn part_mark(g: &Grammar, bits: &mut BitReader<'_>, m: ModNo) -> (Mark, Ahead)
 
 /// Reads the chain number of a module, or what comes next if the module is on no cycle.
 #[inline(always)]
-fn place_mark(g: Linear<'_>, bits: &mut BitReader<'_>, m: ModNo) -> (Mark, Ahead)
-    requires marks { HasMarks g.grammar.now.core (Ahead.Entered m) bits.old.left }
-    ensures first { IsFirst g.entry.grammar.now.core (Ahead.Entered m) bits.old.left result.0 result.1 bits.new.left }
-    ensures fewer { length bits.new.left < length bits.old.left }
+fn place_mark<R: Codes>(g: Linear<'_>, bits: &mut R, m: ModNo) -> (Mark, Ahead)
+    requires marks { HasMarks g.grammar.now.core (Ahead.Entered m) (R.reading bits.old).left }
+    ensures first { IsFirst g.entry.grammar.now.core (Ahead.Entered m) (R.reading bits.old).left result.0 result.1 (R.reading bits.new).left }
+    ensures fewer { length (R.reading bits.new).left < length (R.reading bits.old).left }
 {
     // A grammar is well-formed.
     let _formed = g.grammar.start();
     if continuing_step(g, m).is_none() {
         return part_mark(g.grammar, bits, m);
     }
-    let c = read_number(bits, 1 << 24).unwrap() as u32;
+    let c = bits.next_number(1 << 24).unwrap() as u32;
     (Mark::Chain(c), Ahead::Passed(passed(g, m, c)))
 }
 
 /// Reads a port of the root, or the first mark of the place of an edge.
 #[inline(always)]
-fn label_mark(g: Linear<'_>, bits: &mut BitReader<'_>) -> (Mark, Ahead)
-    requires marks { HasMarks g.grammar.now.core Ahead.Whole bits.old.left }
-    ensures first { IsFirst g.entry.grammar.now.core Ahead.Whole bits.old.left result.0 result.1 bits.new.left }
-    ensures fewer { length bits.new.left < length bits.old.left }
+fn label_mark<R: Codes>(g: Linear<'_>, bits: &mut R) -> (Mark, Ahead)
+    requires marks { HasMarks g.grammar.now.core Ahead.Whole (R.reading bits.old).left }
+    ensures first { IsFirst g.entry.grammar.now.core Ahead.Whole (R.reading bits.old).left result.0 result.1 (R.reading bits.new).left }
+    ensures fewer { length (R.reading bits.new).left < length (R.reading bits.old).left }
 {
     let start = g.grammar.start();
-    let of_edge = bits.bit().unwrap();
+    let of_edge = bits.next_bit().unwrap();
     if of_edge {
         return place_mark(g, bits, start);
     }
-    let is_output = bits.bit().unwrap();
-    let port = PortNo(read_number(bits, 64).unwrap() as u8);
+    let is_output = bits.next_bit().unwrap();
+    let port = PortNo(bits.next_number(64).unwrap() as u8);
     if is_output {
         return (Mark::Output(port), Ahead::Nothing);
     }
@@ -107,10 +109,10 @@ fn label_mark(g: Linear<'_>, bits: &mut BitReader<'_>) -> (Mark, Ahead)
 
 /// Reads the first mark of what is ahead, and tells what is ahead then.
 #[inline(always)]
-fn read_mark(g: Linear<'_>, bits: &mut BitReader<'_>, ahead: Ahead) -> Option<(Mark, Ahead)>
-    requires marks { HasMarks g.grammar.now.core ahead bits.old.left }
-    ensures first { MatchOption result ((ahead ≡ Ahead.Nothing) × (bits.new ≡ bits.old)) (λ r. IsFirst g.entry.grammar.now.core ahead bits.old.left r.0 r.1 bits.new.left) }
-    ensures fewer { IfSome result (λ _. length bits.new.left < length bits.old.left) }
+fn read_mark<R: Codes>(g: Linear<'_>, bits: &mut R, ahead: Ahead) -> Option<(Mark, Ahead)>
+    requires marks { HasMarks g.grammar.now.core ahead (R.reading bits.old).left }
+    ensures first { MatchOption result ((ahead ≡ Ahead.Nothing) × (bits.new ≡ bits.old)) (λ r. IsFirst g.entry.grammar.now.core ahead (R.reading bits.old).left r.0 r.1 (R.reading bits.new).left) }
+    ensures fewer { IfSome result (λ _. length (R.reading bits.new).left < length (R.reading bits.old).left) }
 {
     match ahead {
         Ahead::Whole => Some(label_mark(g, bits)),
@@ -124,23 +126,23 @@ fn read_mark(g: Linear<'_>, bits: &mut BitReader<'_>, ahead: Ahead) -> Option<(M
 ///
 /// It takes no memory. A chain number is told as one mark, however many steps it stands for, and is not walked step by step.
 #[derive(Drop)]
-pub struct Cursor<'a, 'g> {
+pub struct Cursor<'g, R: Codes> {
     g: Linear<'g>,
-    bits: BitReader<'a>,
+    bits: R,
     ahead: Ahead,
 }
 
-impl<'a, 'g> Model for Cursor<'a, 'g> {
+impl<'g, R: Codes> Model for Cursor<'g, R> {
     ghost use Rattle.wf_label.specs.Marks.{CursorSeen, HasMarks};
 
     ghost Value = { CursorSeen };
 
-    ghost view = { λ c. record { grammar = c.g.grammar.now.core; ahead = c.ahead; left = c.bits.left } };
+    ghost view = { λ c. record { grammar = c.g.grammar.now.core; ahead = c.ahead; left = (R.reading c.bits).left } };
 
-    ghost invariant = { λ c. HasMarks c.g.grammar.now.core c.ahead c.bits.left };
+    ghost invariant = { λ c. HasMarks c.g.grammar.now.core c.ahead (R.reading c.bits).left };
 }
 
-impl<'a, 'g> Cursor<'a, 'g> {
+impl<'g, R: Codes> Cursor<'g, R> {
     /// The next mark, and None behind the last.
     ///
     /// Cost: linear in the bits of the mark.
@@ -159,7 +161,7 @@ impl<'a, 'g> Cursor<'a, 'g> {
 
 impl<'a> LabelRef<'a> {
     /// A reader of the marks of a label of the grammar, from its first on.
-    pub fn cursor<'g>(&self, g: Linear<'g>) -> Cursor<'a, 'g>
+    pub fn cursor<'g>(&self, g: Linear<'g>) -> Cursor<'g, BitReader<'a>>
         requires label { AreLabelBits g.grammar.now.core self.now }
         ensures marks { (l : Label) → IsLabel g.entry.grammar.now.core l → self.now ≡ label_bits l → AreLeft result (marks_of g.entry.grammar.now.core l) }
         ensures grammar { result.grammar ≡ g.entry.grammar.now.core }
@@ -169,5 +171,20 @@ impl<'a> LabelRef<'a> {
             bits: BitReader::new(self.bytes()),
             ahead: Ahead::Whole,
         }
+    }
+
+    /// The same for a label of at most eight bytes, whose bits are held in one word; None where it has more.
+    #[inline(always)]
+    pub fn short_cursor<'g>(&self, g: Linear<'g>) -> Option<Cursor<'g, ShortReader<'a>>>
+        requires label { AreLabelBits g.grammar.now.core self.now }
+        ensures marks { IfSome result (λ c. (l : Label) → IsLabel g.entry.grammar.now.core l → self.now ≡ label_bits l → AreLeft c (marks_of g.entry.grammar.now.core l)) }
+        ensures grammar { IfSome result (λ c. c.grammar ≡ g.entry.grammar.now.core) }
+    {
+        let short = ShortBytes::of(self.bytes())?;
+        Some(Cursor {
+            g,
+            bits: ShortReader::new(short, 0),
+            ahead: Ahead::Whole,
+        })
     }
 }

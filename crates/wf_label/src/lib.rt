@@ -6,15 +6,22 @@
 #![tactic(auto)]
 
 mod check;
+mod checker;
+mod codes;
 mod cursor;
 mod label;
 mod parts;
 mod passing;
 mod reference;
+mod short;
 mod write;
 
 pub use check::Malformed;
+pub use checker::Checker;
+pub use codes::Codes;
 pub use cursor::{Cursor, Mark};
 pub use label::{Label, Place, PlaceStep};
+pub use passing::turns;
 pub use reference::LabelRef;
+pub use short::ShortReader;
 pub use write::{begin_labels, end_label, with_step, write_anew, write_label};

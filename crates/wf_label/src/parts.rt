@@ -4,9 +4,10 @@ ghost use Rattle.wf_model.specs.Grammar.{IsProductionOf, alternative_of};
 ghost use Rattle.label_model.specs.Continuing.{continuing, continues};
 ghost use Rattle.label_model.specs.Reading.{IsPadding, IsLabelLeft, IsPlaceLeft, IsPartLeft, IsPortLeft};
 ghost use Rattle.wf_recur.specs.Cycles.{step_of};
-ghost use Rattle.wf_label.specs.Parts.{IsPassed, IsNumberRead, HasNoNumber, HasNoAlternative, IsStepByLeft, IsEndingByLeft, IsNextLeft};
+ghost use Rattle.wf_label.specs.Parts.{IsPassed, IsChainPassed, IsPositionPassed, IsPartPassed, IsNumberRead, HasNoNumber, HasNoAlternative, IsStepByLeft, IsEndingByLeft, IsNextLeft};
 
 use crate::check::Malformed;
+use crate::codes::{Codes, read_number};
 use crate::passing::passed;
 use bit_pack::BitReader;
 use wf_recur::Linear;
@@ -40,20 +41,6 @@ fn is_continuing(g: Linear<'_>, m: ModNo, step: Step) -> bool
     }
 }
 
-/// Reads the code of a number with one added. The number is below `count`.
-#[inline(always)]
-pub(crate) fn read_number(reader: &mut BitReader<'_>, count: usize) -> Result<usize, Malformed>
-    requires { count < 2 ^ 63 }
-    ensures below { IfOk result (λ n. n < count) }
-    ensures read { IfOk result (λ n. IsNumberRead n reader.old reader.new) }
-    ensures malformed { IsErr result → HasNoNumber count reader.old.left }
-{
-    match reader.gamma(count as u64) {
-        Ok(number) => Ok(number as usize - 1),
-        Err(_) => Err(Malformed),
-    }
-}
-
 /// Passes the number of one of so many ports.
 #[inline(always)]
 fn pass_port(reader: &mut BitReader<'_>, ports: usize) -> Result<(), Malformed>
@@ -67,47 +54,51 @@ fn pass_port(reader: &mut BitReader<'_>, ports: usize) -> Result<(), Malformed>
 
 /// Passes the chain number of a module, and gives the module to which it leads. The number is there exactly if the module stands on a cycle, and is below 2^24.
 #[inline(always)]
-fn pass_chain(g: Linear<'_>, reader: &mut BitReader<'_>, m: ModNo) -> Result<ModNo, Malformed>
+pub(crate) fn pass_chain<R: Codes>(
+    g: Linear<'_>,
+    reader: &mut R,
+    m: ModNo,
+) -> Result<ModNo, Malformed>
     requires in_range { m.0 < length g.grammar.now.core.modules }
     ensures in_range { IfOk result (λ k. k.0 < length g.entry.grammar.now.core.modules) }
-    ensures passed { IfOk result (λ k. IsPassed (IsPlaceLeft g.entry.grammar.now.core m.0) (IsPartLeft g.entry.grammar.now.core k.0) reader.old reader.new) }
-    ensures malformed { IsErr result → ¬ IsPlaceLeft g.entry.grammar.now.core m.0 reader.old.left }
+    ensures passed { IfOk result (λ k. IsChainPassed g.entry.grammar.now.core m k (R.reading reader.old) (R.reading reader.new)) }
+    ensures malformed { IsErr result → ¬ IsPlaceLeft g.entry.grammar.now.core m.0 (R.reading reader.old).left }
 {
     if continuing_step(g, m).is_none() {
         return Ok(m);
     }
-    let c = read_number(reader, 1 << 24)?;
+    let c = reader.next_number(1 << 24)?;
     Ok(passed(g, m, c as u32))
 }
 
 /// Reads an alternative number of a module, and gives the production.
 #[inline(always)]
-pub(crate) fn read_alternative(
+pub(crate) fn read_alternative<R: Codes>(
     g: &Grammar,
-    reader: &mut BitReader<'_>,
+    reader: &mut R,
     m: ModNo,
 ) -> Result<ProdNo, Malformed>
     requires { m.0 < length g.now.core.modules }
     ensures production { IfOk result (λ p. IsProductionOf g.now.core p.0 m.0) }
-    ensures read { IfOk result (λ p. IsNumberRead (alternative_of g.now.core p.0) reader.old reader.new) }
-    ensures malformed { IsErr result → HasNoAlternative g.now.core m.0 reader.old.left }
+    ensures read { IfOk result (λ p. IsNumberRead (alternative_of g.now.core p.0) (R.reading reader.old) (R.reading reader.new)) }
+    ensures malformed { IsErr result → HasNoAlternative g.now.core m.0 (R.reading reader.old).left }
 {
     let alternatives = g.alternatives(m);
-    let a = read_number(reader, alternatives.len())?;
+    let a = reader.next_number(alternatives.len())?;
     Ok(alternatives[a])
 }
 
 /// Passes the position of a step by a production, and gives the module to which the step leads.
 #[inline(always)]
-fn pass_position(g: Linear<'_>, reader: &mut BitReader<'_>, p: ProdNo) -> Result<ModNo, Malformed>
+fn pass_position<R: Codes>(g: Linear<'_>, reader: &mut R, p: ProdNo) -> Result<ModNo, Malformed>
     requires in_range { p.0 < length g.grammar.now.core.productions }
     ensures in_range { IfOk result (λ m. m.0 < length g.entry.grammar.now.core.modules) }
-    ensures passed { IfOk result (λ m. IsPassed (IsStepByLeft g.entry.grammar.now.core p.0) (IsPlaceLeft g.entry.grammar.now.core m.0) reader.old reader.new) }
-    ensures malformed { IsErr result → ¬ IsStepByLeft g.entry.grammar.now.core p.0 reader.old.left }
+    ensures passed { IfOk result (λ m. IsPositionPassed g.entry.grammar.now.core p m (R.reading reader.old) (R.reading reader.new)) }
+    ensures malformed { IsErr result → ¬ IsStepByLeft g.entry.grammar.now.core p.0 (R.reading reader.old).left }
 {
     let rule = g.grammar.production(p);
     let positions = rule.positions();
-    let i = read_number(reader, positions.len())?;
+    let i = reader.next_number(positions.len())?;
     let step = Step {
         production: p,
         position: PosNo(i as u8),
@@ -120,31 +111,29 @@ fn pass_position(g: Linear<'_>, reader: &mut BitReader<'_>, p: ProdNo) -> Result
 
 /// Passes the edge of an ending by a production.
 #[inline(always)]
-fn pass_edge(g: &Grammar, reader: &mut BitReader<'_>, p: ProdNo) -> Result<(), Malformed>
+fn pass_edge<R: Codes>(g: &Grammar, reader: &mut R, p: ProdNo) -> Result<(), Malformed>
     requires { p.0 < length g.now.core.productions }
-    ensures passed { OnOk result (IsPassed (IsEndingByLeft g.now.core p.0) IsPadding reader.old reader.new) }
-    ensures malformed { IsErr result → ¬ IsEndingByLeft g.now.core p.0 reader.old.left }
+    ensures passed { OnOk result (IsPassed (IsEndingByLeft g.now.core p.0) IsPadding (R.reading reader.old) (R.reading reader.new)) }
+    ensures malformed { IsErr result → ¬ IsEndingByLeft g.now.core p.0 (R.reading reader.old).left }
 {
-    read_number(reader, g.production(p).edges().len())?;
+    reader.next_number(g.production(p).edges().len())?;
     Ok(())
 }
 
 /// Passes a step or an ending of a module. Of a step it gives the module to which the step leads.
 #[inline(always)]
-fn pass_part(
+pub(crate) fn pass_part<R: Codes>(
     g: Linear<'_>,
-    reader: &mut BitReader<'_>,
+    reader: &mut R,
     k: ModNo,
 ) -> Result<Option<ModNo>, Malformed>
     requires in_range { k.0 < length g.grammar.now.core.modules }
     ensures in_range { IfOk result (λ o. IfSome o (λ m. m.0 < length g.entry.grammar.now.core.modules)) }
-    ensures passed { IfOk result (λ o. IsPassed (IsPartLeft g.entry.grammar.now.core k.0) (IsNextLeft g.entry.grammar.now.core o) reader.old reader.new) }
-    ensures fewer { OnOk result (length reader.new.left < length reader.old.left) }
-    ensures malformed { IsErr result → ¬ IsPartLeft g.entry.grammar.now.core k.0 reader.old.left }
+    ensures passed { IfOk result (λ o. IsPartPassed g.entry.grammar.now.core k o (R.reading reader.old) (R.reading reader.new)) }
+    ensures fewer { OnOk result (length (R.reading reader.new).left < length (R.reading reader.old).left) }
+    ensures malformed { IsErr result → ¬ IsPartLeft g.entry.grammar.now.core k.0 (R.reading reader.old).left }
 {
-    let Ok(is_step) = reader.bit() else {
-        return Err(Malformed);
-    };
+    let is_step = reader.next_bit()?;
     let p = read_alternative(g.grammar, reader, k)?;
     if is_step {
         let m = pass_position(g, reader, p)?;

@@ -150,8 +150,7 @@ pub fn end_label(w: &mut BitWriter, begun: u32, edge: EdgeNo) -> Result<(), Allo
     ensures ok { OnOk result (w.new ≡ take begun w.old ++ gamma (edge.0 + 1)) }
     ensures few { OnOk result (length w.new ≤ begun + 127) }
 {
-    w.cut(begun);
-    w.gamma(edge.0 as u64 + 1)
+    w.gamma_behind(begun, edge.0 as u64 + 1)
 }
 
 /// Writes a label of at most 1,024 steps, as every label of a grammar has them, in place of what was written.

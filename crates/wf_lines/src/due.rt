@@ -98,6 +98,7 @@ impl Due {
     }
 
     /// A text is due behind what is: it is gathered, or what is due is put first to make room.
+    #[inline]
     pub fn add<O: Sink>(&mut self, out: &mut O, text: &[u8]) -> Result<(), Failed>
         ensures ok { OnOk result (IsDue (self.old ++ text.now) self.new (O.put_bytes out.old) (O.put_bytes out.new)) }
         ensures short { OnOk result (length self.new ≤ PIECE) }
@@ -106,6 +107,10 @@ impl Due {
         ensures later { O.faults out.old ≤ O.faults out.new }
         ensures cause { IsErr result → Rose (O.faults out.old) (O.faults out.new) (O.at_last out.new) }
     {
+        // Most lines of a file make nothing more after their first piece.
+        if text.is_empty() && self.text.len() <= PIECE {
+            return Ok(());
+        }
         if self.keep(text) {
             return Ok(());
         }

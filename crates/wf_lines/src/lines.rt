@@ -206,6 +206,7 @@ pub fn take_lines<T: Taker, H: Shelf, O: Sink>(
             Err(halt) => return Err(LinesFault::Halted(halt)),
         }
         let number = lines.line();
+        taker.look_ahead(lines.window());
         if let Err(fault) = take_line(taker, number, lines.held(), due, out) {
             return Err(fault);
         }

@@ -36,6 +36,7 @@ fn halt_of(fault: LineFault, line: u64) -> Halt
 }
 
 /// Goes on to the next line of a file, and tells whether there is one. What is due is put before each read, before a refusal, and at the end of the file.
+#[inline]
 pub(crate) fn next_line<H: Shelf, O: Sink>(
     lines: &mut Lines<'_>,
     due: &mut Due,

@@ -67,6 +67,16 @@ pub trait Taker {
     /// Whether this is known of it.
     ghost is_known: { Self → Known → Type 0 };
 
+    /// May look at what stands from the line that is taken next on. This only saves time: nothing that is told changes.
+    fn look_ahead(&mut self, text: &[u8])
+        requires { is_ready self.old }
+        ensures ready { is_ready self.new }
+        ensures at { (s : State) → is_at self.old s → is_at self.new s }
+        ensures known { (k : Known) → is_known self.old k → is_known self.new k }
+    {
+        let _ = text;
+    }
+
     /// Begins the line of a number, from 1, which has this text, and makes its first piece. None of the pieces that are held is made.
     fn take(&mut self, number: u64, text: &[u8]) -> Result<(), Self::Fault>
         requires { is_ready self.old }

@@ -17,12 +17,12 @@ use Rattle.wf_query.specs.declared.answers.Answer.{Answer}
 use Rattle.wf_query.specs.declared.answers.Answer.TheVariants.{Unknown}
 use Rattle.wf_query.specs.Answers.{HasEntry, HasNoEntry, IsAnswerOfLabels, answer_of, answer_text, IsAnswerText}
 
-module _ (g : Grammar) (u : View) (formed : IsWellFormed g) (proper : IsProper g) (composites : ExpandsComposites g u) (safe : IsSafe g u) (entries : List Entry) (labels : HaveLabels g entries) where
+module _ (g : Grammar) (entries : List Entry) (labels : HaveLabels g entries) where
   -- an entry of a name, with the bytes of a label; or none
-  abbrev EntryOrNone : List ℕ → Type 0
+  abbrev pub EntryOrNone : List ℕ → Type 0
   EntryOrNone name = ((l : Label) × HasEntry g entries name l) ⊎ HasNoEntry entries name
 
-  entry_or_none : (name : List ℕ) → EntryOrNone name
+  pub entry_or_none : (name : List ℕ) → EntryOrNone name
   entry_or_none name = ⊎_elim (λ i. inl (found i)) (λ none. inr none) (in_either bytes_either name (names_of_entries entries))
     where
       found : IsIn name (names_of_entries entries) → (l : Label) × HasEntry g entries name l
@@ -31,10 +31,11 @@ module _ (g : Grammar) (u : View) (formed : IsWellFormed g) (proper : IsProper g
           let l = labels e.0 e.1 in
           (l.0, (e.0, e.1, sym e.2, l.1, l.2))
 
+module _ (g : Grammar) (u : View) (formed : IsWellFormed g) (proper : IsProper g) (composites : ExpandsComposites g u) (safe : IsSafe g u) (entries : List Entry) (labels : HaveLabels g entries) where
   some_answer : (first second : List ℕ) → (a : Answer) × IsAnswerOfLabels g u entries first second a
-  some_answer first second = by (entry_or_none first) (entry_or_none second)
+  some_answer first second = by (entry_or_none g entries labels first) (entry_or_none g entries labels second)
     where
-      by : EntryOrNone first → EntryOrNone second → (a : Answer) × IsAnswerOfLabels g u entries first second a
+      by : EntryOrNone g entries labels first → EntryOrNone g entries labels second → (a : Answer) × IsAnswerOfLabels g u entries first second a
       by (inr none) y = (Unknown, inl (inl none, refl))
       by (inl x) (inr none) = (Unknown, inl (inr none, refl))
       by (inl x) (inl y) =

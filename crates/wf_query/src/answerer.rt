@@ -23,6 +23,15 @@ pub trait Answerer {
     /// Whether an answer may want memory.
     ghost wants_memory: { Type 0 };
 
+    /// May look at lines, of which the first is answered next. This only saves time: nothing that is told changes.
+    fn look_ahead(&mut self, text: &[u8])
+        requires { is_ready self.old }
+        ensures ready { is_ready self.new }
+        ensures known { (k : Known) → is_known self.old k → is_known self.new k }
+    {
+        let _ = text;
+    }
+
     /// Answers a query.
     fn answer(&mut self, query: &Query<'_>) -> Result<Answer, AllocError>
         requires { is_ready self.old }

@@ -63,6 +63,10 @@ impl<A: Answerer> Taker for Answering<'_, A> {
 
     ghost is_known = { λ s k. (s.answerer.ghost_name ≡ k.name) × A.is_ready s.answerer.now × A.is_known s.answerer.now k.known };
 
+    fn look_ahead(&mut self, text: &[u8]) {
+        self.answerer.look_ahead(text);
+    }
+
     fn take(&mut self, number: u64, text: &[u8]) -> Result<(), QueryFault> {
         self.made = b"";
         let Ok(query) = read_query(text) else {

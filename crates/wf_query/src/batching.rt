@@ -92,7 +92,7 @@ pub(crate) fn answer_left<A: Answerer, H: Shelf, O: Sink>(
 
 /// Answers the queries of all lines of the file `name`, one line each, and gives their number. The answers that are due are put before each read of the file, before a refusal, and at the end.
 ///
-/// All memory but that of the answers is taken before the first read.
+/// All memory but that of the answers is taken before the first read. So it is not wanting once an answer was put, where an answer wants none.
 ///
 /// Cost: linear in the bytes of the file, and that of an answer for each line.
 pub fn answer_lines<A: Answerer, H: Shelf, O: Sink>(
@@ -107,6 +107,7 @@ pub fn answer_lines<A: Answerer, H: Shelf, O: Sink>(
     ensures put { (f : List ℕ → File) → H.files shelf.old ≡ Some f → (k : A.Known) → A.is_known answerer.old k → IsOneWord (A.words k)
         → ArePut (A.words k) (lines_in (f name.now)) (ended_by result) (FailsToWrite result) (O.put_bytes out.old) (O.put_bytes out.new) }
     ensures count { IfOk result (λ n. (f : List ℕ → File) → H.files shelf.old ≡ Some f → n ≡ length (lines_in (f name.now)).lines) }
+    ensures untouched { ¬ A.wants_memory → IfErr result (λ fault. fault ≡ BatchFault.NoMemory → O.put_bytes out.new ≡ O.put_bytes out.old) }
     ensures ready { (k : A.Known) → A.is_known answerer.old k → A.is_ready answerer.new }
     ensures known { (k : A.Known) → A.is_known answerer.old k → A.is_known answerer.new k }
     ensures files { H.files shelf.new ≡ H.files shelf.old }

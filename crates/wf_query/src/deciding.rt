@@ -12,10 +12,36 @@ ghost use Rattle.wf_query.specs.Answers.{IsAnswerOfLabels};
 use crate::answers::{Answer, told};
 use crate::query::Query;
 use bool_mat::Steps;
-use label_file::Store;
+use label_file::{Guesses, Store};
 use std::sync::ledger::Ledger;
 use wf_decode::{Scratch, decide};
 use wf_vlabel::ViewLabel;
+
+/// Answers a query as `answer` does. Where the entries of its names were guessed, nothing is looked up.
+pub(crate) fn answer_guessed<L: Ledger>(
+    store: &Store<'_>,
+    guesses: &mut Guesses,
+    vl: &ViewLabel<'_>,
+    scratch: &mut Scratch,
+    query: &Query<'_>,
+    steps: &mut Steps<L>,
+) -> Answer
+    requires store { IsStoreFor vl.now.grammar store.now }
+    requires room { most_legs vl.now.grammar ≤ scratch.old }
+    ensures answer { (u : View) (entries : List Entry) → IsLabelOfView vl.now u → AreHeldOf vl.now.grammar entries store.now
+        → IsAnswerOfLabels vl.now.grammar u entries query.now.first.now query.now.second.now result }
+    ensures room { scratch.new ≡ scratch.old }
+    ensures cost { (l : ℕ) → ((k : ℕ) → length (round_at vl.now.cycles k) ≤ l) → steps.new ≤ steps.old + most_products vl.now.grammar l }
+{
+    let (first_label, second_label) = store.get_both_guessed(guesses, query.first, query.second);
+    let Some(first) = first_label else {
+        return Answer::Unknown;
+    };
+    let Some(second) = second_label else {
+        return Answer::Unknown;
+    };
+    told(decide(vl, scratch, first, second, steps))
+}
 
 /// Answers a query from the labels of the two entries and the label of a view alone.
 ///
@@ -34,12 +60,6 @@ pub fn answer<L: Ledger>(
     ensures room { scratch.new ≡ scratch.old }
     ensures cost { (l : ℕ) → ((k : ℕ) → length (round_at vl.now.cycles k) ≤ l) → steps.new ≤ steps.old + most_products vl.now.grammar l }
 {
-    let (first_label, second_label) = store.get_both(query.first, query.second);
-    let Some(first) = first_label else {
-        return Answer::Unknown;
-    };
-    let Some(second) = second_label else {
-        return Answer::Unknown;
-    };
-    told(decide(vl, scratch, first, second, steps))
+    let mut none = Guesses::new();
+    answer_guessed(store, &mut none, vl, scratch, query, steps)
 }

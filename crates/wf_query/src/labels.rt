@@ -13,13 +13,14 @@ ghost use Rattle.wf_query.specs.Answers.{IsAnswerText};
 ghost use Rattle.wf_query.specs.Known.{IsWordOfLabels, LabelsKnown};
 ghost use Rattle.wf_query.specs.Lines.{ArePut, IsCauseOf, FailsToWrite, ended_by};
 
+use crate::ahead::look_ahead;
 use crate::answerer::Answerer;
 use crate::answers::Answer;
 use crate::batching::{BatchFault, answer_left};
-use crate::deciding::answer;
+use crate::deciding::answer_guessed;
 use crate::query::Query;
 use bool_mat::Steps;
-use label_file::Store;
+use label_file::{Guesses, Store};
 use std::alloc::{AllocError, Global};
 use std::marker::Brand;
 use std::sync::ledger::{Blank, Ledger};
@@ -28,12 +29,13 @@ use wf_io::{Lines, Shelf, Sink};
 use wf_lines::Due;
 use wf_vlabel::ViewLabel;
 
-/// The entries of a label file with the label of a view, room for decisions, and a count of their row products.
+/// The entries of a label file with the label of a view, room for decisions, a count of their row products, and the entries that were guessed ahead.
 struct Labels<'q, 'b, 'g, L: Ledger> {
     store: &'q Store<'b>,
     label: &'q ViewLabel<'g>,
     scratch: &'q mut Scratch,
     steps: Steps<L>,
+    guesses: Guesses,
 }
 
 impl<L: Ledger> Answerer for Labels<'_, '_, '_, L> {
@@ -47,8 +49,19 @@ impl<L: Ledger> Answerer for Labels<'_, '_, '_, L> {
 
     ghost wants_memory = { ⊥ };
 
+    fn look_ahead(&mut self, text: &[u8]) {
+        look_ahead(self.store, &mut self.guesses, text);
+    }
+
     fn answer(&mut self, query: &Query<'_>) -> Result<Answer, AllocError> {
-        Ok(answer(self.store, self.label, self.scratch, query, &mut self.steps))
+        Ok(answer_guessed(
+            self.store,
+            &mut self.guesses,
+            self.label,
+            self.scratch,
+            query,
+            &mut self.steps,
+        ))
     }
 }
 
@@ -92,6 +105,7 @@ fn batch_counted<L: Ledger, H: Shelf, O: Sink>(
         label: vl,
         scratch,
         steps: Steps::<L>::new(blank),
+        guesses: Guesses::new(),
     };
     let answered = answer_left(&mut labels, lines, due, shelf, out);
     // What was lent is given back, so that its value is known.
@@ -100,6 +114,7 @@ fn batch_counted<L: Ledger, H: Shelf, O: Sink>(
         label: _,
         scratch: lent,
         steps: _,
+        guesses: _,
     } = labels;
     let _ = lent;
     answered

@@ -1,6 +1,7 @@
 //! Query lines, answered one by one by whatever answers two names, and their answers from the entries of a label file.
 #![tactic(auto)]
 
+mod ahead;
 mod answerer;
 mod answering;
 mod answers;
@@ -10,6 +11,7 @@ mod labels;
 mod law;
 mod query;
 
+pub use ahead::look_ahead;
 pub use answerer::Answerer;
 pub use answers::{Answer, line_of};
 pub use batching::{BatchFault, answer_lines};

@@ -1,12 +1,13 @@
 -- Groups of the first keys, as their pool grows.
-use Rattle.std.proofs.Common.{◌≡◌, ℕ, ◌+◌, ◌<◌, ◌≤◌, List, [], ◌∷◌, ◌++◌, length, get_or, Option, None, option_map, refl, sym, ap, ◌∙◌, subst, inl, inr, arith, length-append}
-use Rattle.std.proofs.lemmas.List.{map-append, get_or_append_left}
+use Rattle.std.proofs.Common.{◌≡◌, ℕ, ◌+◌, ◌-◌, ◌<◌, ◌≤◌, ◌↔◌, IsTrue, List, [], ◌∷◌, ◌++◌, length, get_or, slice_index_or, Option, Some, None, option_map, refl, sym, ap, ◌∙◌, subst, inl, inr, arith, length-append}
+use Rattle.std.proofs.lemmas.List.{map-append, get_or_append_left, get_or-map, get_or_read}
+use Rattle.std.proofs.Math.Dec.{leb}
 use Rattle.std.proofs.Math.Seq.{get_or-append_seam}
-use Rattle.std.proofs.lemmas.Bool.{cases_eq}
+use Rattle.std.proofs.lemmas.Bool.{cases_eq, le-leb, leb-true}
 use Rattle.bool_mat.specs.Matrix.{Matrix, Adds, matrix_at}
 use Rattle.bool_mat.specs.declared.pool.MatNo.{MatNo}
 use Rattle.bool_mat.proofs.Pools.{adds_none}
-use Rattle.wf_vlabel.specs.Groups.{GroupsSeen}
+use Rattle.wf_vlabel.specs.Groups.{GroupsSeen, HasGroup}
 use Rattle.wf_vlabel.specs.Growing.{Grows, AreGroupsOf}
 use Rattle.wf_vlabel.specs.RoundSteps.{numbers_in}
 
@@ -56,3 +57,17 @@ pub groups_end : (P : ℕ → List Matrix → Option ℕ → Type 0) (n last cou
 groups_end P n last count pool first t l m c e f groups =
     let same : n ≡ count = omega arith in
     subst (λ k. AreGroupsOf P k t.pool t.first) same (subst (λ (ms : List Matrix). AreGroupsOf P n ms t.first) (sym e) (subst (AreGroupsOf P n pool) (sym f) groups))
+
+abbrev number_by : Option ℕ → ℕ
+number_by None = 0
+number_by (Some n) = n
+
+-- whether the group of a key has so many matrices, from the number of its first
+pub group_told : (t : GroupsSeen) (first : List (Option MatNo)) (key count many : ℕ) (n : MatNo) (read : Option MatNo) → t.first ≡ numbers_in first → many ≡ length t.pool → key < length first →
+    read ≡ slice_index_or first key read → read ≡ Some n → n.0 ≤ many → IsTrue (leb count (many - n.0)) ↔ HasGroup t key count
+group_told t first key count many n read e pool low at is few =
+    let there : get_or t.first key None ≡ Some n.0 =
+    ap (λ f. get_or f key None) e ∙ (get_or-map (option_map (λ (k : MatNo). k.0)) first key None None low ∙ ap (option_map (λ (k : MatNo). k.0)) (sym (get_or_read first key read low at None) ∙ is)) in (
+      (λ h. let l = leb-true count (many - n.0) h in record { number = n.0; has = there; inside = omega arith }),
+      λ h. let same : h.number ≡ n.0 = ap number_by (sym h.has ∙ there) in let l = h.inside in le-leb count (many - n.0) (omega arith),
+    )

@@ -15,7 +15,9 @@ use Rattle.wf_body.specs.Matrices.{IsMatrixOf}
 use Rattle.wf_recur.specs.Cycles.{AreCyclesOf}
 use Rattle.decode_model.specs.Matrices.{AreMatrices}
 use Rattle.wf_vlabel.specs.Groups.{matrix_of}
+use Rattle.wf_vlabel.specs.declared.rounds.stills.Stills.{Stills}
 use Rattle.wf_vlabel.specs.Cuts.{IsCut}
+use Rattle.wf_vlabel.specs.Stills.{AreStills}
 use Rattle.wf_vlabel.specs.Tables.{AreFullGroups, AreBodyGroups, AreSquareGroups}
 use Rattle.wf_vlabel.specs.Seen.{ViewLabelSeen, IsLabelOfView, is_expanded, matrices_of, full_in}
 use Rattle.wf_vlabel.specs.Held.{IsKept}
@@ -39,7 +41,7 @@ means_within rows columns R m h i j = (
 )
 
 -- the parts of a label, as they are made for a view and its full assignment
-pub record AreMade (l : ViewLabelSeen) (cuts : List (Option ℕ)) (u : View) (d : Assignment) : Type 0 where
+pub record AreMade (l : ViewLabelSeen) (stills : List Stills) (cuts : List (Option ℕ)) (u : View) (d : Assignment) : Type 0 where
   pub formed : IsWellFormed l.grammar
   pub proper : IsProper l.grammar
   pub linear : IsLinear l.grammar
@@ -51,10 +53,11 @@ pub record AreMade (l : ViewLabelSeen) (cuts : List (Option ℕ)) (u : View) (d 
   pub full_groups : AreFullGroups l.grammar (expands u) d l.full
   pub body_groups : AreBodyGroups l.grammar (expands u) d l.bodies
   pub square_groups : AreSquareGroups l.grammar (expands u) d l.squares
+  pub stills_are : AreStills l.squares stills
   pub cut_each : length cuts ≡ length l.grammar.modules
   pub cuts_are : (m : ℕ) → m < length l.grammar.modules → continuing l.grammar m ≢ None → IsCut l.grammar (expands u) m (get_or cuts m None)
 
-module _ (l : ViewLabelSeen) (cuts : List (Option ℕ)) (u : View) (d : Assignment) (made : AreMade l cuts u d) where
+module _ (l : ViewLabelSeen) (stills : List Stills) (cuts : List (Option ℕ)) (u : View) (d : Assignment) (made : AreMade l stills cuts u d) where
   -- the flags are the test of the view
   same_flags : expands u ≡ is_expanded l
   same_flags = λ k m. made.expanded m k
@@ -99,7 +102,7 @@ module _ (l : ViewLabelSeen) (cuts : List (Option ℕ)) (u : View) (d : Assignme
       }
 
   -- and it has all that a label keeps
-  pub label_kept : IsKept l cuts
+  pub label_kept : IsKept l stills cuts
   label_kept =
       record {
         label = record {
@@ -112,6 +115,7 @@ module _ (l : ViewLabelSeen) (cuts : List (Option ℕ)) (u : View) (d : Assignme
         full_groups = full_kept;
         body_groups = bodies_kept;
         square_groups = squares_kept;
+        stills_are = made.stills_are;
         cut_each = made.cut_each;
         cuts_are = λ m h c. of_label (λ e f. IsCut l.grammar e m (get_or cuts m None)) (made.cuts_are m h c);
       }

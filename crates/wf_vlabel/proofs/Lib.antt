@@ -14,3 +14,4 @@ pub mod SquaredCycle
 pub mod OpenCycles
 pub mod SquareGroups
 pub mod Sizes
+pub mod StillTables

@@ -1,10 +1,11 @@
 -- How many rows and columns the matrices have that a label lends.
 use Rattle.std.proofs.Common.{◌≡◌, ℕ, ◌+◌, ◌<◌, List, Option, length, sym, ap, ◌∙◌, subst}
 use Rattle.bool_mat.specs.Matrix.{Matrix}
-use Rattle.wf_model.specs.Grammar.{Grammar, inputs_of, outputs_of, body_of}
+use Rattle.wf_model.specs.Grammar.{inputs_of, outputs_of, body_of}
 use Rattle.wf_model.specs.Reach.{Step}
 use Rattle.wf_body.specs.Matrices.{IsMatrixOf}
-use Rattle.wf_vlabel.specs.Groups.{GroupsSeen, matrix_of}
+use Rattle.wf_vlabel.specs.declared.rounds.stills.Stills.{Stills}
+use Rattle.wf_vlabel.specs.Groups.{matrix_of}
 use Rattle.wf_vlabel.specs.Tables.{begins}
 use Rattle.wf_vlabel.specs.Seen.{ViewLabelSeen, Sees, Opens, OpensRound, HasSize, HasFullSize, HasSizeInto, HasSizeOutOf, HasSizeBetween, HasSquareSize}
 use Rattle.wf_vlabel.specs.Held.{IsKept}
@@ -13,9 +14,9 @@ use Rattle.wf_vlabel.specs.Held.{IsKept}
 sized : (many_rows many_columns : ℕ) (R : ℕ → ℕ → Type 0) (m x : Matrix) → IsMatrixOf many_rows many_columns R m → x ≡ m → HasSize x many_rows many_columns
 sized many_rows many_columns R m x h is = subst (λ z. HasSize z many_rows many_columns) (sym is) (record { rows = h.has_rows; columns = h.has_columns })
 
-module _ (held l : ViewLabelSeen) (cuts : List (Option ℕ)) (h : IsKept held cuts) (same : held ≡ l) where
-  kept : IsKept l cuts
-  kept = subst (λ k. IsKept k cuts) same h
+module _ (held l : ViewLabelSeen) (stills : List Stills) (cuts : List (Option ℕ)) (h : IsKept held stills cuts) (same : held ≡ l) where
+  kept : IsKept l stills cuts
+  kept = subst (λ k. IsKept k stills cuts) same h
 
   -- the matrix of the pairs of a module
   pub full_size : (m : ℕ) (x : Matrix) → Sees l m → x ≡ matrix_of held.full m 0 → HasFullSize l.grammar m x

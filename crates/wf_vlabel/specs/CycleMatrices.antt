@@ -1,6 +1,6 @@
 -- The matrices of the steps of one cycle of a table of cycles.
 use Rattle.std.specs.Prelude.{◌≡◌, ◌≢◌, ℕ, ◌<◌, List, length, get_or, Option, None}
-use Rattle.bool_mat.specs.Matrix.{Matrix, matrix_at}
+use Rattle.bool_mat.specs.Matrix.{Matrix}
 use Rattle.wf_model.specs.Grammar.{Grammar, Assignment}
 use Rattle.wf_model.specs.View.{View, expands}
 use Rattle.label_model.specs.Continuing.{continuing, after}

@@ -3,6 +3,7 @@ pub mod Cuts
 pub mod Tables
 pub mod Growing
 pub mod Seen
+pub mod Stills
 pub mod Held
 pub mod RoundSteps
 pub mod ChainMatrices

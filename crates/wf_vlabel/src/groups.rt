@@ -1,5 +1,5 @@
 // Matrices in groups.
-ghost use Rattle.std.specs.Prelude.{◌≡◌, ◌<◌, ℕ, map, option_map};
+ghost use Rattle.std.specs.Prelude.{◌≡◌, ◌<◌, ◌↔◌, ℕ, IsTrue, length, map, option_map};
 ghost use Rattle.wf_vlabel.specs.Groups.{HasGroup, matrix_of};
 
 use bool_mat::{MatNo, MatPool, MatRef};
@@ -28,6 +28,26 @@ impl Groups {
         ensures first { result.first ≡ map (option_map (λ n. n.0)) first.items }
     {
         Groups { pool, first }
+    }
+
+    /// How many keys there are.
+    pub(crate) fn keys(&self) -> usize
+        ensures { result ≡ length self.now.first }
+    {
+        self.first.len()
+    }
+
+    /// Whether a key has a group of so many matrices.
+    pub(crate) fn has(&self, key: usize, count: usize) -> bool
+        ensures { IsTrue result ↔ HasGroup self.now key count }
+    {
+        if key >= self.first.len() {
+            return false;
+        }
+        match self.first[key] {
+            Some(n) => n.0 <= self.pool.len() && count <= self.pool.len() - n.0,
+            None => false,
+        }
     }
 
     /// The matrix at a place of a group that has more matrices than that.

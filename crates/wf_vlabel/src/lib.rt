@@ -3,6 +3,7 @@
 
 mod bodies;
 mod cuts;
+mod cycle_tables;
 mod full;
 mod groups;
 mod rounds;

@@ -11,6 +11,7 @@ ghost use Rattle.wf_vlabel.specs.CycleMatrices.{AreCutsOf};
 mod parts;
 mod squares;
 mod steps;
+pub(crate) mod stills;
 pub(crate) mod way;
 
 use crate::groups::Groups;

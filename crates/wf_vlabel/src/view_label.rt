@@ -4,6 +4,7 @@ ghost use Rattle.wf_model.specs.Grammar.{body_of, inputs_of, outputs_of};
 ghost use Rattle.wf_model.specs.Proper.{IsProper};
 ghost use Rattle.wf_recur.specs.Cycles.{round_at};
 ghost use Rattle.wf_body.specs.Matrices.{step_of};
+ghost use Rattle.decode_model.specs.Legs.{still};
 ghost use Rattle.wf_safe.specs.Full.{AreFullRows};
 ghost use Rattle.wf_vlabel.specs.Cuts.{IsCut};
 ghost use Rattle.wf_vlabel.specs.Tables.{begins};
@@ -11,10 +12,10 @@ ghost use Rattle.wf_vlabel.specs.Seen.{IsLabelOfView, IsViewLabel, Opens, OpensR
 ghost use Rattle.wf_vlabel.specs.Seen.{HasFullSize, HasSizeInto, HasSizeOutOf, HasSizeBetween, HasSquareSize};
 
 use crate::bodies::body_groups;
-use crate::cuts::cuts_of;
+use crate::cycle_tables::cycle_tables;
 use crate::full::full_groups;
 use crate::groups::Groups;
-use crate::rounds::square_groups;
+use crate::rounds::stills::Stills;
 use crate::sight::Sight;
 use bool_mat::MatRef;
 use std::alloc::{AllocError, Global};
@@ -35,6 +36,7 @@ pub struct ViewLabel<'a> {
     full: Groups,
     bodies: Groups,
     squares: Groups,
+    stills: Vec<Stills>,
     cuts: Vec<Option<u32>>,
 }
 
@@ -60,7 +62,7 @@ impl<'a> Model for ViewLabel<'a> {
       full = l.full;
       bodies = l.bodies;
       squares = l.squares;
-    }) l.cuts.items };
+    }) l.stills.items l.cuts.items };
 }
 
 impl<'a> ViewLabel<'a> {
@@ -95,16 +97,18 @@ impl<'a> ViewLabel<'a> {
         let expanded = Vec::from_slice(alloc, s.view.marks())?;
         let pairs = full_groups(alloc, s.linear.grammar, full)?;
         let bodies = body_groups(alloc, s, full)?;
-        let cuts = cuts_of(alloc, s)?;
-        let squares = square_groups(alloc, s, full, cuts.as_slice(), &bodies)?;
-        Ok(ViewLabel {
-            linear: s.linear,
-            expanded,
-            full: pairs,
-            bodies,
-            squares,
-            cuts,
-        })
+        match cycle_tables(alloc, s, full, &bodies) {
+            Ok(tables) => Ok(ViewLabel {
+                linear: s.linear,
+                expanded,
+                full: pairs,
+                bodies,
+                squares: tables.squares,
+                stills: tables.stills,
+                cuts: tables.cuts,
+            }),
+            Err(wanting) => Err(wanting),
+        }
     }
 
     /// The grammar that `build` was given.
@@ -211,6 +215,26 @@ impl<'a> ViewLabel<'a> {
         ensures size { HasSquareSize result (outputs_of self.now.grammar (get_or (round_at self.now.cycles c.0) place 0)) }
     {
         self.squares.matrix(self.linear.cycles.at(c, place).0 as usize, 24 + k as usize)
+    }
+
+    /// The number of the first square down from the module at a place of a cycle that is its own square; 23, that of the last square, where none is.
+    pub fn still_in(&self, c: CycleNo, place: u16) -> u8
+        requires cycle { c.0 < length self.now.cycles.rounds }
+        requires place { place < length (round_at self.now.cycles c.0) }
+        requires round { OpensRound self.now (get_or (round_at self.now.cycles c.0) place 0) }
+        ensures { result ≡ still ((matrices_of self.now).square_in (get_or (round_at self.now.cycles c.0) place 0)) }
+    {
+        self.stills[self.linear.cycles.at(c, place).0 as usize].down
+    }
+
+    /// The number of the first square up to the module at a place of a cycle that is its own square; 23, that of the last square, where none is.
+    pub fn still_out(&self, c: CycleNo, place: u16) -> u8
+        requires cycle { c.0 < length self.now.cycles.rounds }
+        requires place { place < length (round_at self.now.cycles c.0) }
+        requires round { OpensRound self.now (get_or (round_at self.now.cycles c.0) place 0) }
+        ensures { result ≡ still ((matrices_of self.now).square_out (get_or (round_at self.now.cycles c.0) place 0)) }
+    {
+        self.stills[self.linear.cycles.at(c, place).0 as usize].up
     }
 
     // Where the matrices of a position begin within those of its body: of 64 positions at most, with 66 matrices each.

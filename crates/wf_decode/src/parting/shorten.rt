@@ -1,12 +1,22 @@
 // Chains that are longer than others.
-ghost use Rattle.std.specs.Prelude.{◌≡◌, ◌<◌, ℕ, false, length, drop};
+ghost use Rattle.std.specs.Prelude.{◌≡◌, ◌+◌, ◌%◌, ◌<◌, ℕ, false, length, drop};
 ghost use Rattle.wf_recur.specs.Cycles.{step_of};
 ghost use Rattle.wf_decode.specs.HeldLegs.{AreHeld};
 ghost use Rattle.wf_decode.specs.LegsAfter.{AreLeftAfter, HasChain};
 
 use crate::leg::Leg;
+use wf_label::turns;
 use wf_spec::Step;
 use wf_vlabel::ViewLabel;
+
+/// The place behind another on a cycle of so many modules.
+#[inline(always)]
+fn next_place(place: u64, length: u64) -> u64
+    requires { place < length }
+    ensures { result ≡ (place + 1) % length }
+{
+    if place + 1 == length { 0 } else { place + 1 }
+}
 
 /// Takes so many continuing steps, and the one after them, off a longer chain, and gives the last of them.
 ///
@@ -28,8 +38,9 @@ pub(crate) fn shorten(vl: &ViewLabel<'_>, legs: &mut [Leg], at: usize, count: u3
         unreachable!()
     };
     let length = cycles.length(cycle) as u64;
-    let here = (place as u64 + count as u64) % length;
-    let next = (here + 1) % length;
+    let turned = turns(place as u64 + count as u64, length);
+    let here = turned.1;
+    let next = next_place(here, length);
     prove!(here < 65536 && next < 65536);
     let Some(on) = cycles.on(cycles.at(cycle, here as u16)) else {
         unreachable!()

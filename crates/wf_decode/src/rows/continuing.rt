@@ -10,6 +10,7 @@ ghost use Rattle.wf_decode.specs.OpenLegs.{OpensRoute};
 
 use bool_mat::{Steps, row_times};
 use std::sync::ledger::Ledger;
+use wf_label::turns;
 use wf_recur::CycleNo;
 use wf_spec::{PosNo, ProdNo, Step};
 use wf_vlabel::ViewLabel;
@@ -26,7 +27,8 @@ fn continuing_step(vl: &ViewLabel<'_>, cycle: CycleNo, place: u16, further: u32)
 {
     let cycles = vl.cycles();
     let length = cycles.length(cycle) as u64;
-    let at = (place as u64 + further as u64) % length;
+    let turned = turns(place as u64 + further as u64, length);
+    let at = turned.1;
     prove!(at < 65536);
     match cycles.on(cycles.at(cycle, at as u16)) {
         Some(on) => on.step,

@@ -20,7 +20,7 @@ leads c s =
     let label = c.cycles-cycles.ensures.label in
     let on = c.in_ok-on.on in
     let t = c.cycles-cycles.ensures.cycles in
-    c.at.ensures ∙
+    c.at.ensures ∙ ap (λ z. get_or (round_at c.cycles-cycles.result.now on.cycle.0) z 0) c.turns-turned.ensures.rest ∙
     (ap (λ n. get_or (round_at c.cycles-cycles.result.now on.cycle.0) ((on.place + c.args.count) % n) 0) c.length-length.ensures ∙
     (ap (λ t. get_or (round_at t on.cycle.0) ((on.place + c.args.count) % length (round_at t on.cycle.0)) 0) t ∙
     (sym (place_after l.grammar l.cycles label.formed label.linear label.cycles_are on.cycle.0 on.place c.args.count s.cycle s.place) ∙ ap (after l.grammar c.args.count) s.is)))
@@ -57,16 +57,16 @@ length-length-requires c =
     let s = (stands (goal.at.length-length-requires c).In_ok-on).cycle in
     omega (arith, ap (λ t. length t.rounds) c.cycles-cycles.ensures.cycles)
 
-pub nonzero_rem-to : goal.nonzero_rem-to
-nonzero_rem-to c =
-    let s = (stands (goal.at.nonzero_rem-to c).In_ok-on).place in
+pub turns-turned-requires : goal.turns-turned-requires
+turns-turned-requires c =
+    let s = (stands (goal.at.turns-turned-requires c).In_ok-on).place in
     omega (arith, c.length-length.ensures, ap (λ t. length (round_at t c.in_ok-on.on.cycle.0)) c.cycles-cycles.ensures.cycles)
 
 pub prove-unreachable-requires : goal.prove-unreachable-requires
 prove-unreachable-requires c =
     let s = (stands (goal.at.prove-unreachable-requires c).In_ok-on).place in
     let few = c.cycles-cycles.ensures.label.cycles_are.short c.in_ok-on.on.cycle.0 in
-    omega (arith, c.length-length.ensures, ap (λ t. length (round_at t c.in_ok-on.on.cycle.0)) c.cycles-cycles.ensures.cycles)
+    omega (arith, c.turns-turned.ensures.rest, c.length-length.ensures, ap (λ t. length (round_at t c.in_ok-on.on.cycle.0)) c.cycles-cycles.ensures.cycles)
 
 pub at-requires-clause-cycle : goal.at-requires-clause-cycle
 at-requires-clause-cycle c =
@@ -76,7 +76,7 @@ at-requires-clause-cycle c =
 pub at-requires-clause-place : goal.at-requires-clause-place
 at-requires-clause-place c =
     let s = (stands (goal.at.at-requires-clause-place c).In_ok-on).place in
-    omega (arith, c.length-length.ensures, ap (λ t. length (round_at t c.in_ok-on.on.cycle.0)) c.cycles-cycles.ensures.cycles)
+    omega (arith, c.turns-turned.ensures.rest, c.length-length.ensures, ap (λ t. length (round_at t c.in_ok-on.on.cycle.0)) c.cycles-cycles.ensures.cycles)
 
 pub returns-clause-leg : goal.returns-clause-leg
 returns-clause-leg c =

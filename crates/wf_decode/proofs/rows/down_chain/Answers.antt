@@ -22,10 +22,10 @@ pub whole_rounds-row-requires-clause-round : goal.whole_rounds-row-requires-clau
 whole_rounds-row-requires-clause-round g c = opens_round c.args.vl.now c.args.cycle c.args.place c.args.count c.requires (told g (goal.at.whole_rounds-row-requires-clause-round g c).After-is_some false c.if-is_some.false)
 
 pub continuing_down-requires-2-clause-open : goal.continuing_down-requires-2-clause-open
-continuing_down-requires-2-clause-open g c = opens_rest c.args.vl.now c.args.cycle c.args.place c.args.count c.requires (told g (goal.at.continuing_down-requires-2-clause-open g c).After-is_some false c.if-is_some.false) _ (ap (λ n. c.args.count % n) (c.length-length.ensures ∙ ap (λ (t : CyclesSeen). length (round_at t c.args.cycle.0)) c.cycles-cycles.ensures.cycles))
+continuing_down-requires-2-clause-open g c = opens_rest c.args.vl.now c.args.cycle c.args.place c.args.count c.requires (told g (goal.at.continuing_down-requires-2-clause-open g c).After-is_some false c.if-is_some.false) _ (c.turns-turned.ensures.rest ∙ ap (λ n. c.args.count % n) (c.length-length.ensures ∙ ap (λ (t : CyclesSeen). length (round_at t c.args.cycle.0)) c.cycles-cycles.ensures.cycles))
 
 pub returns : goal.returns
 returns g c =
     let size = (c.length-length.ensures ∙ ap (λ (t : CyclesSeen). length (round_at t c.args.cycle.0)) c.cycles-cycles.ensures.cycles) in
-    whole_down c.args.vl.now c.args.cycle c.args.place c.args.count c.args.row (c.args.count / c.length-length.result) (c.args.count % c.length-length.result) c.whole_rounds-row.result c.continuing_down-2.result c.args.steps.now c.whole_rounds-row.new.steps c.continuing_down-2.new.steps
-    c.requires.0.1 (ap (λ n. c.args.count / n) size) (ap (λ n. c.args.count % n) size) (told g (goal.at.returns g c).After-is_some false c.if-is_some.false) c.whole_rounds-row.ensures c.continuing_down-2.ensures
+    whole_down c.args.vl.now c.args.cycle c.args.place c.args.count c.args.row c.turns-turned.result.0 c.turns-turned.result.1 c.whole_rounds-row.result c.continuing_down-2.result c.args.steps.now c.whole_rounds-row.new.steps c.continuing_down-2.new.steps
+    c.requires.0.1 (c.turns-turned.ensures.rounds ∙ ap (λ n. c.args.count / n) size) (c.turns-turned.ensures.rest ∙ ap (λ n. c.args.count % n) size) (told g (goal.at.returns g c).After-is_some false c.if-is_some.false) c.whole_rounds-row.ensures c.continuing_down-2.ensures

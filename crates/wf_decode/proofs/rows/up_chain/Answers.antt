@@ -19,7 +19,7 @@ pub returns-then-is_some : goal.returns-then-is_some
 returns-then-is_some g c = part_up c.args.vl.now c.args.cycle c.args.place c.args.count c.args.row c.continuing_up.result c.args.steps.now c.continuing_up.new.steps (told g (goal.at.returns-then-is_some g c).After-is_some true c.if-is_some.true) c.continuing_up.ensures
 
 pub continuing_up-row-requires-clause-open : goal.continuing_up-row-requires-clause-open
-continuing_up-row-requires-clause-open g c = opens_rest c.args.vl.now c.args.cycle c.args.place c.args.count c.requires (told g (goal.at.continuing_up-row-requires-clause-open g c).After-is_some false c.if-is_some.false) _ (ap (λ n. c.args.count % n) (c.length-length.ensures ∙ ap (λ (t : CyclesSeen). length (round_at t c.args.cycle.0)) c.cycles-cycles.ensures.cycles))
+continuing_up-row-requires-clause-open g c = opens_rest c.args.vl.now c.args.cycle c.args.place c.args.count c.requires (told g (goal.at.continuing_up-row-requires-clause-open g c).After-is_some false c.if-is_some.false) _ (c.turns-turned.ensures.rest ∙ ap (λ n. c.args.count % n) (c.length-length.ensures ∙ ap (λ (t : CyclesSeen). length (round_at t c.args.cycle.0)) c.cycles-cycles.ensures.cycles))
 
 pub whole_rounds-requires-clause-round : goal.whole_rounds-requires-clause-round
 whole_rounds-requires-clause-round g c = opens_round c.args.vl.now c.args.cycle c.args.place c.args.count c.requires (told g (goal.at.whole_rounds-requires-clause-round g c).After-is_some false c.if-is_some.false)
@@ -27,5 +27,5 @@ whole_rounds-requires-clause-round g c = opens_round c.args.vl.now c.args.cycle 
 pub returns : goal.returns
 returns g c =
     let size = (c.length-length.ensures ∙ ap (λ (t : CyclesSeen). length (round_at t c.args.cycle.0)) c.cycles-cycles.ensures.cycles) in
-    whole_up c.args.vl.now c.args.cycle c.args.place c.args.count c.args.row (c.args.count / c.length-length.result) (c.args.count % c.length-length.result) c.continuing_up-row.result c.whole_rounds.result c.args.steps.now c.continuing_up-row.new.steps c.whole_rounds.new.steps
-    c.requires.0.1 (ap (λ n. c.args.count / n) size) (ap (λ n. c.args.count % n) size) (told g (goal.at.returns g c).After-is_some false c.if-is_some.false) c.continuing_up-row.ensures c.whole_rounds.ensures
+    whole_up c.args.vl.now c.args.cycle c.args.place c.args.count c.args.row c.turns-turned.result.0 c.turns-turned.result.1 c.continuing_up-row.result c.whole_rounds.result c.args.steps.now c.continuing_up-row.new.steps c.whole_rounds.new.steps
+    c.requires.0.1 (c.turns-turned.ensures.rounds ∙ ap (λ n. c.args.count / n) size) (c.turns-turned.ensures.rest ∙ ap (λ n. c.args.count % n) size) (told g (goal.at.returns g c).After-is_some false c.if-is_some.false) c.continuing_up-row.ensures c.whole_rounds.ensures

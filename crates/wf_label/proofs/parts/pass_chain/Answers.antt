@@ -7,22 +7,22 @@ use Rattle.wf_label.proofs.PartsLeft.{no_chain_left, chain_left, no_chain_number
 use Rattle.wf_label.proofs.parts.pass_chain.Goals as goal
 
 pub returns-then-is_none-clause-passed : goal.returns-then-is_none-clause-passed
-returns-then-is_none-clause-passed c =
+returns-then-is_none-clause-passed b c =
     let g = c.args.g.grammar.now.core in
     let m = c.args.m.0 in
-    passed_none (IsPlaceLeft g m) (IsPartLeft g m) c.args.reader.now
+    passed_none (IsPlaceLeft g m) (IsPartLeft g m) (b.R.Codes.reading c.args.reader.now)
     (no_chain_left g m (none_told _ c.continuing_step.result _ c.continuing_step.ensures c.if-is_none.ensures))
 
 pub returns-in_err-c-clause-malformed : goal.returns-in_err-c-clause-malformed
-returns-in_err-c-clause-malformed c = λ _.
-    no_chain_number c.args.g.grammar.now.core c.args.m.0 c.args.reader.now.left
+returns-in_err-c-clause-malformed b c = λ _.
+    no_chain_number c.args.g.grammar.now.core c.args.m.0 (b.R.Codes.reading c.args.reader.now).left
     (some_told _ c.continuing_step.result _ c.continuing_step.ensures c.if-is_none.ensures) (c.in_err-c.ensures.malformed refl)
 
 pub returns-clause-passed : goal.returns-clause-passed
-returns-clause-passed c =
+returns-clause-passed b c =
     let g = c.args.g.grammar.now.core in
     let m = c.args.m.0 in
     let n = c.in_ok-c.c in
     let continues = some_told _ c.continuing_step.result _ c.continuing_step.ensures c.if-is_none.ensures in
-    passed_number (IsPlaceLeft g m) (IsPartLeft g c.passed.result.0) n c.args.reader.now c.read_number.new.reader c.in_ok-c.ensures.read
+    passed_number (IsPlaceLeft g m) (IsPartLeft g c.passed.result.0) n (b.R.Codes.reading c.args.reader.now) (b.R.Codes.reading c.next_number.new.self) c.in_ok-c.ensures.read
     (λ left. subst (λ k. IsPlaceLeft g m (gamma (n + 1) ++ left) ↔ IsPartLeft g k left) (sym c.passed.ensures.to) (chain_left g m n continues c.in_ok-c.ensures.below left))

@@ -16,10 +16,10 @@ use Rattle.wf_label.proofs.parts.pass_position.Goals as goal
 use Rattle.wf_label.proofs.Counts.{positions_held}
 
 pub returns-in_err-i-clause-malformed : goal.returns-in_err-i-clause-malformed
-returns-in_err-i-clause-malformed c = λ _.
+returns-in_err-i-clause-malformed b c = λ _.
     let g = c.args.g.grammar.now.core in
     let p = c.args.p.0 in
-    let left = c.args.reader.now.left in
+    let left = (b.R.Codes.reading c.args.reader.now).left in
     let few = positions_held c.positions-positions.result.now c.production-rule.result.now.core (production_at g p) c.positions-positions.ensures c.production-rule.ensures.core in
     no_position g p left c.requires.in_range (subst (λ n. HasNoNumber n left) few (c.in_err-i.ensures.malformed refl))
 
@@ -31,16 +31,16 @@ read xs r s k d are is h =
     (inside, module_read xs k d s.positions (are ∙ ap (λ (z : Production). z.positions) is) inside)
 
 pub returns-then-is_continuing-clause-malformed : goal.returns-then-is_continuing-clause-malformed
-returns-then-is_continuing-clause-malformed c = λ _ h.
+returns-then-is_continuing-clause-malformed b c = λ _ h.
     let g = c.args.g.grammar.now.core in
     let p = c.args.p.0 in
     let t : Step = record { production = p; position = c.in_ok-i.i } in
     let head = c.head.ensures ∙ ap (λ (r : Production). r.head) c.production-rule.ensures.core in
     let is = continues_gives g (head_of g p) t (subst (λ m. continues g m t ≡ true) head (sym c.is_continuing.ensures ∙ c.if-is_continuing.true)) in
-    continuing_left g t c.read_number.new.reader.left is c.requires.in_range (subst (IsStepByLeft g p) c.in_ok-i.ensures.read.is h)
+    continuing_left g t (b.R.Codes.reading c.next_number.new.self).left is c.requires.in_range (subst (IsStepByLeft g p) c.in_ok-i.ensures.read.is h)
 
 pub returns-clause-in_range : goal.returns-clause-in_range
-returns-clause-in_range c =
+returns-clause-in_range b c =
     let g = c.args.g.grammar.now.core in
     let p = c.args.p.0 in
     let t : Step = record { production = p; position = c.in_ok-i.i } in
@@ -48,7 +48,7 @@ returns-clause-in_range c =
     subst (λ n. n < length g.modules) (sym at.1) (target_below g c.production-rule.ensures.formed t c.requires.in_range at.0)
 
 pub returns-clause-passed : goal.returns-clause-passed
-returns-clause-passed c =
+returns-clause-passed b c =
     let g = c.args.g.grammar.now.core in
     let p = c.args.p.0 in
     let i = c.in_ok-i.i in
@@ -58,5 +58,5 @@ returns-clause-passed c =
     let head = c.head.ensures ∙ ap (λ (r : Production). r.head) c.production-rule.ensures.core in
     let leaves = continues_not g (head_of g p) t (subst (λ m. continues g m t ≡ false) head (sym c.is_continuing.ensures ∙ c.if-is_continuing.false)) in
     let of_it : IsStepOf g (head_of g p) t = record { in_range = c.requires.in_range; head = refl; position = at.0 } in
-    passed_number (IsStepByLeft g p) (IsPlaceLeft g k) i c.args.reader.now c.read_number.new.reader c.in_ok-i.ensures.read
+    passed_number (IsStepByLeft g p) (IsPlaceLeft g k) i (b.R.Codes.reading c.args.reader.now) (b.R.Codes.reading c.next_number.new.self) c.in_ok-i.ensures.read
     (λ left. subst (λ m. IsStepByLeft g p (gamma (i + 1) ++ left) ↔ IsPlaceLeft g m left) (sym at.1) (step_left g t of_it leaves left))

@@ -18,7 +18,7 @@ leads c =
     let t = c.args.g.cycles.now in
     let on = c.in-Some.on in
     let s = (cycled c.args.g.grammar.now.core c.modules-modules.ensures.formed c.args.g.linear c.args.g.cycles.now c.args.g.cycled).on_one c.args.m.0 (on_of on) (sym c.in-Some.ensures) in
-    c.at.ensures ∙ ap (λ l. get_or (round_at t on.cycle.0) ((on.place + c.args.c) % l) 0) c.length-length.ensures ∙
+    c.at.ensures ∙ (ap (λ z. get_or (round_at t on.cycle.0) z 0) c.turns-turned.ensures.rest ∙ ap (λ l. get_or (round_at t on.cycle.0) ((on.place + c.args.c) % l) 0) c.length-length.ensures) ∙
     sym (place_after g t c.modules-modules.ensures.formed c.args.g.linear (cycled c.args.g.grammar.now.core c.modules-modules.ensures.formed c.args.g.linear c.args.g.cycles.now c.args.g.cycled) on.cycle.0 on.place c.args.c s.cycle s.place) ∙ ap (after g c.args.c) s.is
 
 pub returns-in_default-clause-to : goal.returns-in_default-clause-to
@@ -29,20 +29,20 @@ returns-in_default-clause-to c =
 pub length-length-requires : goal.length-length-requires
 length-length-requires c = (stands (goal.at.length-length-requires c).In-Some).cycle
 
-pub nonzero_rem-place : goal.nonzero_rem-place
-nonzero_rem-place c = let s = (stands (goal.at.nonzero_rem-place c).In-Some).place in omega (arith, c.length-length.ensures)
+pub turns-turned-requires : goal.turns-turned-requires
+turns-turned-requires c = let s = (stands (goal.at.turns-turned-requires c).In-Some).place in omega (arith, c.length-length.ensures)
 
 pub prove-unreachable-requires : goal.prove-unreachable-requires
 prove-unreachable-requires c =
     let s = (stands (goal.at.prove-unreachable-requires c).In-Some).place in
     let few = (cycled c.args.g.grammar.now.core c.modules-modules.ensures.formed c.args.g.linear c.args.g.cycles.now c.args.g.cycled).short c.in-Some.on.cycle.0 in
-    omega (arith, c.length-length.ensures)
+    omega (arith, c.turns-turned.ensures.rest, c.length-length.ensures)
 
 pub at-requires-clause-cycle : goal.at-requires-clause-cycle
 at-requires-clause-cycle c = (stands (goal.at.at-requires-clause-cycle c).In-Some).cycle
 
 pub at-requires-clause-place : goal.at-requires-clause-place
-at-requires-clause-place c = let s = (stands (goal.at.at-requires-clause-place c).In-Some).place in omega (arith, c.length-length.ensures)
+at-requires-clause-place c = let s = (stands (goal.at.at-requires-clause-place c).In-Some).place in omega (arith, c.turns-turned.ensures.rest, c.length-length.ensures)
 
 pub returns-clause-to : goal.returns-clause-to
 returns-clause-to c = leads c

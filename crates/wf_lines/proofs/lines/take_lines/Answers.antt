@@ -22,7 +22,7 @@ returns-in-Err-take_line-clause-stopped g c = λ f told st s at one begins close
     let far = later_due g.T.Taker.ends g.T.Taker.takes g.T.Taker.stops s _ _ _ _ _ (i.so_far f told st s at) _ _ c.in-Ok-true.ensures.due in
     let t = g.T.Taker in
     let By : ℕ → List ℕ → Type 0 = λ n x. IsStoppedBy (t.stops far.state n x) (λ piece. t.begins (begun_line far.state n x piece)) t.end_of c.next_line.new.due c.in-Err-take_line.fault (g.O.Sink.put_bytes c.next_line.new.out) (g.O.Sink.put_bytes c.take_line.new.out) in
-    let stopped = subst (λ n. By n c.next_line.new.lines.held) c.line-number.ensures (subst (By c.line-number.result) c.held.ensures (c.in-Err-take_line.ensures.stopped far.state far.at)) in
+    let stopped = subst (λ n. By n c.next_line.new.lines.held) c.line-number.ensures (subst (By c.line-number.result) c.held.ensures (c.in-Err-take_line.ensures.stopped far.state (c.look_ahead.ensures.at far.state far.at))) in
     line_stops t.ends t.takes t.stops t.finishes t.stops_at_end t.is_sound one closed s sound _ _ _ _ _ _ far c.next_line.new.lines _ lends t.begins begins t.end_of c.in-Err-take_line.fault stopped
 
 pub returns-in-Err-take_line-clause-cause : goal.returns-in-Err-take_line-clause-cause
@@ -35,12 +35,12 @@ loop-halt-preserved g c =
     let i = c.loop-halt.invariant in
     record {
       ready = c.in_default.ensures.ready;
-      known = λ k knows. c.take_line.ensures.known k (i.known k knows);
+      known = λ k knows. c.take_line.ensures.known k (c.look_ahead.ensures.known k (i.known k knows));
       stands = λ f told st. stands_as f _ _ i.name c.loop-halt.lines c.next_line.new.lines (c.in-Ok-true.ensures.stands f (i.files ∙ told)) (i.stands f told st);
       so_far = λ f told st s at.
           let lends = advanced_lends _ _ _ _ c.in-Ok-true.field-0-test (subst (λ k. Stands (f k) c.loop-halt.lines → Advances c.in-Ok-true.field-0 (left_in (f k) c.loop-halt.lines) c.next_line.new.lines (left_in (f k) c.next_line.new.lines)) i.name (c.in-Ok-true.ensures.lines f (i.files ∙ told)) (i.stands f told st)) in
           let far = later_due g.T.Taker.ends g.T.Taker.takes g.T.Taker.stops s _ _ _ _ _ (i.so_far f told st s at) _ _ c.in-Ok-true.ensures.due in
-          let t = c.in_default.ensures.taken far.state far.at in
+          let t = c.in_default.ensures.taken far.state (c.look_ahead.ensures.at far.state far.at) in
           one_more g.T.Taker.ends g.T.Taker.takes g.T.Taker.stops s _ _ _ _ _ far c.next_line.new.lines _ lends t.0 t.1 c.take_line.new.due _ (subst (λ n. g.T.Taker.takes far.state n c.next_line.new.lines.held t.0 t.1) c.line-number.ensures (subst (λ x. g.T.Taker.takes far.state c.line-number.result x t.0 t.1) c.held.ensures t.2)) t.3 t.4;
       count = λ f told st.
           let lends = advanced_lends _ _ _ _ c.in-Ok-true.field-0-test (subst (λ k. Stands (f k) c.loop-halt.lines → Advances c.in-Ok-true.field-0 (left_in (f k) c.loop-halt.lines) c.next_line.new.lines (left_in (f k) c.next_line.new.lines)) i.name (c.in-Ok-true.ensures.lines f (i.files ∙ told)) (i.stands f told st)) in

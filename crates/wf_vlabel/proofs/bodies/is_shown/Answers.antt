@@ -1,5 +1,5 @@
 use Rattle.std.proofs.Common.{◌≡◌, ◌<◌, ◌∙◌, IsTrue, false, get_or, length, sym, ap, true≢false}
-use Rattle.wf_model.specs.Grammar.{Grammar, Production, head_of}
+use Rattle.wf_model.specs.Grammar.{Production, head_of}
 use Rattle.wf_model.specs.View.{expands}
 use Rattle.wf_view.proofs.KnownViews.{held}
 use Rattle.wf_vlabel.proofs.bodies.is_shown.Goals as goal

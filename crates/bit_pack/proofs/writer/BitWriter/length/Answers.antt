@@ -1,6 +1,9 @@
 use Rattle.std.proofs.Common.{length, ap, sym, ◌∙◌}
+use Rattle.bit_pack.specs.Written.{held_bytes}
 use Rattle.bit_pack.proofs.Filling.{length-first_bits}
 use Rattle.bit_pack.proofs.writer.BitWriter.length.Goals as goal
 
 pub returns : goal.returns
-returns c = sym (length-first_bits c.self.inside.bytes.items c.self.inside.end c.self.invariant.free.inside) ∙ ap length c.self.view_is
+returns c =
+    let i = c.self.inside in
+    sym (length-first_bits (held_bytes i.eight i.bytes.items i.end) i.end c.self.invariant.written.filled.free.inside) ∙ ap length c.self.view_is

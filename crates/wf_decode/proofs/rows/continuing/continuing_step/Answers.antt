@@ -20,7 +20,7 @@ module_is : (c : After-at) → c.at.result.0 ≡ module_on c.args.vl.now.cycles 
 module_is c =
     let k = c.args.cycle.0 in
     let further = c.args.place + c.args.further in
-    c.at.ensures ∙ (ap (λ n. get_or (round_at c.cycles-cycles.result.now k) (further % n) 0) c.length-length.ensures ∙
+    c.at.ensures ∙ (ap (λ z. get_or (round_at c.cycles-cycles.result.now k) z 0) c.turns-turned.ensures.rest ∙ ap (λ n. get_or (round_at c.cycles-cycles.result.now k) (further % n) 0) c.length-length.ensures ∙
     ap (λ (t : CyclesSeen). get_or (round_at t k) (further % length (round_at t k)) 0) c.cycles-cycles.ensures.cycles)
 
 -- its step by the table is its continuing step

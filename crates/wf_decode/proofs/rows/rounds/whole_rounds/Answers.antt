@@ -1,12 +1,10 @@
-use Rattle.std.proofs.Common.{◌≡◌, ◌+◌, subst, arith}
-use Rattle.decode_model.specs.Legs.{squares}
-use Rattle.decode_model.specs.Rows.{Progress}
+use Rattle.std.proofs.Common.{◌≡◌, ◌+◌, arith}
 use Rattle.decode_model.proofs.RowProducts.{progress_law}
 use Rattle.wf_vlabel.specs.Seen.{matrices_of}
 use Rattle.wf_decode.specs.HeldLegs.{module_on}
 use Rattle.wf_decode.specs.Ways.{square_on}
 use Rattle.wf_decode.proofs.Progressing.{square_one}
-use Rattle.wf_decode.proofs.Digits.{passed_over}
+use Rattle.wf_decode.proofs.Digits.{passed_over, some_higher}
 use Rattle.wf_decode.proofs.rows.rounds.whole_rounds.Goals as goal
 
 pub loop-k-init : goal.loop-k-init
@@ -28,6 +26,9 @@ loop-k-preserved g c =
 
 pub returns : goal.returns
 returns g c =
+    let square = square_on c.args.way (matrices_of c.args.vl.now) (module_on c.args.vl.now.cycles c.args.cycle.0 c.args.place) in
     let inv = c.loop-k.invariant in
-    let whole : c.loop-k.k ≡ 24 = omega (arith, inv.0, c.loop-k-test.false) in
-    subst (λ z. Progress (squares (square_on c.args.way (matrices_of c.args.vl.now) (module_on c.args.vl.now.cycles c.args.cycle.0 c.args.place)) c.args.rounds z) c.args.row c.loop-k.row c.args.steps.now c.loop-k.steps) whole inv.2
+    let end = c.still_square-end.result in
+    let all : c.loop-k.k ≡ end = omega (arith, inv.0, c.loop-k-test.false) in
+    some_higher square c.args.rounds c.loop-k.k end c.args.row c.loop-k.row c.args.steps.now c.loop-k.steps c.still_square-end.ensures.still all inv.2 c.row_times.result c.row_times.new.steps c.if-rounds-end-eq0.false
+    (rw c.square-2.ensures at c.row_times.ensures.union) c.row_times.ensures.cost

@@ -1,20 +1,14 @@
-use Rattle.std.proofs.Common.{◌<◌, Result, Ok, Err, refl, sym, ap, ◌∙◌, subst, arith, true≢false}
+use Rattle.std.proofs.Common.{◌<◌, refl, sym, ap, ◌∙◌, subst, arith, true≢false}
 use Rattle.std.proofs.lemmas.List.Elements.{All-from_get_or}
-use Rattle.std.specs.Result.{IfErr}
 use Rattle.bit_pack.specs.Bits.{AreBytes, Holds}
 use Rattle.bit_pack.specs.Reading.{Reading}
 use Rattle.bit_pack.specs.Written.{first_bits, IsWhole}
 use Rattle.label_model.specs.Reading.{IsPadding, IsLabelBytes, IsLabelLeft}
-use Rattle.wf_label.specs.Parts.{IsPassed}
+use Rattle.wf_label.specs.Parts.{IsPassed, at_front}
 use Rattle.wf_label.specs.Values.{AreLabelBits}
-use Rattle.wf_label.proofs.WholeLabels.{at_front, place_read, bits_read, bytes_read, whole_read, more_left, nothing_read, few_bytes}
+use Rattle.wf_label.proofs.WholeLabels.{place_read, bits_read, bytes_read, whole_read, more_left, nothing_read, few_bytes, at_error}
 use Rattle.wf_label.proofs.reference.LabelRef.check.Goals as goal
 use Rattle.wf_label.proofs.reference.LabelRef.check.Goals.{After-at}
-
--- what holds holds at each error
-at_error : {T E : Type 0} (P : Type 0) (r : Result T E) → P → IfErr r (λ _. P)
-at_error P (Ok x) h = tt
-at_error P (Err e) h = h
 
 -- a label was read from the front of the bytes
 read : (c : After-at) → IsPassed (IsLabelLeft c.args.g.grammar.now.core) IsPadding (at_front c.args.bytes.now) c.pass_label.new.reader

@@ -9,9 +9,9 @@ pub matrix-requires : goal.matrix-requires
 matrix-requires c =
     let low = c.requires.to in
     let e : c.begins.result + 2 + c.args.to.0 ≡ begins c.args.self.now.grammar (step_of c.args.s) + (2 + c.args.to.0) = omega (arith, c.begins.ensures.begins) in
-    reads _ c.args.self.now _ (step_of c.args.s) (2 + c.args.to.0) _ c.self.invariant c.self.view_is c.requires.open (omega arith) e
+    reads _ c.args.self.now _ _ (step_of c.args.s) (2 + c.args.to.0) _ c.self.invariant c.self.view_is c.requires.open (omega arith) e
 
 pub returns-clause-size : goal.returns-clause-size
 returns-clause-size c =
     let e : c.begins.result + 2 + c.args.to.0 ≡ begins c.args.self.now.grammar (step_of c.args.s) + (2 + c.args.to.0) = omega (arith, c.begins.ensures.begins) in
-    between_size _ c.args.self.now _ c.self.invariant c.self.view_is (step_of c.args.s) (c.begins.result + 2 + c.args.to.0) c.matrix.result c.requires.open c.matrix.ensures.same c.args.to.0 c.requires.to e
+    between_size _ c.args.self.now _ _ c.self.invariant c.self.view_is (step_of c.args.s) (c.begins.result + 2 + c.args.to.0) c.matrix.result c.requires.open c.matrix.ensures.same c.args.to.0 c.requires.to e

@@ -9,8 +9,8 @@ use Rattle.wf_vlabel.specs.Held.{IsKept}
 use Rattle.wf_vlabel.proofs.view_label.ViewLabel.cut.Goals as goal
 use Rattle.wf_vlabel.proofs.view_label.ViewLabel.cut.Goals.{After-at}
 
-kept : (c : After-at) → IsKept c.args.self.now c.self.inside.cuts.items
-kept c = subst (λ l. IsKept l c.self.inside.cuts.items) c.self.view_is c.self.invariant
+kept : (c : After-at) → IsKept c.args.self.now c.self.inside.stills.items c.self.inside.cuts.items
+kept c = subst (λ l. IsKept l c.self.inside.stills.items c.self.inside.cuts.items) c.self.view_is c.self.invariant
 
 module_is : (c : After-at) → get_or (round_at c.args.self.now.cycles c.args.c.0) c.args.place 0 ≡ c.at.result.0
 module_is c = sym (c.at.ensures ∙ ap (λ (l : ViewLabelSeen). get_or (round_at l.cycles c.args.c.0) c.args.place 0) c.self.view_is)

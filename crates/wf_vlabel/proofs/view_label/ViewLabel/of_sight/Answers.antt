@@ -8,10 +8,10 @@ use Rattle.wf_vlabel.proofs.view_label.ViewLabel.of_sight.Goals as goal
 use Rattle.wf_vlabel.proofs.view_label.ViewLabel.of_sight.Goals.{After-result-1}
 
 abbrev label : After-result-1 → ViewLabelSeen
-label c = record { grammar = c.args.s.linear.grammar.now.core; cycles = c.args.s.linear.cycles.now; flags = c.in_ok-expanded.expanded.items; full = c.in_ok-pairs.pairs; bodies = c.in_ok-bodies.bodies; squares = c.in_ok-squares.squares }
+label c = record { grammar = c.args.s.linear.grammar.now.core; cycles = c.args.s.linear.cycles.now; flags = c.in_ok-expanded.expanded.items; full = c.in_ok-pairs.pairs; bodies = c.in_ok-bodies.bodies; squares = c.in-Ok.tables.squares }
 
 -- the parts were made for the view
-made : (c : After-result-1) → AreMade (label c) c.in_ok-cuts.cuts.items c.args.s.view.now.core (pairs_of c.args.full.now)
+made : (c : After-result-1) → AreMade (label c) c.in-Ok.tables.stills.items c.in-Ok.tables.cuts.items c.args.s.view.now.core (pairs_of c.args.full.now)
 made c =
     record {
       formed = c.modules-modules.ensures.formed;
@@ -24,13 +24,14 @@ made c =
       pairs = c.in_ok-pairs.ensures.pairs;
       full_groups = c.in_ok-pairs.ensures.groups c.args.s.view.now.core c.requires.full;
       body_groups = c.in_ok-bodies.ensures;
-      square_groups = c.in_ok-squares.ensures;
-      cut_each = c.in_ok-cuts.ensures.count;
-      cuts_are = c.in_ok-cuts.ensures.cuts;
+      square_groups = c.in-Ok.ensures.squares;
+      stills_are = c.in-Ok.ensures.stills;
+      cut_each = c.in-Ok.ensures.count;
+      cuts_are = c.in-Ok.ensures.cuts;
     }
 
 pub invariant_of-result : goal.invariant_of-result
-invariant_of-result c = label_kept (label c) c.in_ok-cuts.cuts.items c.args.s.view.now.core (pairs_of c.args.full.now) (made c)
+invariant_of-result c = label_kept (label c) c.in-Ok.tables.stills.items c.in-Ok.tables.cuts.items c.args.s.view.now.core (pairs_of c.args.full.now) (made c)
 
-pub returns-clause-label : goal.returns-clause-label
-returns-clause-label c = label_of_view (label c) c.in_ok-cuts.cuts.items c.args.s.view.now.core (pairs_of c.args.full.now) (made c)
+pub returns-in-Ok-clause-label : goal.returns-in-Ok-clause-label
+returns-in-Ok-clause-label c = label_of_view (label c) c.in-Ok.tables.stills.items c.in-Ok.tables.cuts.items c.args.s.view.now.core (pairs_of c.args.full.now) (made c)
