@@ -10,11 +10,10 @@ pub mod UnopenedPairs
 pub mod Stepping
 pub mod ChainSteps
 pub mod ReadLists
-pub mod Numbered
 pub mod MadeItems
 pub mod SameHeld
 pub mod EachItem
-pub mod MadeRows
+pub mod MadeSteps
 pub mod PassedItems
 pub mod SameItems
 pub mod RouteSteps

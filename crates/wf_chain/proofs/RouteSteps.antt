@@ -1,6 +1,5 @@
 -- The steps of a route through the items of a graph, made vertex by vertex.
-use Rattle.std.proofs.Common.{◌≡◌, ℕ, ◌+◌, ◌<◌, ◌≤◌, List, [], ◌∷◌, ◌++◌, drop, length, get_or, Option, Some, None, Vec, refl, sym, ap, subst, ◌∙◌, append_assoc, append-nil}
-use Rattle.std.specs.declared.alloc.Global.{Global}
+use Rattle.std.proofs.Common.{◌≡◌, ℕ, ◌+◌, ◌<◌, ◌≤◌, List, [], ◌∷◌, ◌++◌, drop, length, get_or, Option, Some, None, refl, sym, ap, subst, ◌∙◌, append_assoc, append-nil}
 use Rattle.std.proofs.lemmas.List.{drop_more, drop_all}
 use Rattle.wf_model.specs.Lists.{IsIn}
 use Rattle.wf_model.proofs.Lists.{in_filter_from}
@@ -9,20 +8,21 @@ use Rattle.wf_flat.specs.declared.graph.Port.{Port as PortHeld}
 use Rattle.wf_flat.specs.declared.item.Item.{Item as ItemHeld}
 use Rattle.wf_chain.specs.declared.chain.ChainStep.{ChainStep as StepHeld}
 use Rattle.wf_chain.specs.ViewedRuns.{ViewedRunValue}
-use Rattle.wf_chain.specs.ItemGraphs.{is_joined, led_to, led_from, IsGraphInRange, via_of, steps_held, no_item}
+use Rattle.wf_chain.proofs.MadeSteps.{made_below}
+use Rattle.wf_chain.specs.ItemGraphs.{is_joined, led_to, led_from, via_of, steps_held, no_item}
 
 -- steps were made of the first k vertices of a route, the last of which is `at`
-pub record IsPartWay (v : ViewedRunValue) (is : List ItemHeld) (consumed produced : List (Option PortHeld)) (made : List (Vec ℕ Global)) (from : ℕ) (route : List ℕ) (steps : List StepHeld) (at k : ℕ) : Type 0 where
+pub record IsPartWay (v : ViewedRunValue) (is : List ItemHeld) (consumed produced : List (Option PortHeld)) (from : ℕ) (route : List ℕ) (steps : List StepHeld) (at k : ℕ) : Type 0 where
   pub so_far : steps ++ steps_held is consumed at (drop k route) ≡ steps_held is consumed from route
   pub there : at < length is
-  pub way_on : (to : ℕ) × IsRoute (led_from v consumed produced made) at (drop k route) to
+  pub way_on : (to : ℕ) × IsRoute (led_from v consumed produced) at (drop k route) to
 
-module _ (v : ViewedRunValue) (is : List ItemHeld) (consumed produced : List (Option PortHeld)) (made : List (Vec ℕ Global)) (within : IsGraphInRange (length v.run.instances) consumed produced made) (from : ℕ) (route : List ℕ) where
+module _ (v : ViewedRunValue) (is : List ItemHeld) (consumed produced : List (Option PortHeld)) (from : ℕ) (route : List ℕ) where
   abbrev row : ℕ → List ℕ
-  row = led_from v consumed produced made
+  row = led_from v consumed produced
 
   abbrev IsAfter : List StepHeld → ℕ → ℕ → Type 0
-  IsAfter = IsPartWay v is consumed produced made from route
+  IsAfter = IsPartWay v is consumed produced from route
 
   pub set_out : from < length is → (to : ℕ) × IsRoute row from route to → IsAfter [] from 0
   set_out there way = record { so_far = refl; there = there; way_on = way }
@@ -43,13 +43,13 @@ module _ (v : ViewedRunValue) (is : List ItemHeld) (consumed produced : List (Op
 
       -- the item of a vertex that is gone on from is consumed
       pub is_consumed : get_or consumed at None ≡ None → ⊥
-      is_consumed e = subst (λ o. IsIn w (led_to v produced made o)) e way.1
+      is_consumed e = subst (λ o. IsIn w (led_to v produced o)) e way.1
 
       module _ (p : PortHeld) (is_p : get_or consumed at None ≡ Some p) where
         pub next_there : length produced ≡ length is → w < length is
         next_there count =
-            let r = in_filter_from (λ x. is_joined v p (get_or produced x None)) w _ (subst (λ o. IsIn w (led_to v produced made o)) is_p way.1) in
-            subst (λ n. w < n) count (within.rows p.instance w (within.inputs at p is_p) r.0)
+            let r = in_filter_from (λ x. is_joined v p (get_or produced x None)) w _ (subst (λ o. IsIn w (led_to v produced o)) is_p way.1) in
+            subst (λ n. w < n) count (made_below produced p.instance w r.0)
 
         pub gone_on : length produced ≡ length is → (new : List StepHeld) → new ≡ steps ++ record { via = p.instance; item = get_or is w no_item } ∷ [] → IsAfter new w (k + 1)
         gone_on count new e =

@@ -1,10 +1,8 @@
 -- The graph of the items of a run under a safe view: each leads to those to which it leads through an instance.
-use Rattle.std.specs.Prelude.{◌≡◌, ℕ, ◌<◌, ◌==◌, Bool, false, List, [], ◌∷◌, drop, filter, length, get_or, Option, Some, None, Vec, MatchOption}
-use Rattle.std.specs.declared.alloc.Global.{Global}
+use Rattle.std.specs.Prelude.{◌≡◌, ℕ, ◌+◌, ◌-◌, ◌^◌, ◌<◌, ◌≤◌, ◌==◌, Bool, true, false, List, [], ◌∷◌, filter, length, get_or, Option, Some, None, MatchOption}
 use Rattle.wf_model.specs.declared.numbers.Side.TheVariants.{Input, Output}
-use Rattle.wf_model.specs.Lists.{IsIn, numbers_from}
+use Rattle.wf_model.specs.Lists.{numbers_from}
 use Rattle.wf_model.specs.Items.{IsVisible}
-use Rattle.wf_graph.specs.Graph.{nexts}
 use Rattle.wf_flat.specs.declared.graph.Port.{Port as PortHeld}
 use Rattle.wf_flat.specs.declared.item.Item.{Item as ItemHeld}
 use Rattle.wf_flat.specs.Table.{IsTableOf}
@@ -56,14 +54,26 @@ abbrev pub is_made_at : ℕ → Option PortHeld → Bool
 is_made_at m None = false
 is_made_at m (Some q) = q.instance == m
 
--- of so many items those that are produced at the instance of a number, in order
-abbrev pub made_there : List (Option PortHeld) → ℕ → ℕ → List ℕ
-made_there produced m n = filter (λ w. is_made_at m (get_or produced w None)) (numbers_from 0 n)
+-- of the items whose outputs are told, those from one on that are produced at the instance of a number, in order
+abbrev pub made_behind : List (Option PortHeld) → ℕ → ℕ → List ℕ
+made_behind produced m a = filter (λ w. is_made_at m (get_or produced w None)) (numbers_from a (length produced - a))
 
--- rows hold, for each of so many instances, the first n items that are produced at it
-pub record AreMadeAt (instances : ℕ) (produced : List (Option PortHeld)) (n : ℕ) (made : List (Vec ℕ Global)) : Type 0 where
-  pub count : length made ≡ instances
-  pub each : (m : ℕ) → m < instances → nexts made m ≡ made_there produced m n
+-- those from one on that are produced at the instance of an output, if this is there
+abbrev pub made_with : List (Option PortHeld) → Option PortHeld → ℕ → List ℕ
+made_with produced None a = []
+made_with produced (Some q) a = made_behind produced q.instance a
+
+-- of the items from one on, the first that is produced at the instance of a number is this one; none is where it is past the last
+pub record IsNextMade (produced : List (Option PortHeld)) (m a j : ℕ) : Type 0 where
+  pub behind : a ≤ j
+  pub none : (w : ℕ) → a ≤ w → w < j → is_made_at m (get_or produced w None) ≡ false
+  pub made : j < length produced → is_made_at m (get_or produced j None) ≡ true
+
+-- for each instance the first item from one on that is produced at it, and for each item from this one on the next behind it that is produced at the same instance
+pub record AreMadeFrom (produced : List (Option PortHeld)) (k : ℕ) (first next : List ℕ) : Type 0 where
+  pub each : length next ≡ length produced
+  pub firsts : (m : ℕ) → m < length first → IsNextMade produced m k (get_or first m 0)
+  pub nexts : (w : ℕ) (q : PortHeld) → k ≤ w → get_or produced w None ≡ Some q → IsNextMade produced q.instance (w + 1) (get_or next w 0)
 
 -- whether every expansion of the module of an instance joins an input of it and an output, if this is there
 abbrev pub is_joined : ViewedRunValue → PortHeld → Option PortHeld → Bool
@@ -74,26 +84,31 @@ is_joined v p (Some q) = full_in v (inst_at v.run.instances p.instance).module_n
 abbrev pub led_in : ViewedRunValue → List (Option PortHeld) → PortHeld → List ℕ → List ℕ
 led_in v produced p ws = filter (λ w. is_joined v p (get_or produced w None)) ws
 
--- the items to which an input, if it is there, leads: those that are produced at its instance, behind a mark
-abbrev pub led_behind : ViewedRunValue → List (Option PortHeld) → List (Vec ℕ Global) → Option PortHeld → ℕ → List ℕ
-led_behind v produced made None mark = []
-led_behind v produced made (Some p) mark = led_in v produced p (drop mark (nexts made p.instance))
+-- the items to which an input, if it is there, leads: those that are produced at its instance
+abbrev pub led_to : ViewedRunValue → List (Option PortHeld) → Option PortHeld → List ℕ
+led_to v produced None = []
+led_to v produced (Some p) = led_in v produced p (made_behind produced p.instance 0)
 
--- all of them
-abbrev pub led_to : ViewedRunValue → List (Option PortHeld) → List (Vec ℕ Global) → Option PortHeld → List ℕ
-led_to v produced made None = []
-led_to v produced made (Some p) = led_in v produced p (nexts made p.instance)
+-- those to which the item of a number leads
+abbrev pub led_from : ViewedRunValue → List (Option PortHeld) → List (Option PortHeld) → ℕ → List ℕ
+led_from v consumed produced k = led_to v produced (get_or consumed k None)
 
--- the items to which the item of a number leads
-abbrev pub led_from : ViewedRunValue → List (Option PortHeld) → List (Option PortHeld) → List (Vec ℕ Global) → ℕ → List ℕ
-led_from v consumed produced made k = led_to v produced made (get_or consumed k None)
+-- the items to which an input leads, of those from a mark on that are produced where the item of the mark is
+abbrev pub led_on : ViewedRunValue → List (Option PortHeld) → PortHeld → ℕ → List ℕ
+led_on v produced p mark = led_in v produced p (made_with produced (get_or produced mark None) mark)
 
--- the numbers that are used are in range
-pub record IsGraphInRange (instances : ℕ) (consumed produced : List (Option PortHeld)) (made : List (Vec ℕ Global)) : Type 0 where
-  pub count : length made ≡ instances
+-- none, if the input is not there
+abbrev pub led_behind : ViewedRunValue → List (Option PortHeld) → Option PortHeld → ℕ → List ℕ
+led_behind v produced None mark = []
+led_behind v produced (Some p) mark = led_on v produced p mark
+
+-- the numbers that are used are in range, and those of the items that are produced at each instance are told
+pub record IsGraphInRange (instances : ℕ) (consumed produced : List (Option PortHeld)) (first next : List ℕ) : Type 0 where
+  pub few : length produced < 2 ^ 32
+  pub count : length first ≡ instances
   pub inputs : (k : ℕ) (p : PortHeld) → get_or consumed k None ≡ Some p → p.instance < instances
   pub outputs : (k : ℕ) (q : PortHeld) → get_or produced k None ≡ Some q → q.port.0 < 64
-  pub rows : (m w : ℕ) → m < instances → IsIn w (nexts made m) → w < length produced
+  pub made : AreMadeFrom produced 0 first next
 
 -- the instance of an input, if it is there
 abbrev pub via_of : Option PortHeld → ℕ
@@ -105,11 +120,10 @@ abbrev pub steps_held : List ItemHeld → List (Option PortHeld) → ℕ → Lis
 steps_held is consumed a [] = []
 steps_held is consumed a (w ∷ ws) = record { via = via_of (get_or consumed a None); item = get_or is w no_item } ∷ steps_held is consumed w ws
 
--- items, where each is consumed and produced, and those that are produced at each instance, are those of a run under a safe view
-pub record IsGraphOf (v : ViewedRunValue) (is : List ItemHeld) (consumed produced : List (Option PortHeld)) (made : List (Vec ℕ Global)) : Type 0 where
+-- items, and where each is consumed and produced, are those of a run under a safe view
+pub record IsGraphOf (v : ViewedRunValue) (is : List ItemHeld) (consumed produced : List (Option PortHeld)) : Type 0 where
   pub safe : IsSafeView v.viewed
   pub run : IsTableOf (grammar_in v) v.run
   pub items : AreItemsOf (grammar_in v) v.run is
   pub consumers : AreEach (IsConsumerOf v) is (length is) consumed
   pub producers : AreEach (IsProducerOf v) is (length is) produced
-  pub rows : AreMadeAt (length v.run.instances) produced (length produced) made

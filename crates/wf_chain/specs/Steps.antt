@@ -4,7 +4,7 @@ use Rattle.wf_model.specs.declared.numbers.Side.{Side}
 use Rattle.wf_model.specs.declared.numbers.Side.TheVariants.{Input, Output}
 use Rattle.wf_model.specs.Lists.{IsIn, Walk}
 use Rattle.wf_model.specs.Run.{Instance, IsOpen, seen_in}
-use Rattle.wf_model.specs.Links.{Port, input, output}
+use Rattle.wf_model.specs.Links.{Port, output}
 use Rattle.wf_model.specs.Items.{Item, IsVisible}
 use Rattle.wf_model.specs.Grammar.{Grammar, Inner, Production, outputs_of}
 use Rattle.chain_model.specs.Chains.{ChainStep, IsEntry, IsExit, Consumes, IsStepFrom, unopened_pairs}

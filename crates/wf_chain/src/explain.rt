@@ -40,7 +40,7 @@ fn steps_along(
     requires consumed { length graph.now.consumed.now ≡ length items.now }
     requires produced { length graph.now.produced.now ≡ length items.now }
     requires there { from < length items.now }
-    requires route { (to : ℕ) × IsRoute (led_from graph.now.run.now graph.now.consumed.now graph.now.produced.now graph.now.made.now) from route.now to }
+    requires route { (to : ℕ) × IsRoute (led_from graph.now.run.now graph.now.consumed.now graph.now.produced.now) from route.now to }
     ensures { IfOk result (λ steps. steps.items ≡ steps_held items.now graph.now.consumed.now from route.now) }
 {
     let mut steps = Vec::with_capacity(alloc, route.len())?;
@@ -66,7 +66,7 @@ fn chain_between(
     first: &Item,
     second: &Item,
 ) -> Result<Option<Chain>, AllocError>
-    requires graph { IsGraphOf graph.now.run.now items.now graph.now.consumed.now graph.now.produced.now graph.now.made.now }
+    requires graph { IsGraphOf graph.now.run.now items.now graph.now.consumed.now graph.now.produced.now }
     requires few { length items.now < 2 ^ 32 }
     requires first { IsVisibleIn graph.now.run.now first.now }
     requires second { IsVisibleIn graph.now.run.now second.now }
@@ -89,7 +89,7 @@ impl<'r> ViewedRun<'r> {
     ///
     /// Of two chains of as many items that comes first whose item was made first where they part.
     ///
-    /// Cost: linear in the items of the run and in the entries and exits on their ways; from each item that is met the search looks at the items that are produced where it is consumed, at most 64. It holds 60 bytes for each item and 24 for each instance, and 13 more for each item that it meets. Fails only for want of memory; 2^32 items count as such.
+    /// Cost: linear in the items of the run and in the entries and exits on their ways; from each item that is met the search looks at the items that are produced where it is consumed, at most 64. It holds 60 bytes for each item and 4 for each instance, and 13 more for each item that it meets. Fails only for want of memory; 2^32 items count as such.
     pub fn explain(
         &self,
         alloc: Global,
@@ -125,7 +125,8 @@ impl<'r> ViewedRun<'r> {
             run: self,
             consumed: &consumed,
             produced: &produced,
-            made: &made,
+            first: &made.first,
+            next: &made.next,
         };
         chain_between(alloc, &graph, items, first, second)
     }

@@ -1,16 +1,15 @@
 // The graph whose vertices are the items of a run by number: each leads to those to which it leads through an instance.
-ghost use Rattle.std.specs.Prelude.{◌≡◌, ◌<◌, ◌≤◌, ◌^◌, ◌++◌, ◌∷◌, [], ℕ, None, cond, drop, length, get_or, IfOk, OnOk, MatchOption};
+ghost use Rattle.std.specs.Prelude.{◌≡◌, ◌<◌, ◌+◌, ◌^◌, ◌∷◌, [], ℕ, None, length, get_or, IfOk, MatchOption};
 ghost use Rattle.wf_model.specs.Lists.{IsIn};
-ghost use Rattle.wf_graph.specs.Graph.{nexts};
 ghost use Rattle.wf_flat.specs.declared.graph.Port.{Port as PortHeld};
 ghost use Rattle.wf_flat.specs.declared.item.Item.{Item as ItemHeld};
 ghost use Rattle.wf_chain.specs.ViewedRuns.{IsItemIn};
-ghost use Rattle.wf_chain.specs.ItemGraphs.{AreEach, IsConsumerOf, IsProducerOf, is_made_at, AreMadeAt, is_joined, led_in, led_from, led_behind, IsGraphInRange};
+ghost use Rattle.wf_chain.specs.ItemGraphs.{AreEach, IsConsumerOf, IsProducerOf, AreMadeFrom, led_on, led_from, led_behind, IsGraphInRange};
 
 use crate::viewed_run::ViewedRun;
 use std::alloc::{AllocError, Global};
 use wf_flat::{Item, Port};
-use wf_graph::{Graph, no_edges};
+use wf_graph::Graph;
 
 /// For each item of a list the input at which it is consumed in the end. Fails only for want of memory.
 pub fn consumers_of(
@@ -44,18 +43,26 @@ pub fn producers_of(
     Ok(ports)
 }
 
-/// Adds an item to the row of the instance at which it is produced, if it is.
-fn add_made(made: &mut Vec<Vec<u32>>, at: Option<Port>, k: u32) -> Result<(), AllocError>
-    requires { (q : PortHeld) → at ≡ Some q → q.instance < length made.old.items }
-    ensures count { OnOk result (length made.new.items ≡ length made.old.items) }
-    ensures added { OnOk result ((m : ℕ) → nexts made.new.items m ≡ nexts made.old.items m ++ cond (is_made_at m at) (k ∷ []) []) }
+/// The items that are produced at each instance, in order: for each instance the first of them, and for each item the next. Past the last item there is none.
+#[derive(Drop)]
+pub struct MadeItems {
+    pub first: Vec<u32>,
+    pub next: Vec<u32>,
+}
+
+/// Puts an item before those that are produced behind it at the same instance, if it is produced at one.
+fn put_before(produced: &[Option<Port>], first: &mut Vec<u32>, next: &mut Vec<u32>, k: u32)
+    requires there { k < length produced.now }
+    requires output { (q : PortHeld) → get_or produced.now k None ≡ Some q → q.instance < length first.old.items }
+    requires made { AreMadeFrom produced.now (k + 1) first.old.items next.old.items }
+    ensures count { length first.new.items ≡ length first.old.items }
+    ensures made { AreMadeFrom produced.now k first.new.items next.new.items }
 {
-    let Some(port) = at else {
-        return Ok(());
+    let Some(port) = produced[k as usize] else {
+        return;
     };
-    let row = &mut made[port.instance as usize];
-    row.push(k)?;
-    Ok(())
+    next[k as usize] = first[port.instance as usize];
+    first[port.instance as usize] = k;
 }
 
 /// For each of so many instances the items that are produced at it, in order. Fails only for want of memory.
@@ -63,55 +70,58 @@ pub fn made_at(
     alloc: Global,
     instances: usize,
     produced: &[Option<Port>],
-) -> Result<Vec<Vec<u32>>, AllocError>
+) -> Result<MadeItems, AllocError>
     requires few { length produced.now < 2 ^ 32 }
     requires there { (k : ℕ) (q : PortHeld) → get_or produced.now k None ≡ Some q → q.instance < instances }
-    ensures { IfOk result (λ made. AreMadeAt instances produced.now (length produced.now) made.items) }
+    ensures count { IfOk result (λ made. length made.first.items ≡ instances) }
+    ensures made { IfOk result (λ made. AreMadeFrom produced.now 0 made.first.items made.next.items) }
 {
-    let mut made = no_edges(alloc, instances)?;
-    for k in 0..produced.len() {
-        add_made(&mut made, produced[k], k as u32)?;
+    let count = produced.len();
+    let mut first = vec![in alloc; count as u32; instances]?;
+    let mut next = vec![in alloc; count as u32; count]?;
+    let mut left = count;
+    while left > 0 {
+        left -= 1;
+        put_before(produced, &mut first, &mut next, left as u32);
     }
-    Ok(made)
+    Ok(MadeItems { first, next })
 }
 
-/// For each item the input at which it is consumed in the end and the output at which it is produced in the first place, if the view shows it; and for each instance the items that are produced at it.
+/// For each item the input at which it is consumed in the end and the output at which it is produced in the first place, if the view shows it; and the items that are produced at each instance.
 #[derive(Clone, Copy)]
 pub struct ItemGraph<'a, 'r> {
     pub run: &'a ViewedRun<'r>,
     pub consumed: &'a [Option<Port>],
     pub produced: &'a [Option<Port>],
-    pub made: &'a [Vec<u32>],
-    pub ghost within: { ∥ IsGraphInRange (length run.now.run.instances) consumed.now produced.now made.now ∥₁ },
+    pub first: &'a [u32],
+    pub next: &'a [u32],
+    pub ghost within: { ∥ IsGraphInRange (length run.now.run.instances) consumed.now produced.now first.now next.now ∥₁ },
 }
 
 impl ItemGraph<'_, '_> {
-    /// Whether an input leads to the item of a number.
-    fn leads(&self, input: Port, w: u32) -> bool
-        requires input { input.instance < length self.now.run.now.run.instances }
-        requires item { w < length self.now.produced.now }
-        ensures { result ≡ is_joined self.now.run.now input (get_or self.now.produced.now w None) }
+    /// The output at which the item of a number is produced, if there is one.
+    fn output_of(&self, k: usize) -> Option<Port>
+        ensures { result ≡ get_or self.now.produced.now k None }
     {
-        let Some(output) = self.produced[w as usize] else {
-            return false;
-        };
-        self.run.has_pair(input.instance, input.port, output.port)
+        if k >= self.produced.len() {
+            return None;
+        }
+        self.produced[k]
     }
 
-    /// The first item of a row behind a mark to which an input leads, with the mark behind it.
-    fn next_led(&self, input: Port, row: &[u32], mark: usize) -> Option<(u32, usize)>
-        requires input { input.instance < length self.now.run.now.run.instances }
-        requires row { (w : ℕ) → IsIn w row.now → w < length self.now.produced.now }
-        ensures { MatchOption result (led_in self.now.run.now self.now.produced.now input (drop mark row.now) ≡ [])
-            (λ n. led_in self.now.run.now self.now.produced.now input (drop mark row.now) ≡ n.0 ∷ led_in self.now.run.now self.now.produced.now input (drop n.1 row.now)) }
+    /// The first item from a mark on to which an input leads, of those that are produced where the item of the mark is, with the mark behind it.
+    fn next_led(&self, input: Port, mark: usize) -> Option<(u32, usize)>
+        requires { input.instance < length self.now.run.now.run.instances }
+        ensures { MatchOption result (led_on self.now.run.now self.now.produced.now input mark ≡ [])
+            (λ n. led_on self.now.run.now self.now.produced.now input mark ≡ n.0 ∷ led_on self.now.run.now self.now.produced.now input n.1) }
     {
         let mut at = mark;
-        while at < row.len() {
-            let w = row[at];
-            at += 1;
-            if self.leads(input, w) {
-                return Some((w, at));
+        while let Some(output) = self.output_of(at) {
+            let behind = self.next[at] as usize;
+            if self.run.has_pair(input.instance, input.port, output.port) {
+                return Some((at as u32, behind));
             }
+            at = behind;
         }
         None
     }
@@ -120,23 +130,25 @@ impl ItemGraph<'_, '_> {
 impl Graph for ItemGraph<'_, '_> {
     ghost size = { λ g. length g.consumed.now };
 
-    ghost leads = { λ g k. led_from g.run.now g.consumed.now g.produced.now g.made.now k };
+    ghost leads = { λ g k. led_from g.run.now g.consumed.now g.produced.now k };
 
-    ghost rest = { λ g k mark. led_behind g.run.now g.produced.now g.made.now (get_or g.consumed.now k None) mark };
+    ghost rest = { λ g k mark. led_behind g.run.now g.produced.now (get_or g.consumed.now k None) mark };
 
     fn size(&self) -> usize {
         self.consumed.len()
     }
 
-    fn begin(&self, _: u32) -> usize {
-        0
+    fn begin(&self, v: u32) -> usize {
+        let Some(input) = self.consumed[v as usize] else {
+            return 0;
+        };
+        self.first[input.instance as usize] as usize
     }
 
     fn next(&self, v: u32, mark: usize) -> Option<(u32, usize)> {
         let Some(input) = self.consumed[v as usize] else {
             return None;
         };
-        let row = self.made[input.instance as usize].as_slice();
-        self.next_led(input, row, mark)
+        self.next_led(input, mark)
     }
 }

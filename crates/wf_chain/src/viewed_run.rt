@@ -67,26 +67,26 @@ impl<'r> ViewedRun<'r> {
         self.run
     }
 
-    /// The item of a name.
+    /// The item of a name, which may be that of the instance `near`.
     ///
     /// Cost: that of `wf_flat::find_item`. Takes no memory.
-    pub fn find_item(&self, name: &[u8]) -> Option<Item>
+    pub fn find_item(&self, near: u32, name: &[u8]) -> Option<Item>
         ensures found { IfSome result (IsItemIn self.now) }
         ensures named { IfSome result (λ i. item_name (grammar_in self.now) self.now.run i ≡ name.now) }
         ensures none { IsNone result → HasNoItem (grammar_in self.now) self.now.run name.now }
     {
-        find_item(self.viewed.grammar(), self.run, name)
+        find_item(self.viewed.grammar(), self.run, near, name)
     }
 
-    /// The number of the instance of a name.
+    /// The number of the instance of a name, which may be `near`.
     ///
-    /// Cost: one look-up by hashing. Takes no memory.
-    pub fn find_instance(&self, name: &[u8]) -> Option<u32>
+    /// Cost: where it is another, one look-up by hashing. Takes no memory.
+    pub fn find_instance(&self, near: u32, name: &[u8]) -> Option<u32>
         ensures there { IfSome result (λ k. k < length self.now.run.instances) }
         ensures named { IfSome result (λ k. (inst_at self.now.run.instances k).name ≡ name.now) }
         ensures none { IsNone result → (k : ℕ) → k < length self.now.run.instances → (inst_at self.now.run.instances k).name ≡ name.now → ⊥ }
     {
-        self.run.find(name)
+        self.run.find_near(near, name)
     }
 
     /// Whether the view shows an item of the run: a port of the root, or made by an open instance.
@@ -116,10 +116,10 @@ impl<'r> ViewedRun<'r> {
         requires { k < length self.now.run.instances }
         ensures { MatchOption result (IsOpenIn self.now k → ⊥) (λ p. IsOpenIn self.now k × ((get_or self.now.run.instances k no_instance).production ≡ Some p)) }
     {
-        let production = self.run.instances()[k as usize].production;
+        let run = self.run;
         if !self.opens(k) {
             return None;
         }
-        production
+        run.instances()[k as usize].production
     }
 }

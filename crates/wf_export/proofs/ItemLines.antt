@@ -23,7 +23,7 @@ use Rattle.wf_export.specs.ExportText.{item_line, visible_line, items_text}
 use Rattle.wf_export.specs.Shown.{IsRunSeen, IsReady, port_lines, root_lines, held_edge_line, expansion_lines, held_items_text}
 
 -- lists that are made of lists
-flat_map-flat_map : {A B C : Type 0} (f : B → List C) (h : A → List B) (xs : List A) → flat_map f (flat_map h xs) ≡ flat_map (λ x. flat_map f (h x)) xs
+pub flat_map-flat_map : {A B C : Type 0} (f : B → List C) (h : A → List B) (xs : List A) → flat_map f (flat_map h xs) ≡ flat_map (λ x. flat_map f (h x)) xs
 flat_map-flat_map f h [] = refl
 flat_map-flat_map f h (x ∷ xs) = flat_map-append f (h x) (flat_map h xs) ∙ ap (λ l. flat_map f (h x) ++ l) (flat_map-flat_map f h xs)
 

@@ -1,5 +1,5 @@
 -- The lines of links, from the table.
-use Rattle.std.proofs.Common.{◌≡◌, ℕ, zero, suc, ◌<◌, Bool, true, false, cond, List, [], ◌∷◌, ◌++◌, map, length, get_or, refl, ap, sym, subst, ◌∙◌, arith, codes}
+use Rattle.std.proofs.Common.{◌≡◌, ℕ, zero, suc, ◌<◌, Bool, true, false, cond, List, [], ◌∷◌, ◌++◌, map, length, get_or, Option, refl, ap, sym, subst, ◌∙◌, arith, codes}
 use Rattle.std.specs.Prelude.{flat_map, bytes_eq}
 use Rattle.std.proofs.lemmas.List.Folds.{flat_map-map}
 use Rattle.wf_model.specs.Lists.{IsIn, AllDiffer}
@@ -13,11 +13,12 @@ use Rattle.wf_model.proofs.Mapping.{flat_map_same, at_map}
 use Rattle.wf_flat.specs.declared.table.Inst.{Inst}
 use Rattle.wf_flat.specs.declared.graph.Port.{Port as PortHeld}
 use Rattle.wf_flat.specs.Table.{Table, IsTableOf, instance_of, names_in, events_of, no_instance}
-use Rattle.wf_flat.specs.Graph.{named_port, named_link}
+use Rattle.wf_flat.specs.Graph.{named_port, named_link, links_at, links_among}
 use Rattle.wf_flat.specs.Shown.{RunSeen}
 use Rattle.wf_flat.proofs.SeenNumbers.{all_differ, name_at}
+use Rattle.wf_export.proofs.ItemLines.{flat_map-flat_map}
 use Rattle.wf_export.specs.ExportText.{ports_on, port_text, link_line, links_text}
-use Rattle.wf_export.specs.Shown.{IsRunSeen, held_port_text, held_links_text}
+use Rattle.wf_export.specs.Shown.{AreLinksSeen, held_port_text, held_link_line, seen_links_text}
 
 -- where names differ, the first instance of a name is the one that has it
 module_at_place : (xs : List Inst) (k : ℕ) → AllDiffer (names_in xs) → k < length xs → module_in (map instance_of xs) (get_or xs k no_instance).name ≡ (get_or xs k no_instance).module.0
@@ -45,13 +46,15 @@ module _ (g : Grammar) (t : Table) (run : IsTableOf g t) where
       ∙ ap (λ n. dotted n (get_or (ports_on (module_at g (module_in is n)) x.side) x.port.0 [])) (sym (name_at g t run x.instance h))
 
 -- the lines of the links between what is seen
-pub links_told : (g : Grammar) (u : View) (t : Table) (shown : RunSeen) → IsRunSeen g u t shown → held_links_text g t shown.links ≡ links_text g u (events_of t)
-links_told g u t shown seen =
+pub links_told : (g : Grammar) (u : View) (t : Table) (rows : List (Option (List ℕ))) (shown : RunSeen) → IsTableOf g t → AreLinksSeen g u t rows shown → seen_links_text g shown rows t.instances ≡ links_text g u (events_of t)
+links_told g u t rows shown run seen =
     let is = made g g.start (events_of t) in
     let names = names_in t.instances in
-    flat_map_same _ _ shown.links (λ l i.
+    let ls = links_among g shown.marks rows t.instances shown.numbers in
+    sym (flat_map-flat_map (held_link_line g t.instances) (links_at g shown.marks rows t.instances) shown.numbers)
+    ∙ (flat_map_same _ _ ls (λ l i.
     let w = seen.within l i in
-    ap (λ z. codes "link " ++ (z ++ (codes " " ++ (held_port_text g t.instances l.to ++ codes "\n")))) (port_told g t seen.run l.from w.0)
-    ∙ ap (λ z. codes "link " ++ (port_text g is (named_port names l.from) ++ (codes " " ++ (z ++ codes "\n")))) (port_told g t seen.run l.to w.1))
-    ∙ (sym (flat_map-map (link_line g is) (named_link names) shown.links)
-    ∙ ap (flat_map (link_line g is)) seen.links)
+    ap (λ z. codes "link " ++ (z ++ (codes " " ++ (held_port_text g t.instances l.to ++ codes "\n")))) (port_told g t run l.from w.0)
+    ∙ ap (λ z. codes "link " ++ (port_text g is (named_port names l.from) ++ (codes " " ++ (z ++ codes "\n")))) (port_told g t run l.to w.1))
+    ∙ (sym (flat_map-map (link_line g is) (named_link names) ls)
+    ∙ ap (flat_map (link_line g is)) seen.links))

@@ -1,5 +1,5 @@
 -- What the tables of a run under a view tell: its lines by numbers of instances.
-use Rattle.std.specs.Prelude.{◌≡◌, ℕ, ◌+◌, ◌<◌, ◌≤◌, Bool, cond, is_some, List, [], ◌++◌, map, flat_map, take, drop, length, get_or, codes}
+use Rattle.std.specs.Prelude.{◌≡◌, ℕ, ◌+◌, ◌<◌, ◌≤◌, Bool, cond, is_some, List, [], ◌++◌, map, flat_map, take, drop, length, get_or, codes, Option}
 use Rattle.wf_model.specs.Lists.{IsIn}
 use Rattle.wf_model.specs.Grammar.{Grammar, Edge, production_at, module_at}
 use Rattle.wf_model.specs.WellFormed.{IsWellFormed}
@@ -12,21 +12,25 @@ use Rattle.wf_flat.specs.declared.table.Opened.{Opened}
 use Rattle.wf_flat.specs.declared.graph.Port.{Port as PortHeld}
 use Rattle.wf_flat.specs.declared.graph.Link.{Link as LinkHeld}
 use Rattle.wf_flat.specs.Table.{Table, IsTableOf, IsOpenedIn, events_of, names_in, no_instance}
-use Rattle.wf_flat.specs.Graph.{named_links, flag_of, inst_at}
+use Rattle.wf_flat.specs.Graph.{named_links, flag_of, inst_at, links_at, links_among, IsMadeFor}
 use Rattle.wf_flat.specs.Flat.{AreWithin}
 use Rattle.wf_flat.specs.Shown.{RunSeen}
 use Rattle.wf_export.specs.ExportText.{named_line, item_line, ports_on}
 
--- a run of a well-formed grammar as a view shows it: the numbers of its seen instances, its links, where its expansions lead, and whether each instance is open once it is expanded
+-- a run of a well-formed grammar as a view shows it: the numbers of its seen instances, where its expansions lead, and whether each instance is open once it is expanded
 pub record IsRunSeen (g : Grammar) (u : View) (t : Table) (shown : RunSeen) : Type 0 where
   pub grammar : IsWellFormed g
   pub run : IsTableOf g t
   pub seen : map (inst_at t.instances) shown.numbers ≡ seen_in g u g.start (events_of t)
   pub there : (k : ℕ) → IsIn k shown.numbers → k < length t.instances
-  pub links : named_links (names_in t.instances) shown.links ≡ links g u g.start (events_of t)
-  pub within : AreWithin (length t.instances) shown.links
   pub opened : (o : Opened) → IsIn o t.order → IsOpenedIn (length t.instances) o
   pub opens : (k : ℕ) → k < length t.instances → flag_of shown.opens k ≡ opens u (seen_in g u g.start (events_of t)) (get_or (names_in t.instances) k [])
+
+-- rows for the modules that are not expanded, by which the seen instances have the links of the run
+pub record AreLinksSeen (g : Grammar) (u : View) (t : Table) (rows : List (Option (List ℕ))) (shown : RunSeen) : Type 0 where
+  pub made_for : IsMadeFor g rows
+  pub links : named_links (names_in t.instances) (links_among g shown.marks rows t.instances shown.numbers) ≡ links g u g.start (events_of t)
+  pub within : AreWithin (length t.instances) (links_among g shown.marks rows t.instances shown.numbers)
 
 -- the line of an instance of the table, where it is seen
 abbrev pub held_instance_line : Grammar → View → Inst → List ℕ
@@ -82,5 +86,13 @@ abbrev pub held_link_line : Grammar → List Inst → LinkHeld → List ℕ
 held_link_line g xs l = codes "link " ++ (held_port_text g xs l.from ++ (codes " " ++ (held_port_text g xs l.to ++ codes "\n")))
 
 -- the lines of links
-abbrev pub held_links_text : Grammar → Table → List LinkHeld → List ℕ
-held_links_text g t ls = flat_map (held_link_line g t.instances) ls
+abbrev pub held_links_text : Grammar → List Inst → List LinkHeld → List ℕ
+held_links_text g xs ls = flat_map (held_link_line g xs) ls
+
+-- the lines of the links of a seen instance
+abbrev pub instance_links_text : Grammar → List Bool → List (Option (List ℕ)) → List Inst → ℕ → List ℕ
+instance_links_text g marks rows xs k = held_links_text g xs (links_at g marks rows xs k)
+
+-- the lines of the links of the seen instances, one after the other
+abbrev pub seen_links_text : Grammar → RunSeen → List (Option (List ℕ)) → List Inst → List ℕ
+seen_links_text g shown rows xs = flat_map (instance_links_text g shown.marks rows xs) shown.numbers

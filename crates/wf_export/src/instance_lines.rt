@@ -69,7 +69,7 @@ pub fn put_instances<O: Sink>(
     g: &Grammar,
     view: &View,
     run: &PlainRun,
-    shown: &RunView,
+    shown: &RunView<'_>,
     out: &mut O,
 ) -> Result<(), ExportFault>
     requires { IsRunSeen g.now.core view.now.core run.now shown.now }

@@ -97,7 +97,7 @@ fn put_expansion<O: Sink>(
     due: &mut Due,
     g: &Grammar,
     instances: &[Inst],
-    shown: &RunView,
+    shown: &RunView<'_>,
     o: Opened,
     out: &mut O,
 ) -> Result<(), ExportFault>
@@ -126,7 +126,7 @@ fn put_expansions<O: Sink>(
     due: &mut Due,
     g: &Grammar,
     run: &PlainRun,
-    shown: &RunView,
+    shown: &RunView<'_>,
     out: &mut O,
 ) -> Result<(), ExportFault>
     requires { IsTableOf g.now.core run.now }
@@ -146,7 +146,7 @@ pub fn put_items<O: Sink>(
     due: &mut Due,
     g: &Grammar,
     run: &PlainRun,
-    shown: &RunView,
+    shown: &RunView<'_>,
     out: &mut O,
 ) -> Result<(), ExportFault>
     requires { IsTableOf g.now.core run.now }

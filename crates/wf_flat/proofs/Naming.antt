@@ -1,22 +1,20 @@
 -- Links by number are links by name.
-use Rattle.std.proofs.Common.{◌≡◌, ℕ, suc, ◌+◌, ◌<◌, ◌≤◌, ◌^◌, ◌%◌, Bool, true, false, cond, List, [], ◌∷◌, ◌++◌, map, flat_map, take, drop, length, get_or, Option, Some, None, refl, ap, sym, subst, ◌∙◌, arith, inl, inr, append_assoc, append-nil}
+use Rattle.std.proofs.Common.{◌≡◌, ℕ, suc, ◌+◌, ◌<◌, ◌≤◌, ◌^◌, ◌%◌, Bool, true, false, cond, List, [], ◌∷◌, ◌++◌, map, flat_map, take, drop, length, get_or, Option, Some, None, refl, ap, sym, subst, ◌∙◌, arith, inl, inr}
 use Rattle.std.specs.Prelude.{◌==◌}
 use Rattle.std.specs.Int.{bit_at}
 use Rattle.std.proofs.Math.Nat.{mod-eq_of_lt}
 use Rattle.std.proofs.lemmas.List.{map-append, get_or-take, get_or-drop, get_or_read}
 use Rattle.wf_model.specs.declared.numbers.Side.{Side}
 use Rattle.wf_model.specs.declared.numbers.Side.TheVariants.{Input, Output}
-use Rattle.wf_model.specs.declared.body.Edge.{Edge}
-use Rattle.wf_model.specs.declared.body.Inner.{Inner}
 use Rattle.wf_model.specs.Lists.{IsIn, numbers_from}
-use Rattle.wf_model.specs.Grammar.{Grammar, Production, Module, module_at, inputs_of, outputs_of}
+use Rattle.wf_model.specs.Grammar.{Grammar, Production, Edge, Inner, Module, module_at, inputs_of, outputs_of}
 use Rattle.wf_model.specs.WellFormed.{IsWellFormed}
-use Rattle.wf_model.proofs.Lists.{in_map, at_in, is_at}
+use Rattle.wf_model.proofs.Lists.{at_in, is_at}
 use Rattle.wf_model.specs.Links.{Port, Link, input, output, edge_link, entry_links, exit_links, pair_links, instance_at, move_link}
-use Rattle.wf_model.specs.Meaning.{inner_of, edge_of, pairs_of, bit_of}
+use Rattle.wf_model.specs.Meaning.{pairs_of, bit_of}
 use Rattle.wf_model.proofs.Mapping.{map-flat_map, flat_map_same}
-use Rattle.wf_flat.specs.declared.graph.Link.{Link as LinkHeld}
-use Rattle.wf_flat.specs.Graph.{named_port, named_link, named_links, pair, row_links, matrix_links, child_port, edge_at, entries_at, exits_at, AreBelow, wiring_of}
+use Rattle.wf_flat.specs.Graph.{named_port, named_link, named_links, pair, row_links, matrix_links, child_port, edge_at, entries_at, exits_at, wiring_at, pairs_by, pairs_at}
+use Rattle.wf_flat.proofs.OfInstance.{AreBelow, wiring_of}
 
 map_if : {A B : Type 0} (f : A → B) (b : Bool) (x : A) → map f (cond b (x ∷ []) []) ≡ cond b (f x ∷ []) []
 map_if f true x = refl
@@ -34,7 +32,7 @@ module _ (names : List (List ℕ)) (k : ℕ) where
       map-flat_map (named_link names) (λ j. cond (bit_at row j == 1) (pair k i j ∷ []) []) (numbers_from o m)
       ∙ flat_map_same (λ j. map (named_link names) (cond (bit_at row j == 1) (pair k i j ∷ []) [])) (λ j. cond (bit_at row j == 1) (by_name i j ∷ []) []) (numbers_from o m) (λ j _. map_if (named_link names) (bit_at row j == 1) (pair k i j))
 
-  pub matrix_named : (g : Grammar) (leaf : List (Option (List ℕ))) (m : ℕ) (rows : List ℕ) → get_or leaf m None ≡ Some rows → named_links names (matrix_links k rows (outputs_of g m) 0 (inputs_of g m)) ≡ pair_links g (pairs_of leaf) m n
+  matrix_named : (g : Grammar) (leaf : List (Option (List ℕ))) (m : ℕ) (rows : List ℕ) → get_or leaf m None ≡ Some rows → named_links names (matrix_links k rows (outputs_of g m) 0 (inputs_of g m)) ≡ pair_links g (pairs_of leaf) m n
   matrix_named g leaf m rows e =
       map-flat_map (named_link names) (λ j. row_links k j (get_or rows j 0) 0 (outputs_of g m)) (numbers_from 0 (inputs_of g m))
       ∙ flat_map_same (λ j. map (named_link names) (row_links k j (get_or rows j 0) 0 (outputs_of g m))) (λ i. flat_map (λ o. cond (pairs_of leaf m i o) (by_name i o ∷ []) []) (numbers_from 0 (outputs_of g m))) (numbers_from 0 (inputs_of g m))
@@ -44,7 +42,7 @@ module _ (names : List (List ℕ)) (k : ℕ) where
   nothing [] = refl
   nothing (x ∷ xs) = nothing xs
 
-  pub none_named : (g : Grammar) (leaf : List (Option (List ℕ))) (m : ℕ) → get_or leaf m None ≡ None → pair_links g (pairs_of leaf) m n ≡ []
+  none_named : (g : Grammar) (leaf : List (Option (List ℕ))) (m : ℕ) → get_or leaf m None ≡ None → pair_links g (pairs_of leaf) m n ≡ []
   none_named g leaf m e =
       flat_map_same (λ i. flat_map (λ o. cond (pairs_of leaf m i o) (by_name i o ∷ []) []) (numbers_from 0 (outputs_of g m))) (λ i. []) (numbers_from 0 (inputs_of g m))
       (λ i _. flat_map_same (λ o. cond (pairs_of leaf m i o) (by_name i o ∷ []) []) (λ o. []) (numbers_from 0 (outputs_of g m)) (λ o _. ap (λ r. cond (bit_of r i o) (by_name i o ∷ []) []) e) ∙ nothing (numbers_from 0 (outputs_of g m)))
@@ -54,65 +52,55 @@ module _ (names : List (List ℕ)) (k : ℕ) where
     abbrev ns : List (List ℕ)
     ns = take count (drop first names)
 
-    child_named : (s : Side) (i : Inner) → i.pos.0 < count → named_port names (child_port first s i) ≡ record { owner = get_or ns i.pos.0 []; side = s; number = i.port.0 }
+    child_named : (s : Side) (i : Inner) → i.position < count → named_port names (child_port first s i) ≡ record { owner = get_or ns i.position []; side = s; number = i.port }
     child_named s i h =
-        let low : first + i.pos.0 < 2 ^ 32 = omega arith in
-        let a : get_or names ((first + i.pos.0) % 2 ^ 32) [] ≡ get_or names (first + i.pos.0) [] = ap (λ z. get_or names z []) (mod-eq_of_lt low) in
-        let b : get_or ns i.pos.0 [] ≡ get_or names (first + i.pos.0) [] = get_or-take count (drop first names) i.pos.0 [] h ∙ get_or-drop first names i.pos.0 [] in
+        let low : first + i.position < 2 ^ 32 = omega arith in
+        let a : get_or names ((first + i.position) % 2 ^ 32) [] ≡ get_or names (first + i.position) [] = ap (λ z. get_or names z []) (mod-eq_of_lt low) in
+        let b : get_or ns i.position [] ≡ get_or names (first + i.position) [] = get_or-take count (drop first names) i.position [] h ∙ get_or-drop first names i.position [] in
         ap (λ (z : List ℕ). port_of z) (a ∙ sym b)
       where
         port_of : List ℕ → Port (List ℕ)
-        port_of z = record { owner = z; side = s; number = i.port.0 }
+        port_of z = record { owner = z; side = s; number = i.port }
 
-    pub edges_named : (es : List Edge) → ((e : Edge) → IsIn e es → (e.from.pos.0 < count) × (e.to.pos.0 < count)) → named_links names (map (edge_at first) es) ≡ map (move_link (instance_at n ns)) (map edge_link (map edge_of es))
+    edges_named : (es : List Edge) → ((e : Edge) → IsIn e es → (e.from.position < count) × (e.to.position < count)) → named_links names (map (edge_at first) es) ≡ map (move_link (instance_at n ns)) (map edge_link es)
     edges_named [] h = refl
     edges_named (e ∷ es) h =
         let r = h e (inl refl) in
         ap (λ (x : Link (List ℕ)). x ∷ named_links names (map (edge_at first) es)) (λ i. record { from = child_named Output e.from r.0 i; to = child_named Input e.to r.1 i })
-        ∙ ap (λ l. move_link (instance_at n ns) (edge_link (edge_of e)) ∷ l) (edges_named es (λ z i. h z (inr i)))
+        ∙ ap (λ l. move_link (instance_at n ns) (edge_link e) ∷ l) (edges_named es (λ z i. h z (inr i)))
 
-    pub entries_named : (j : ℕ) (is : List Inner) → ((i : Inner) → IsIn i is → i.pos.0 < count) → named_links names (entries_at k first j is) ≡ map (move_link (instance_at n ns)) (entry_links j (map inner_of is))
+    entries_named : (j : ℕ) (is : List Inner) → ((i : Inner) → IsIn i is → i.position < count) → named_links names (entries_at k first j is) ≡ map (move_link (instance_at n ns)) (entry_links j is)
     entries_named j [] h = refl
     entries_named j (i ∷ is) h =
         ap (λ (x : Port (List ℕ)). (let l : Link (List ℕ) = record { from = input n j; to = x } in l) ∷ named_links names (entries_at k first (j + 1) is)) (child_named Input i (h i (inl refl)))
-        ∙ ap (λ l. move_link (instance_at n ns) (record { from = input None j; to = input (Some i.pos.0) i.port.0 }) ∷ l)
+        ∙ ap (λ l. move_link (instance_at n ns) (record { from = input None j; to = input (Some i.position) i.port }) ∷ l)
         (ap (λ q. named_links names (entries_at k first q is)) (let e : j + 1 ≡ suc j = omega arith in e) ∙ entries_named (suc j) is (λ z q. h z (inr q)))
 
-    pub exits_named : (j : ℕ) (is : List Inner) → ((i : Inner) → IsIn i is → i.pos.0 < count) → named_links names (exits_at k first j is) ≡ map (move_link (instance_at n ns)) (exit_links j (map inner_of is))
+    exits_named : (j : ℕ) (is : List Inner) → ((i : Inner) → IsIn i is → i.position < count) → named_links names (exits_at k first j is) ≡ map (move_link (instance_at n ns)) (exit_links j is)
     exits_named j [] h = refl
     exits_named j (i ∷ is) h =
         ap (λ (x : Port (List ℕ)). (let l : Link (List ℕ) = record { from = x; to = output n j } in l) ∷ named_links names (exits_at k first (j + 1) is)) (child_named Output i (h i (inl refl)))
-        ∙ ap (λ l. move_link (instance_at n ns) (record { from = output (Some i.pos.0) i.port.0; to = output None j }) ∷ l)
+        ∙ ap (λ l. move_link (instance_at n ns) (record { from = output (Some i.position) i.port; to = output None j }) ∷ l)
         (ap (λ q. named_links names (exits_at k first q is)) (let e : j + 1 ≡ suc j = omega arith in e) ∙ exits_named (suc j) is (λ z q. h z (inr q)))
 
-    pub wiring_named : (old one two new : List LinkHeld) (es : List Edge) (ins outs : List Inner) (r : Production) → map edge_of es ≡ r.edges → map inner_of ins ≡ r.entries → map inner_of outs ≡ r.exits → AreBelow count r →
-        one ≡ old ++ map (edge_at first) es → two ≡ one ++ entries_at k first 0 ins → new ≡ two ++ exits_at k first 0 outs →
-        named_links names new ≡ named_links names old ++ map (move_link (instance_at n ns)) (wiring_of r)
-    wiring_named old one two new es ins outs r a b c below p q s =
-        ap (named_links names) s ∙ (map-append (named_link names) two (exits_at k first 0 outs)
-        ∙ (ap (λ l. named_links names l ++ named_links names (exits_at k first 0 outs)) q
-        ∙ (ap (λ l. l ++ named_links names (exits_at k first 0 outs)) (map-append (named_link names) one (entries_at k first 0 ins)
-        ∙ (ap (λ l. named_links names l ++ named_links names (entries_at k first 0 ins)) p ∙ ap (λ l. l ++ named_links names (entries_at k first 0 ins)) (map-append (named_link names) old (map (edge_at first) es))))
-        ∙ (append_assoc (named_links names old ++ named_links names (map (edge_at first) es)) (named_links names (entries_at k first 0 ins)) (named_links names (exits_at k first 0 outs))
-        ∙ (append_assoc (named_links names old) (named_links names (map (edge_at first) es)) (named_links names (entries_at k first 0 ins) ++ named_links names (exits_at k first 0 outs))
-        ∙ ap (λ l. named_links names old ++ l) all)))))
-      where
-        edges_below : (e : Edge) → IsIn e es → (e.from.pos.0 < count) × (e.to.pos.0 < count)
-        edges_below e h = below.edges (edge_of e) (subst (IsIn (edge_of e)) a (in_map edge_of e es h))
+    pub wiring_named : (r : Production) → AreBelow count r → named_links names (wiring_at k first r) ≡ map (move_link (instance_at n ns)) (wiring_of r)
+    wiring_named r below =
+        let f = move_link (instance_at n ns) in
+        map-append (named_link names) (map (edge_at first) r.edges) (entries_at k first 0 r.entries ++ exits_at k first 0 r.exits)
+        ∙ (ap (λ l. named_links names (map (edge_at first) r.edges) ++ l) (map-append (named_link names) (entries_at k first 0 r.entries) (exits_at k first 0 r.exits))
+        ∙ (ap (λ l. l ++ (named_links names (entries_at k first 0 r.entries) ++ named_links names (exits_at k first 0 r.exits))) (edges_named r.edges below.edges)
+        ∙ (ap (λ l. map f (map edge_link r.edges) ++ (l ++ named_links names (exits_at k first 0 r.exits))) (entries_named 0 r.entries below.entries)
+        ∙ (ap (λ l. map f (map edge_link r.edges) ++ (map f (entry_links 0 r.entries) ++ l)) (exits_named 0 r.exits below.exits)
+        ∙ (ap (λ l. map f (map edge_link r.edges) ++ l) (sym (map-append f (entry_links 0 r.entries) (exit_links 0 r.exits)))
+        ∙ sym (map-append f (map edge_link r.edges) (entry_links 0 r.entries ++ exit_links 0 r.exits)))))))
 
-        ins_below : (i : Inner) → IsIn i ins → i.pos.0 < count
-        ins_below i h = below.entries (inner_of i) (subst (IsIn (inner_of i)) b (in_map inner_of i ins h))
-
-        outs_below : (i : Inner) → IsIn i outs → i.pos.0 < count
-        outs_below i h = below.exits (inner_of i) (subst (IsIn (inner_of i)) c (in_map inner_of i outs h))
-
-        all : named_links names (map (edge_at first) es) ++ (named_links names (entries_at k first 0 ins) ++ named_links names (exits_at k first 0 outs)) ≡ map (move_link (instance_at n ns)) (wiring_of r)
-        all =
-            ap (λ l. l ++ (named_links names (entries_at k first 0 ins) ++ named_links names (exits_at k first 0 outs))) (edges_named es edges_below ∙ ap (λ l. map (move_link (instance_at n ns)) (map edge_link l)) a)
-            ∙ (ap (λ l. map (move_link (instance_at n ns)) (map edge_link r.edges) ++ (l ++ named_links names (exits_at k first 0 outs))) (entries_named 0 ins ins_below ∙ ap (λ l. map (move_link (instance_at n ns)) (entry_links 0 l)) b)
-            ∙ (ap (λ l. map (move_link (instance_at n ns)) (map edge_link r.edges) ++ (map (move_link (instance_at n ns)) (entry_links 0 r.entries) ++ l)) (exits_named 0 outs outs_below ∙ ap (λ l. map (move_link (instance_at n ns)) (exit_links 0 l)) c)
-            ∙ (ap (λ l. map (move_link (instance_at n ns)) (map edge_link r.edges) ++ l) (sym (map-append (move_link (instance_at n ns)) (entry_links 0 r.entries) (exit_links 0 r.exits)))
-            ∙ sym (map-append (move_link (instance_at n ns)) (map edge_link r.edges) (entry_links 0 r.entries ++ exit_links 0 r.exits)))))
+  -- the pairs of a module by its rows
+  pub pairs_named : (g : Grammar) (leaf : List (Option (List ℕ))) (m : ℕ) → named_links names (pairs_at g leaf m k) ≡ pair_links g (pairs_of leaf) m n
+  pairs_named g leaf m = by (get_or leaf m None) refl
+    where
+      by : (o : Option (List ℕ)) → get_or leaf m None ≡ o → named_links names (pairs_by g m k (get_or leaf m None)) ≡ pair_links g (pairs_of leaf) m n
+      by None e = ap (λ o. named_links names (pairs_by g m k o)) e ∙ sym (none_named g leaf m e)
+      by (Some rows) e = ap (λ o. named_links names (pairs_by g m k o)) e ∙ matrix_named g leaf m rows e
 
 pub record Counted (g : Grammar) (m : ℕ) (r : Module) : Type 0 where
   pub inputs : length r.inputs ≡ inputs_of g m
@@ -130,13 +118,3 @@ counted g ms m r wf e h q =
       few_inputs = subst (λ (z : Module). length z.inputs ≤ 64) (sym is) w.few_inputs;
       few_outputs = subst (λ (z : Module). length z.outputs ≤ 64) (sym is) w.few_outputs;
     }
-
-pub pairs_named : (names : List (List ℕ)) (k : ℕ) (g : Grammar) (leaf : List (Option (List ℕ))) (m : ℕ) (old new : List LinkHeld) (rows : List ℕ) (i o : ℕ) → i ≡ inputs_of g m → o ≡ outputs_of g m → get_or leaf m None ≡ Some rows →
-    new ≡ old ++ matrix_links k rows o 0 i → named_links names new ≡ named_links names old ++ pair_links g (pairs_of leaf) m (get_or names k [])
-pairs_named names k g leaf m old new rows i o a b e s =
-    ap (named_links names) s ∙ (map-append (named_link names) old (matrix_links k rows o 0 i)
-    ∙ ap (λ l. named_links names old ++ l) (ap (λ z. named_links names (matrix_links k rows z 0 i)) b ∙ (ap (λ z. named_links names (matrix_links k rows (outputs_of g m) 0 z)) a ∙ matrix_named names k g leaf m rows e)))
-
-pub no_pairs_named : (names : List (List ℕ)) (k : ℕ) (g : Grammar) (leaf : List (Option (List ℕ))) (m : ℕ) (old : List LinkHeld) → get_or leaf m None ≡ None →
-    named_links names old ≡ named_links names old ++ pair_links g (pairs_of leaf) m (get_or names k [])
-no_pairs_named names k g leaf m old e = sym (ap (λ l. named_links names old ++ l) (none_named names k g leaf m e) ∙ append-nil (named_links names old))

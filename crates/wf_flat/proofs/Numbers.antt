@@ -5,12 +5,12 @@ use Rattle.std.proofs.lemmas.List.{get_or_append_left}
 use Rattle.wf_model.specs.declared.numbers.Side.{Side}
 use Rattle.wf_model.specs.declared.numbers.Side.TheVariants.{Input, Output}
 use Rattle.wf_model.specs.Lists.{IsIn}
-use Rattle.wf_model.proofs.Lists.{in_append_cases, at_in, is_at}
+use Rattle.wf_model.proofs.Lists.{at_in, is_at}
 use Rattle.wf_flat.specs.declared.graph.Port.{Port}
 use Rattle.wf_flat.specs.declared.graph.Link.{Link}
 use Rattle.wf_flat.specs.contracts.graph.PortPartialEq.TheImpl.{eq-value}
 use Rattle.wf_spec.specs.Sides.{side_place}
-use Rattle.wf_flat.specs.Index.{side_of, IsWide, AreWide, number_of, IsNumbered, AreNumbered, IsRising, AreSums}
+use Rattle.wf_flat.specs.Numbering.{side_of, IsWide, AreWide, number_of, IsNumbered, AreNumbered, IsRising, AreSums}
 
 pub port_same : (a b : Port) → (eq-value).it a b ≡ true → a ≡ b
 port_same a b e = grind (arith, nat_tests)
@@ -135,17 +135,3 @@ no_link = record { from = no_port; to = no_port }
 
 pub link_in : (ls : List Link) (k : ℕ) → k < length ls → IsIn (get_or ls k no_link) ls
 link_in ls k h = at_in (get_or ls k no_link) k ls (is_at k ls no_link h)
-
-low_place : (s : Side) → side_place s ≤ 1
-low_place Input = omega arith
-low_place Output = omega arith
-
-pub side_there : (x : Port) (instances sides : ℕ) → x.instance < instances → sides ≡ 2 * instances → side_of x < sides
-side_there x instances sides h e = let p = low_place x.side in omega arith
-
--- sides that were made as wide as the ports of a link want
-pub wide_more : (old between new : List ℕ) (ls : List Link) (l : Link) → AreWide old ls → ((y : Port) → IsWide old y → IsWide between y) → IsWide between l.from → ((y : Port) → IsWide between y → IsWide new y) → IsWide new l.to → AreWide new (ls ++ l ∷ [])
-wide_more old between new ls l wide first from second to k h = ⊎_elim
-    (λ o. let r = wide k o in (second k.from (first k.from r.0), second k.to (first k.to r.1)))
-    (λ o. ⊎_elim (λ (e : k ≡ l). subst (λ (z : Link). IsWide new z.from × IsWide new z.to) (sym e) (second l.from from, to)) (λ z. absurd z) o)
-    (in_append_cases k ls (l ∷ []) h)

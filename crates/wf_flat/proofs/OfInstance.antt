@@ -1,23 +1,33 @@
 -- The links of one instance, from the table.
-use Rattle.std.proofs.Common.{◌≡◌, ℕ, ◌<◌, ◌≤◌, true, false, cond, List, [], ◌∷◌, ◌++◌, map, take, drop, length, get_or, Some, None, ap, sym, subst, ◌∙◌, ⊎_elim}
+use Rattle.std.proofs.Common.{◌≡◌, ℕ, ◌<◌, ◌≤◌, true, false, cond, List, [], ◌∷◌, ◌++◌, map, take, drop, length, get_or, Option, Some, None, ap, sym, subst, ◌∙◌, ⊎_elim}
 use Rattle.std.specs.Prelude.{option_map}
 use Rattle.std.proofs.lemmas.List.{get_or-map}
 use Rattle.wf_model.specs.declared.event.Event.{Event}
 use Rattle.wf_model.specs.declared.event.Event.TheVariants.{Start, Expand}
 use Rattle.wf_model.specs.declared.numbers.ProdNo.{ProdNo}
 use Rattle.wf_model.specs.Lists.{IsIn}
-use Rattle.wf_model.specs.Grammar.{Grammar, Assignment, production_at, module_at, body_of, head_of}
+use Rattle.wf_model.specs.Grammar.{Grammar, Production, Edge, Inner, Assignment, production_at, module_at, body_of, head_of}
 use Rattle.wf_model.specs.WellFormed.{IsWellFormed}
 use Rattle.wf_model.specs.View.{View, expands}
 use Rattle.wf_model.specs.Run.{Instance, Expanded, named, made, made_by, expanded_by, AllExtend}
-use Rattle.wf_model.specs.Links.{links_of, opened_links, pair_links, move_link, instance_at}
+use Rattle.wf_model.specs.Links.{Link, edge_link, entry_links, exit_links, links_of, opened_links, pair_links, move_link, instance_at}
 use Rattle.wf_model.proofs.Lists.{in_append_cases, at_in, at_below, is_at}
 use Rattle.wf_model.proofs.Runs.{at_named}
 use Rattle.wf_model.proofs.Level.{opening}
 use Rattle.wf_model.proofs.Mapping.{at_map}
 use Rattle.wf_flat.specs.declared.table.Inst.{Inst}
 use Rattle.wf_flat.specs.Table.{Table, IsTableOf, instance_of, names_in, events_of, no_instance}
-use Rattle.wf_flat.specs.Graph.{inst_at, AreBelow, wiring_of}
+use Rattle.wf_flat.specs.Graph.{inst_at}
+
+-- the positions that a production names are below a number
+pub record AreBelow (count : ℕ) (r : Production) : Type 0 where
+  pub edges : (e : Edge) → IsIn e r.edges → (e.from.position < count) × (e.to.position < count)
+  pub entries : (i : Inner) → IsIn i r.entries → i.position < count
+  pub exits : (i : Inner) → IsIn i r.exits → i.position < count
+
+-- the edges, entries and exits of a body
+abbrev pub wiring_of : Production → List (Link (Option ℕ))
+wiring_of r = map edge_link r.edges ++ (entry_links 0 r.entries ++ exit_links 0 r.exits)
 
 -- the modules of a run's instances are there
 made_in_range : (g : Grammar) → IsWellFormed g → (m : ℕ) → m < length g.modules → (b a : List Event) → AllExtend g m b a → (i : Instance) → IsIn i (made g m a) → i.module_no < length g.modules

@@ -7,8 +7,10 @@ use Rattle.wf_model.proofs.Walks.{walk_through, walk_one}
 use Rattle.wf_flat.specs.declared.graph.Port.{Port as PortHeld}
 use Rattle.wf_flat.specs.declared.graph.Link.{Link as LinkHeld}
 use Rattle.wf_flat.specs.Graph.{named_port, named_link, named_links}
-use Rattle.wf_flat.specs.declared.index.Arc.{Arc}
-use Rattle.wf_flat.specs.Index.{number_of, IsNumbered, HasArc, IsIndex}
+use Rattle.wf_graph.specs.Graph.{HasStep}
+use Rattle.wf_flat.specs.declared.module_rows.Row.{Row}
+use Rattle.wf_flat.specs.Numbering.{number_of, IsNumbered}
+use Rattle.wf_flat.specs.Leading.{led_from, IsIndex}
 use Rattle.wf_flat.specs.Flat.{AreWithin, numbered_port, numbered_link, numbered_links}
 use Rattle.wf_flat.proofs.Numbers.{number_same}
 
@@ -19,11 +21,11 @@ numbered_same x y e = (λ t. record { instance = (e t).owner; side = (e t).side;
 link_from : (p q : Port ℕ) (ls : List LinkHeld) → IsLinked (numbered_links ls) p q → (l : LinkHeld) × IsIn l ls × (p ≡ numbered_port l.from) × (q ≡ numbered_port l.to)
 link_from p q ls h = let r = in_map_from numbered_link (record { from = p; to = q }) ls h in (r.0, r.1, ap (λ (l : Link ℕ). l.from) r.2, ap (λ (l : Link ℕ). l.to) r.2)
 
-module _ (ls : List LinkHeld) (begins lasts : List ℕ) (arcs : List Arc) (index : IsIndex ls begins lasts arcs) where
+module _ (ls : List LinkHeld) (begins words : List ℕ) (rows : List Row) (index : IsIndex ls begins words rows) where
   same_port : (x y : PortHeld) → IsNumbered begins x → IsNumbered begins y → number_of begins x ≡ number_of begins y → x ≡ y
   same_port = number_same begins index.rising
 
-  forth : {a b : ℕ} → Walk (HasArc lasts arcs) a b → (x y : PortHeld) → IsNumbered begins x → IsNumbered begins y → number_of begins x ≡ a → number_of begins y ≡ b → Path (numbered_links ls) (numbered_port x) (numbered_port y)
+  forth : {a b : ℕ} → Walk (HasStep (led_from words rows)) a b → (x y : PortHeld) → IsNumbered begins x → IsNumbered begins y → number_of begins x ≡ a → number_of begins y ≡ b → Path (numbered_links ls) (numbered_port x) (numbered_port y)
   forth here x y p q d e = subst (λ z. Path (numbered_links ls) (numbered_port x) (numbered_port z)) (same_port x y p q (d ∙ sym e)) here
   forth (onward {x = a} {y = c} r w) x y p q d e =
       let l = index.links a c r in
@@ -31,15 +33,15 @@ module _ (ls : List LinkHeld) (begins lasts : List ℕ) (arcs : List Arc) (index
       let s : x ≡ l.0.from = same_port x l.0.from p n.0 (d ∙ sym l.2) in
       onward (subst (λ z. IsLinked (numbered_links ls) (numbered_port z) (numbered_port l.0.to)) (sym s) (in_map numbered_link l.0 ls l.1)) (forth w l.0.to y n.1 q l.3 e)
 
-  back : {p q : Port ℕ} → Path (numbered_links ls) p q → (x y : PortHeld) → p ≡ numbered_port x → q ≡ numbered_port y → Walk (HasArc lasts arcs) (number_of begins x) (number_of begins y)
-  back here x y d e = let s : x ≡ y = numbered_same x y (sym d ∙ e) in subst (λ z. Walk (HasArc lasts arcs) (number_of begins x) (number_of begins z)) s here
+  back : {p q : Port ℕ} → Path (numbered_links ls) p q → (x y : PortHeld) → p ≡ numbered_port x → q ≡ numbered_port y → Walk (HasStep (led_from words rows)) (number_of begins x) (number_of begins y)
+  back here x y d e = let s : x ≡ y = numbered_same x y (sym d ∙ e) in subst (λ z. Walk (HasStep (led_from words rows)) (number_of begins x) (number_of begins z)) s here
   back (onward {x = p} {y = r} l w) x y d e =
       let k = link_from p r ls l in
       let s : x ≡ k.0.from = numbered_same x k.0.from (sym d ∙ k.2) in
-      onward (subst (λ z. HasArc lasts arcs (number_of begins z) (number_of begins k.0.to)) (sym s) (index.linked k.0 k.1)) (back w k.0.to y k.3 e)
+      onward (subst (λ z. HasStep (led_from words rows) (number_of begins z) (number_of begins k.0.to)) (sym s) (index.linked k.0 k.1)) (back w k.0.to y k.3 e)
 
   -- between ports that have numbers
-  pub by_numbers : (x y : PortHeld) → IsNumbered begins x → IsNumbered begins y → Walk (HasArc lasts arcs) (number_of begins x) (number_of begins y) ↔ Path (numbered_links ls) (numbered_port x) (numbered_port y)
+  pub by_numbers : (x y : PortHeld) → IsNumbered begins x → IsNumbered begins y → Walk (HasStep (led_from words rows)) (number_of begins x) (number_of begins y) ↔ Path (numbered_links ls) (numbered_port x) (numbered_port y)
   by_numbers x y p q = (λ w. forth w x y p q refl refl, λ w. back w x y refl refl)
 
   leaves : {p q : Port ℕ} → Path (numbered_links ls) p q → (p ≡ q) ⊎ ((l : LinkHeld) × IsIn l ls × (p ≡ numbered_port l.from))

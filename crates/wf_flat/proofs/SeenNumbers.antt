@@ -10,16 +10,13 @@ use Rattle.wf_model.specs.Run.{Instance, named, opens, newly_seen, see_all, seen
 use Rattle.wf_model.proofs.Lists.{in_append_cases, at_in, is_at, differ_at, same_bytes, bytes_same}
 use Rattle.wf_model.proofs.Taking.{run_differs}
 use Rattle.wf_model.proofs.Level.{in_numbers}
+use Rattle.wf_model.proofs.Joined.{some-append}
 use Rattle.wf_model.proofs.Mapping.{at_map}
 use Rattle.wf_flat.specs.declared.table.Inst.{Inst}
 use Rattle.wf_flat.specs.declared.table.Opened.{Opened}
 use Rattle.wf_flat.specs.Table.{Table, IsTableOf, IsOpenedIn, instance_of, names_in, given_names, expansion_of, events_by, events_of, no_instance}
 use Rattle.wf_flat.specs.Graph.{flag_of, Marks, Agree, inst_at}
 use Rattle.wf_flat.proofs.Instances.{same_names}
-
-some-append : {A : Type 0} (p : A → Bool) (xs ys : List A) → some p (xs ++ ys) ≡ some p xs || some p ys
-some-append p [] ys = refl
-some-append p (x ∷ xs) ys = grind (arith, some-append p xs ys)
 
 -- one number more has its flag, where those of the list have theirs and all others have none
 pub flag_more : (w : ℕ → Bool) (flags : List Bool) (seen : List ℕ) (c : ℕ) → c < length flags → ((j : ℕ) → flag_of flags j ≡ some (λ z. z == j) seen && w j) → (j : ℕ) → flag_of (set flags c (w c)) j ≡ some (λ z. z == j) (seen ++ c ∷ []) && w j

@@ -1,18 +1,17 @@
 -- Links between numbered instances.
-use Rattle.std.specs.Prelude.{◌≡◌, ℕ, ◌+◌, ◌<◌, ◌^◌, ◌%◌, ◌==◌, Bool, false, cond, ◌&&◌, List, [], ◌∷◌, ◌++◌, map, flat_map, get_or, length, Option, Some, None}
+use Rattle.std.specs.Prelude.{◌≡◌, ℕ, ◌+◌, ◌^◌, ◌%◌, ◌==◌, Bool, false, cond, ◌&&◌, List, [], ◌∷◌, ◌++◌, map, flat_map, get_or, length, Option, Some, None}
 use Rattle.std.specs.Int.{bit_at}
 use Rattle.wf_model.specs.declared.numbers.Side.{Side}
 use Rattle.wf_model.specs.declared.numbers.Side.TheVariants.{Input, Output}
-use Rattle.wf_model.specs.declared.body.Edge.{Edge}
-use Rattle.wf_model.specs.declared.body.Inner.{Inner}
-use Rattle.wf_model.specs.Lists.{IsIn, some, numbers_from}
+use Rattle.wf_model.specs.declared.numbers.ProdNo.{ProdNo}
+use Rattle.wf_model.specs.Lists.{some, numbers_from}
 use Rattle.wf_model.specs.Run.{Instance}
 use Rattle.wf_flat.specs.declared.table.Inst.{Inst}
 use Rattle.wf_flat.specs.declared.table.Opened.{Opened}
 use Rattle.wf_flat.specs.Table.{instance_of, no_instance}
 use Rattle.wf_model.specs.View.{View, expands}
-use Rattle.wf_model.specs.Links.{Port, Link, edge_link, entry_links, exit_links}
-use Rattle.wf_model.specs.Grammar.{Grammar, Production, Edge as EdgeSeen, Inner as InnerSeen, inputs_of}
+use Rattle.wf_model.specs.Links.{Port, Link}
+use Rattle.wf_model.specs.Grammar.{Grammar, Production, Edge, Inner, inputs_of, outputs_of, production_at}
 use Rattle.wf_flat.specs.declared.graph.Port.{Port as PortHeld}
 use Rattle.wf_flat.specs.declared.graph.Link.{Link as LinkHeld}
 
@@ -50,7 +49,7 @@ matrix_links k rows outputs i n = flat_map (λ j. row_links k j (get_or rows j 0
 
 -- a port of a position, where the children of an expansion begin at first
 abbrev pub child_port : ℕ → Side → Inner → PortHeld
-child_port first s i = record { instance = (first + i.pos.0) % 2 ^ 32; side = s; port = i.port }
+child_port first s i = record { instance = (first + i.position) % 2 ^ 32; side = s; port = record { 0 = i.port } }
 
 abbrev pub own_port : ℕ → Side → ℕ → PortHeld
 own_port k s n = record { instance = k; side = s; port = record { 0 = n } }
@@ -66,15 +65,33 @@ abbrev pub exits_at : ℕ → ℕ → ℕ → List Inner → List LinkHeld
 exits_at k first n [] = []
 exits_at k first n (i ∷ is) = record { from = child_port first Output i; to = own_port k Output n } ∷ exits_at k first (n + 1) is
 
--- the positions that a production names are below a number
-pub record AreBelow (count : ℕ) (r : Production) : Type 0 where
-  pub edges : (e : EdgeSeen) → IsIn e r.edges → (e.from.position < count) × (e.to.position < count)
-  pub entries : (i : InnerSeen) → IsIn i r.entries → i.position < count
-  pub exits : (i : InnerSeen) → IsIn i r.exits → i.position < count
+-- the edges, entries and exits of an instance of a number, whose children begin at first
+abbrev pub wiring_at : ℕ → ℕ → Production → List LinkHeld
+wiring_at k first r = map (edge_at first) r.edges ++ (entries_at k first 0 r.entries ++ exits_at k first 0 r.exits)
 
--- the edges, entries and exits of a body
-abbrev pub wiring_of : Production → List (Link (Option ℕ))
-wiring_of r = map edge_link r.edges ++ (entry_links 0 r.entries ++ exit_links 0 r.exits)
+-- the pairs of an instance of a number, by the rows of its module, if it has some
+abbrev pub pairs_by : Grammar → ℕ → ℕ → Option (List ℕ) → List LinkHeld
+pairs_by g m k None = []
+pairs_by g m k (Some rows) = matrix_links k rows (outputs_of g m) 0 (inputs_of g m)
+
+-- the pairs of an instance of a number, which is of the module m
+abbrev pub pairs_at : Grammar → List (Option (List ℕ)) → ℕ → ℕ → List LinkHeld
+pairs_at g leaf m k = pairs_by g m k (get_or leaf m None)
+
+-- the links of an instance of a marked module: those of its production, or its pairs where it is not expanded
+abbrev pub opened_at : Grammar → List (Option (List ℕ)) → Inst → ℕ → Option ProdNo → List LinkHeld
+opened_at g leaf x k None = pairs_at g leaf x.module.0 k
+opened_at g leaf x k (Some p) = wiring_at k x.first_child (production_at g p.0)
+
+-- the links of the instance of a number, where it is seen
+abbrev pub links_at : Grammar → List Bool → List (Option (List ℕ)) → List Inst → ℕ → List LinkHeld
+links_at g marks leaf xs k =
+    let x = get_or xs k no_instance in
+    cond (flag_of marks x.module.0) (opened_at g leaf x k x.production) (pairs_at g leaf x.module.0 k)
+
+-- the links of the instances of these numbers, one after the other
+abbrev pub links_among : Grammar → List Bool → List (Option (List ℕ)) → List Inst → List ℕ → List LinkHeld
+links_among g marks leaf xs numbers = flat_map (links_at g marks leaf xs) numbers
 
 -- rows were made for the modules of a grammar: one per input, where they are set
 pub record IsMadeFor (g : Grammar) (leaf : List (Option (List ℕ))) : Type 0 where

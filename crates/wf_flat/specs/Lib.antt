@@ -1,7 +1,8 @@
 pub mod Table
 pub mod Opening
 pub mod Graph
-pub mod Index
+pub mod Numbering
+pub mod Leading
 pub mod Flat
 pub mod Item
 pub mod Shown

@@ -5,12 +5,11 @@ use Rattle.wf_model.specs.Grammar.{Grammar}
 use Rattle.wf_model.specs.View.{View}
 use Rattle.wf_model.specs.Run.{opens, seen_in}
 use Rattle.wf_model.specs.Items.{Item}
-use Rattle.wf_flat.specs.declared.graph.Link.{Link as LinkHeld}
 
--- what contracts see of a run as a view shows it: the numbers of the instances that are seen, the links, and for each instance whether it is seen and of an expanded module
+-- what contracts see of a run as a view shows it: the marks of the modules that are expanded, the numbers of the instances that are seen, and for each instance whether it is seen and of an expanded module
 pub record RunSeen : Type 0 where
+  pub marks : List Bool
   pub numbers : List ℕ
-  pub links : List LinkHeld
   pub opens : List Bool
 
 -- made by an open instance, or a port of the root

@@ -1,16 +1,13 @@
-// The links of a run.
-ghost use Rattle.std.specs.Prelude.{◌≡◌, ◌<◌, ◌≤◌, ◌+◌, ◌==◌, ◌++◌, ◌∷◌, [], ℕ, length, map, IfOk, OnOk, cond};
+// The links of the instances of a run.
+ghost use Rattle.std.specs.Prelude.{◌≡◌, ◌<◌, ◌≤◌, ◌==◌, ◌++◌, ◌∷◌, [], length, map, OnOk, cond};
 ghost use Rattle.std.specs.Int.{bit_at};
-ghost use Rattle.wf_model.specs.Lists.{IsIn};
-ghost use Rattle.wf_model.specs.Meaning.{pairs_of};
+ghost use Rattle.wf_model.specs.Meaning.{inner_of, edge_of};
 ghost use Rattle.wf_flat.specs.Table.{IsTableOf};
-ghost use Rattle.wf_flat.specs.Graph.{row_links, matrix_links, edge_at, entries_at, exits_at, IsMadeFor};
-ghost use Rattle.wf_flat.specs.Flat.{AreWithin};
-ghost use Rattle.wf_flat.specs.Seeing.{AreLinksOf, AddsInstanceLinks, AddsWiring, KeepsWiringWithin, AddsPairs};
+ghost use Rattle.wf_flat.specs.Graph.{row_links, matrix_links, edge_at, entries_at, exits_at, wiring_at, pairs_at, links_at, IsMadeFor};
 
 use crate::seen::is_marked;
 use crate::table::PlainRun;
-use std::alloc::{AllocError, Global};
+use std::alloc::AllocError;
 use wf_spec::{Deps, Edge, Grammar, Inner, ModNo, PortNo, Production, Side};
 
 /// A port of an instance.
@@ -107,7 +104,7 @@ fn add_rows(
 
 /// Adds the edges of a body, whose positions are the instances from the first child on.
 fn add_edges(links: &mut Vec<Link>, first: u32, edges: &[Edge]) -> Result<(), AllocError>
-    ensures { OnOk result (links.new.items ≡ links.old.items ++ map (edge_at first) edges.now) }
+    ensures { OnOk result (links.new.items ≡ links.old.items ++ map (edge_at first) (map edge_of edges.now)) }
 {
     for e in edges {
         links.push(Link {
@@ -126,7 +123,7 @@ fn add_entries(
     entries: &[Inner],
 ) -> Result<(), AllocError>
     requires { length entries.now ≤ 64 }
-    ensures { OnOk result (links.new.items ≡ links.old.items ++ entries_at instance first 0 entries.now) }
+    ensures { OnOk result (links.new.items ≡ links.old.items ++ entries_at instance first 0 (map inner_of entries.now)) }
 {
     for (k, i) in entries.iter().enumerate() {
         links.push(Link {
@@ -145,7 +142,7 @@ fn add_exits(
     exits: &[Inner],
 ) -> Result<(), AllocError>
     requires { length exits.now ≤ 64 }
-    ensures { OnOk result (links.new.items ≡ links.old.items ++ exits_at instance first 0 exits.now) }
+    ensures { OnOk result (links.new.items ≡ links.old.items ++ exits_at instance first 0 (map inner_of exits.now)) }
 {
     for (k, i) in exits.iter().enumerate() {
         links.push(Link {
@@ -157,7 +154,7 @@ fn add_exits(
 }
 
 /// Adds the edges, entries and exits of an instance that was expanded.
-fn add_wiring(
+pub fn add_wiring(
     links: &mut Vec<Link>,
     instance: u32,
     first: u32,
@@ -165,8 +162,7 @@ fn add_wiring(
 ) -> Result<(), AllocError>
     requires few_entries { length rule.now.core.entries ≤ 64 }
     requires few_exits { length rule.now.core.exits ≤ 64 }
-    ensures within { OnOk result (KeepsWiringWithin rule.now.core instance first links.old.items links.new.items) }
-    ensures links { OnOk result (AddsWiring rule.now.core instance first links.old.items links.new.items) }
+    ensures { OnOk result (links.new.items ≡ links.old.items ++ wiring_at instance first rule.now.core) }
 {
     add_edges(links, first, rule.edges())?;
     add_entries(links, instance, first, rule.entries())?;
@@ -184,8 +180,7 @@ fn add_pairs(
 ) -> Result<(), AllocError>
     requires in_range { m.0 < length g.now.core.modules }
     requires made_for { IsMadeFor g.now.core leaf.now }
-    ensures within { OnOk result ((n : ℕ) → instance < n → AreWithin n links.old.items → AreWithin n links.new.items) }
-    ensures links { OnOk result (AddsPairs g.now.core (pairs_of leaf.now) m.0 instance links.old.items links.new.items) }
+    ensures { OnOk result (links.new.items ≡ links.old.items ++ pairs_at g.now.core leaf.now m.0 instance) }
 {
     let module = &g.modules()[m.0 as usize];
     let inputs = module.inputs().len();
@@ -196,8 +191,10 @@ fn add_pairs(
     Ok(())
 }
 
-/// Adds the links of a seen instance.
-fn add_instance(
+/// Adds the links of the instance of a number, where it is seen. An instance that is expanded in the run and of a marked module has the edges, entries and exits of its production. Any other has the pairs of `leaf`, and none where `leaf` has no rows for its module.
+///
+/// Cost: linear in the links. Fails only for want of memory.
+pub fn add_links(
     links: &mut Vec<Link>,
     g: &Grammar,
     run: &PlainRun,
@@ -208,8 +205,7 @@ fn add_instance(
     requires run { IsTableOf g.now.core run.now }
     requires there { k < length run.now.instances }
     requires made_for { IsMadeFor g.now.core leaf.now }
-    ensures within { OnOk result (AreWithin (length run.now.instances) links.old.items → AreWithin (length run.now.instances) links.new.items) }
-    ensures links { OnOk result (AddsInstanceLinks g.now.core run.now expanded.now (pairs_of leaf.now) k links.old.items links.new.items) }
+    ensures { OnOk result (links.new.items ≡ links.old.items ++ links_at g.now.core expanded.now leaf.now run.now.instances k) }
 {
     // A grammar is well-formed: the production of an instance is there.
     let _formed = g.start();
@@ -224,26 +220,4 @@ fn add_instance(
     };
     add_wiring(links, k, x.first_child, g.production(p))?;
     Ok(())
-}
-
-/// The links of the instances that are seen, in order, where their numbers are given.
-pub fn links(
-    alloc: Global,
-    g: &Grammar,
-    run: &PlainRun,
-    seen: &[u32],
-    expanded: &[bool],
-    leaf: &Deps,
-) -> Result<Vec<Link>, AllocError>
-    requires run { IsTableOf g.now.core run.now }
-    requires made_for { IsMadeFor g.now.core leaf.now }
-    requires there { (k : ℕ) → IsIn k seen.now → k < length run.now.instances }
-    ensures within { IfOk result (λ ls. AreWithin (length run.now.instances) ls.items) }
-    ensures links { IfOk result (λ ls. AreLinksOf g.now.core run.now expanded.now (pairs_of leaf.now) seen.now ls.items) }
-{
-    let mut links = Vec::new(alloc);
-    for k in seen {
-        add_instance(&mut links, g, run, *k, expanded, leaf)?;
-    }
-    Ok(links)
 }

@@ -170,8 +170,8 @@ fn item_at(g: &Grammar, run: &PlainRun, k: u32, port: &[u8]) -> Option<Item>
 
 /// The item of a name, which is an instance's name, a dot and the name of a port. A port of the root is an item that no instance made: an input is consumed by it, an output is produced. The other items are those of edges: each is named by the output that its edge leaves, and was made by the parent of the two instances. An output that leaves its body by an exit names no item, nor does an input of an instance below the root.
 ///
-/// Cost: one look-up by hashing, the ports of one module and the edges of one body. Takes no memory.
-pub fn find_item(g: &Grammar, run: &PlainRun, name: &[u8]) -> Option<Item>
+/// The name of the instance `near` is tried first. Cost: where the item has the name of another, one look-up by hashing; the ports of one module and the edges of one body. Takes no memory.
+pub fn find_item(g: &Grammar, run: &PlainRun, near: u32, name: &[u8]) -> Option<Item>
     requires { IsTableOf g.now.core run.now }
     ensures found { IfSome result (IsItemNamed g.now.core run.now name.now) }
     ensures none { IsNone result → HasNoItem g.now.core run.now name.now }
@@ -183,7 +183,7 @@ pub fn find_item(g: &Grammar, run: &PlainRun, name: &[u8]) -> Option<Item>
     let Some(dot) = first_dot(name) else {
         return None;
     };
-    let Some(k) = run.find(&name[..dot]) else {
+    let Some(k) = run.find_near(near, &name[..dot]) else {
         return None;
     };
     item_at(g, run, k, &name[dot + 1..])

@@ -179,6 +179,18 @@ impl PlainRun {
         Some(i as u32)
     }
 
+    /// The number of the instance of a name, which may be `near`: where it is another, one look-up tells it.
+    pub fn find_near(&self, near: u32, name: &[u8]) -> Option<u32>
+        ensures place { result ≡ position (bytes_eq name.now) (names_in self.now.instances) }
+        ensures within { IfSome result (λ i. i < length self.now.instances) }
+    {
+        let most = self.most;
+        let _all = self.instances.len();
+        let i = self.names.find_near(near as usize, name)?;
+        prove!(i < most as usize);
+        Some(i as u32)
+    }
+
     /// Takes an event, if it extends the run of the grammar. After an error the run is as it was.
     ///
     /// Errors of a start, in order of trial: `StartedTwice`, `NameBad` (a name has 1 to 64 letters, digits, `_` or `-`), `TooManyInstances`. Of an expansion: `NotStarted`, `UnknownInstance`, `UnknownProduction`, `WrongHead` (the production is not one of the instance's module), `AlreadyExpanded`, `PositionsWrong` (not one name for each position), `NameBad`, `NameTwice` (a name that the run or the event has already), `TooManyInstances`. `NoMemory` last, or in place of `NameTwice`.

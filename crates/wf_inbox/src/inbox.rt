@@ -179,6 +179,7 @@ impl<'a> Inbox<'a> {
     /// The instance of a name stands: a held report about it is ready now. Takes no memory.
     ///
     /// Cost: one look-up, where a report is held; and one place in the heap of ready reports.
+    #[inline]
     pub fn stands(&mut self, name: &[u8])
         requires { 1 ≤ self.old.spare }
         ensures marked { self.new.kept ≡ map (marked name.now) self.old.kept }

@@ -4,8 +4,7 @@ use Rattle.std.specs.Prelude.{codes, map, decimal}
 use Rattle.std.proofs.lemmas.Bool.{cases_lt}
 use Rattle.wf_model.specs.declared.parts.Parts.{Parts}
 use Rattle.wf_model.specs.declared.numbers.ProdNo.{ProdNo}
-use Rattle.wf_model.specs.Grammar.{Grammar, body_of, module_at}
-use Rattle.wf_model.specs.Proper.{IsProper}
+use Rattle.wf_model.specs.Grammar.{Grammar, module_at}
 use Rattle.wf_model.proofs.Lists.{at_is, at_in}
 use Rattle.wf_spec.specs.declared.version.Version.{Version}
 use Rattle.wf_spec.specs.Held.{HeldGrammar}
@@ -16,7 +15,7 @@ use Rattle.wf_spec.specs.FirstFaults.{AllHold, IsFirstFault}
 use Rattle.wf_form.specs.Rules.{AreKept, first_rules, body_rules, link_rules, version_rules, IsFaultOf as IsFaultOfParts}
 use Rattle.wf_spec.proofs.FirstFaults.{no_fault, one_first}
 use Rattle.wf_form.proofs.Lawful.{law}
-use Rattle.wf_check.proofs.Loops.{only_first, walk_of}
+use Rattle.wf_check.proofs.NoneOfProper.{none_of_proper}
 use Rattle.wf_check.specs.declared.fault.CheckFault.{CheckFault}
 use Rattle.wf_check.specs.declared.fault.CheckFault.TheVariants.{Unreachable, Unproductive, UnitCycle, NoMemory}
 use Rattle.wf_check.specs.Improper.{IsLeastWithout, IsUnitCycle, IsFirstOf, IsToldCycle, IsFaultOf as IsFaultOfGrammar}
@@ -102,18 +101,6 @@ module _ (g : Grammar) where
   one_of_grammar (UnitCycle ps) (UnitCycle qs) p q = ap (λ l. codes "UnitCycle productions" ++ numbers_text l) (one_cycle (map (λ (x : ProdNo). x.0) ps) (map (λ (x : ProdNo). x.0) qs) p.2 q.2)
   one_of_grammar (UnitCycle ps) NoMemory p q = absurd q
   one_of_grammar NoMemory h p q = absurd p
-
-  no_cycle : (m : ℕ) (ps : List ℕ) → IsProper g → IsUnitCycle g m ps → ⊥
-  no_cycle m [] proper h = let none = h.0 in absurd (omega arith)
-  no_cycle m (p ∷ ps) proper h =
-      proper.no_unit_loop m (get_or (body_of g p) 0 0) (p, h.1.0, h.1.1, only_first (body_of g p) h.1.1) (walk_of g ps (get_or (body_of g p) 0 0) m h.1.2)
-
-  -- a proper grammar has none
-  none_of_proper : (f : CheckFault) → IsProper g → IsFaultOfGrammar g f → ⊥
-  none_of_proper (Unreachable m) proper h = h.fails (proper.reached m.0 h.composite)
-  none_of_proper (Unproductive m) proper h = h.1.fails (proper.ranked m.0 h.1.composite)
-  none_of_proper (UnitCycle ps) proper h = no_cycle h.2.module_no (map (λ (x : ProdNo). x.0) ps) proper h.2.cycle
-  none_of_proper NoMemory proper h = absurd h
 
 -- a version that keeps its cycles changes none
 keeps_none : (g : Grammar) (v : Version) (f : VersionFault) → KeepsItsCycles g v → ChangesCycle g v f → ⊥

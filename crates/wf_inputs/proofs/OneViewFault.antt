@@ -1,40 +1,25 @@
 -- A view has one refusal at most, and none where it is told and safe.
-use Rattle.std.proofs.Common.{◌≡◌, ℕ, List, get_or, sym, ap, ◌∙◌, subst, inl, inr}
+use Rattle.std.proofs.Common.{◌≡◌, ℕ, List, sym, ap, ◌∙◌, subst, inl, inr}
 use Rattle.wf_model.specs.declared.parts.ViewParts.{ViewParts}
-use Rattle.wf_model.specs.Grammar.{Grammar, IsComposite}
+use Rattle.wf_model.specs.Grammar.{Grammar}
 use Rattle.wf_model.specs.WellFormed.{IsWellFormed}
 use Rattle.wf_model.specs.View.{View}
 use Rattle.wf_model.specs.Safe.{IsSafe}
 use Rattle.wf_json.specs.ViewForm.{view_of as parts_in}
-use Rattle.wf_check.specs.Proper.{Ranking, IsRankingOf}
 use Rattle.wf_view.specs.Viewing.{view_of}
 use Rattle.wf_view.specs.Rules.{rules_of}
 use Rattle.wf_spec.proofs.FirstFaults.{no_fault, one_first}
-use Rattle.wf_safe.specs.declared.witness.Witness.{Witness}
-use Rattle.wf_safe.specs.Witness.{IsFirstWitness}
-use Rattle.wf_safe.proofs.OneWitness.{one_witness_law}
+use Rattle.wf_safe.proofs.OneFirstWitness.{one_first_witness}
 use Rattle.wf_safe.specs.WitnessText.{unsafe_text}
 use Rattle.wf_view.specs.FaultText.{view_text}
 use Rattle.wf_inputs.specs.ViewTold.{TellsView, RefusesUnsafe, RefusesViewParts, RefusesView}
 use Rattle.wf_inputs.proofs.OneRefusal.{one_of_bytes, none_of_bytes}
-use Rattle.wf_check.proofs.OneRanking.{one_choice}
 
 module _ (g : Grammar) where
-  -- the first witness is the same by each ranking, since the modules that it chooses for are composite
-  by_ranking : (u : View) (r s : Ranking) (w : Witness) → IsRankingOf g r → IsRankingOf g s → IsFirstWitness g u s w → IsFirstWitness g u r w
-  by_ranking u r s w p q h = record {
-    witness = h.witness;
-    ranked = λ m k i. let composite : IsComposite g m = (k, h.witness.choice.productions m k i) in h.ranked m k i ∙ one_choice g m (get_or s.choices m 0) (get_or r.choices m 0) (q.choices m composite) (p.choices m composite);
-    pairs = h.pairs;
-    induced = h.induced;
-    least = h.least;
-    first = h.first;
-  }
-
   module _ (formed : IsWellFormed g) where
     one_unsafe : (u : View) (x y : List ℕ) → RefusesUnsafe g u x → RefusesUnsafe g u y → x ≡ y
     one_unsafe u x y (_, (r, w, p, f, is)) (_, (s, v, q, h, also)) =
-        is ∙ (ap (unsafe_text g) (one_witness_law g u r w v formed p f (by_ranking u r s v p q h)) ∙ sym also)
+        is ∙ (ap (unsafe_text g) (one_first_witness g u formed r s w v p q f h) ∙ sym also)
 
     one_of_parts : (parts : ViewParts) (x y : List ℕ) → RefusesViewParts g parts x → RefusesViewParts g parts y → x ≡ y
     one_of_parts parts x y (inl p) (inl q) = p.2 ∙ (ap view_text (one_first (rules_of g parts) p.0 q.0 p.1 q.1) ∙ sym q.2)

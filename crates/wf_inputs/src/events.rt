@@ -1,8 +1,9 @@
 // EVENTS: from the lines of a file to a run.
-ghost use Rattle.std.specs.Prelude.{◌≡◌, [], IfOk, length, take, bytes_eq};
+ghost use Rattle.std.specs.Prelude.{◌≡◌, ℕ, List, true, false, [], IfOk, length, take, bytes_eq};
 ghost use Rattle.std.specs.Cmp.Lexicographic.{pointwise};
 ghost use Rattle.wf_model.specs.Grammar.{Grammar, body_of};
 ghost use Rattle.wf_flat.specs.Table.{IsTableOf, names_in};
+ghost use Rattle.wf_io.specs.Readers.{IsReading};
 ghost use Rattle.wf_inputs.specs.Inputs.{instance_most};
 ghost use Rattle.wf_inputs.specs.RunTaking.{nothing_written};
 ghost use Rattle.wf_inputs.specs.Reporting.{IsGrownBy, IsChildrenTestIn, ReadsEvents};
@@ -152,6 +153,33 @@ impl Grows for PlainGrowing<'_> {
     }
 }
 
+/// The run of a grammar that the lines of a file of events tell, which was opened. Names are held in this arena as long as reports are taken.
+fn run_of_lines<H: Shelf>(
+    alloc: Global,
+    arena: &Bump,
+    g: &Grammar,
+    lines: &mut Lines<'_>,
+    due: &mut Due,
+    shelf: &mut H,
+) -> Result<PlainRun, Stop>
+    requires live { lines.old.live ≡ true }
+    requires none { due.old ≡ [] }
+    requires reading { IsReading lines.old (H.readings shelf.old) }
+    ensures run { IfOk result (λ r. IsTableOf g.now.core r) }
+    ensures reads { (name : List ℕ) → lines.old
+        ≡ record { name = name; place = 0; kept = []; number = 1; line = 0; held = []; live = true; wants = false; ended = false } →
+        ReadsEvents H.files H.readings H.faults H.at_last name g.now.core shelf.old shelf.new result }
+{
+    let key = shelf.hash_key();
+    let run = PlainGrowing::with_key(alloc, key, g);
+    let mut reporting = Reporting::new(alloc, key, arena, run);
+    let mut out = PlainSink::new();
+    match take_lines(&mut reporting, lines, due, shelf, &mut out) {
+        Ok(_) => Ok(reporting.run.into_run()),
+        Err(fault) => Err(events_stop(fault)),
+    }
+}
+
 /// The run of EVENTS, of a grammar, whose lines are taken as reports, in any order.
 ///
 /// Refused at the first line that is too long, has no reading, has not the form of an event, or reports another event than an earlier line on the same subject; at a line whose event came to be ready, and is refused by the run; where the file ends, at the first line whose event never came to be ready; with the number of the line and the fault; or in the line in which the file goes on past the most bytes that are read of it. `NoMemory` may come at any line.
@@ -172,13 +200,6 @@ pub fn events_stage<H: Shelf>(
     let Ok(mut due) = Due::new(alloc) else {
         return Err(Stop::NoMemory);
     };
-    let key = shelf.hash_key();
     let arena = Bump::new(alloc);
-    let run = PlainGrowing::with_key(alloc, key, g);
-    let mut reporting = Reporting::new(alloc, key, &arena, run);
-    let mut out = PlainSink::new();
-    match take_lines(&mut reporting, &mut lines, &mut due, shelf, &mut out) {
-        Ok(_) => Ok(reporting.run.into_run()),
-        Err(fault) => Err(events_stop(fault)),
-    }
+    run_of_lines(alloc, &arena, g, &mut lines, &mut due, shelf)
 }

@@ -84,7 +84,7 @@ fn add_places(places: &mut Vec<ReportedBy>, count: usize) -> Result<(), AllocErr
     places.resize(all, NOT_EXPANDED)
 }
 
-/// The lines that reported the events of a run: that of its start event, and that of the expansion of each of its instances, by the number of the instance. A place takes 8 bytes.
+/// The lines that reported the events of a run: that of its start event, and that of the expansion of each of its instances, by the number of the instance. A place takes 16 bytes.
 #[derive(Drop)]
 pub struct Reported {
     start: u64,

@@ -10,11 +10,12 @@ use Rattle.wf_model.specs.declared.parts.ProdPart.{ProdPart}
 use Rattle.wf_model.specs.declared.parts.PosPart.{PosPart}
 use Rattle.wf_model.specs.declared.parts.EdgePart.{EdgePart}
 use Rattle.wf_model.specs.declared.parts.EntryPart.{EntryPart}
+use Rattle.wf_model.specs.declared.parts.ExitPart.{ExitPart}
 use Rattle.wf_json.specs.declared.fault.JsonFault.{JsonFault}
 use Rattle.wf_json.specs.declared.fault.JsonFault.TheVariants.{NotJson, WrongShape, NoMemory}
 use Rattle.wf_json.specs.declared.fault.Member.{Member}
 use Rattle.wf_json.specs.declared.fault.Member.TheVariants.{Start, Modules, Productions}
-use Rattle.wf_json.specs.Forms.{text_form, list_form, member_form, list_member}
+use Rattle.wf_json.specs.Forms.{both, text_form, list_form, member_form, list_member}
 use Rattle.wf_json.specs.SpecForm.{module_form, position_form, edge_form, entry_form, exit_form, production_form}
 use Rattle.wf_json.specs.SpecRest.{spec_from_deps}
 use Rattle.wf_json.specs.Telling.{require, IsSaidBy}
@@ -62,15 +63,56 @@ with_part o read x next of is = ap (option_and_then next) (sym of ∙ is)
 pub with_none : {A B : Type 0} (o read : Option A) (next : A → Option B) → read ≡ o → read ≡ None → option_and_then next o ≡ None
 with_none o read next of is = ap (option_and_then next) (sym of ∙ is)
 
--- a production, from each part on, of those before it
-abbrev pub with_exits : Data → List ℕ → List PosPart → List EdgePart → List EntryPart → Option ProdPart
-with_exits d h b e i = option_map (λ o. record { head = h; body = b; edges = e; entries = i; exits = o }) (list_member (codes "out") exit_form d)
+-- two parts that follow one another, as both of them
+pub by_both : {A B C : Type 0} (a : Option A) (b : Option B) (make : A → B → C) → option_and_then (λ x. option_map (make x) b) a ≡ option_map (λ p. make p.0 p.1) (both a b)
+by_both None b make = refl
+by_both (Some x) None make = refl
+by_both (Some x) (Some y) make = refl
 
-abbrev pub with_entries : Data → List ℕ → List PosPart → List EdgePart → Option ProdPart
-with_entries d h b e = option_and_then (with_exits d h b e) (list_member (codes "in") entry_form d)
+-- a part, and two that follow it
+pub by_last : {A B C P : Type 0} (a : Option A) (b : Option B) (c : Option C) (make : A → B → C → P) →
+    option_and_then (λ x. option_and_then (λ y. option_map (make x y) c) b) a ≡ option_and_then (λ x. option_map (λ q. make x q.0 q.1) (both b c)) a
+by_last None b c make = refl
+by_last (Some x) b c make = by_both b c (make x)
 
-abbrev pub with_edges : Data → List ℕ → List PosPart → Option ProdPart
-with_edges d h b = option_and_then (with_entries d h b) (list_member (codes "edges") edge_form d)
+-- five parts that follow one another, as the first two and the last three of them
+pub by_halves : {A B C D E P : Type 0} (a : Option A) (b : Option B) (c : Option C) (d : Option D) (e : Option E) (make : A → B → C → D → E → P) →
+    option_and_then (λ x. option_and_then (λ y. option_and_then (λ z. option_and_then (λ v. option_map (make x y z v) e) d) c) b) a
+    ≡ option_and_then (λ p. option_map (λ q. make p.0 p.1 q.0 q.1.0 q.1.1) (both c (both d e))) (both a b)
+by_halves None b c d e make = refl
+by_halves (Some x) None c d e make = refl
+by_halves (Some x) (Some y) None d e make = refl
+by_halves (Some x) (Some y) (Some z) None e make = refl
+by_halves (Some x) (Some y) (Some z) (Some v) None make = refl
+by_halves (Some x) (Some y) (Some z) (Some v) (Some w) make = refl
 
-abbrev pub with_body : Data → List ℕ → Option ProdPart
-with_body d h = option_and_then (with_edges d h) (member_form (codes "body") (list_form position_form) d)
+-- where what is told is by two parts, and the first is not there
+pub without_first : {A B P : Type 0} (whole : Option P) (a read : Option A) (b : Option B) (make : A → B → P) → whole ≡ option_and_then (λ x. option_map (make x) b) a → read ≡ a → read ≡ None → None ≡ whole
+without_first whole a read b make by of is = sym (by ∙ with_none a read (λ x. option_map (make x) b) of is)
+
+-- and where it is there, whatever the second is
+pub by_second : {A B P : Type 0} (whole : Option P) (a read : Option A) (b last : Option B) (make : A → B → P) (x : A) (o : Option B) → whole ≡ option_and_then (λ x. option_map (make x) b) a → read ≡ a → read ≡ Some x → last ≡ b → last ≡ o → option_map (make x) o ≡ whole
+by_second whole a read b last make x o by of is of_last last_is = sym (by ∙ with_part a read x (λ x. option_map (make x) b) of is ∙ ap (option_map (make x)) (sym of_last ∙ last_is))
+
+-- a module by its name, and by its lists
+abbrev pub ends_in : Data → Option (List (List ℕ) × List (List ℕ))
+ends_in d = both (list_member (codes "in") text_form d) (list_member (codes "out") text_form d)
+
+abbrev pub module_of : List ℕ → (List (List ℕ) × List (List ℕ)) → ModulePart
+module_of n q = record { name = n; inputs = q.0; outputs = q.1 }
+
+pub module_by : (d : Data) → module_form d ≡ option_and_then (λ n. option_map (module_of n) (ends_in d)) (member_form (codes "name") text_form d)
+module_by d = by_last (member_form (codes "name") text_form d) (list_member (codes "in") text_form d) (list_member (codes "out") text_form d) (λ n i o. record { name = n; inputs = i; outputs = o })
+
+-- a production by its head and its body, and by its links
+abbrev pub head_in : Data → Option (List ℕ × List PosPart)
+head_in d = both (member_form (codes "head") text_form d) (member_form (codes "body") (list_form position_form) d)
+
+abbrev pub links_in : Data → Option (List EdgePart × (List EntryPart × List ExitPart))
+links_in d = both (list_member (codes "edges") edge_form d) (both (list_member (codes "in") entry_form d) (list_member (codes "out") exit_form d))
+
+abbrev pub production_of : List ℕ × List PosPart → List EdgePart × (List EntryPart × List ExitPart) → ProdPart
+production_of p q = record { head = p.0; body = p.1; edges = q.0; entries = q.1.0; exits = q.1.1 }
+
+pub production_by : (d : Data) → production_form d ≡ option_and_then (λ p. option_map (production_of p) (links_in d)) (head_in d)
+production_by d = by_halves (member_form (codes "head") text_form d) (member_form (codes "body") (list_form position_form) d) (list_member (codes "edges") edge_form d) (list_member (codes "in") entry_form d) (list_member (codes "out") exit_form d) (λ h b e i o. record { head = h; body = b; edges = e; entries = i; exits = o })

@@ -1,6 +1,7 @@
 // The parts of a specification, by their forms.
-ghost use Rattle.std.specs.Prelude.{◌≡◌, ◌==◌, position, IfOk};
-ghost use Rattle.wf_json.specs.Forms.{port_of, port_form};
+ghost use Rattle.std.specs.Prelude.{◌≡◌, ◌==◌, position, codes, IfOk};
+ghost use Rattle.serde_json.specs.View.{view};
+ghost use Rattle.wf_json.specs.Forms.{both, text_form, list_form, port_of, port_form, member_form, list_member};
 ghost use Rattle.wf_json.specs.SpecForm.{module_form, position_form, edge_form, entry_form, exit_form, production_form, ports_form, deps_form, version_form};
 
 use crate::form::{FromJson, member, member_list, pair};
@@ -96,6 +97,22 @@ impl FromJson for PairPart {
     }
 }
 
+/// The lists `in` and `out` of an object.
+fn in_and_out<A: FromJson + Drop, B: FromJson + Drop>(
+    alloc: Global,
+    value: &Value,
+) -> Result<Option<(Seq<A>, Seq<B>)>, AllocError>
+    ensures { IfOk result (λ o. o ≡ both (list_member (codes "in") A.form (view value.now)) (list_member (codes "out") B.form (view value.now))) }
+{
+    let Some(inner) = member_list::<A>(alloc, value, "in")? else {
+        return Ok(None);
+    };
+    let Some(outer) = member_list::<B>(alloc, value, "out")? else {
+        return Ok(None);
+    };
+    Ok(Some((inner, outer)))
+}
+
 impl FromJson for ModulePart {
     ghost form = { module_form };
 
@@ -103,12 +120,10 @@ impl FromJson for ModulePart {
         let Some(name) = member::<Name>(alloc, value, "name")? else {
             return Ok(None);
         };
-        let Some(inputs) = member_list::<Name>(alloc, value, "in")? else {
+        let Some(ends) = in_and_out::<Name, Name>(alloc, value)? else {
             return Ok(None);
         };
-        let Some(outputs) = member_list::<Name>(alloc, value, "out")? else {
-            return Ok(None);
-        };
+        let (inputs, outputs) = ends;
         Ok(Some(ModulePart {
             name,
             inputs,
@@ -117,25 +132,49 @@ impl FromJson for ModulePart {
     }
 }
 
+/// The head and the body of a production.
+fn head_and_body(alloc: Global, value: &Value) -> Result<Option<(Name, Seq<PosPart>)>, AllocError>
+    ensures { IfOk result (λ o. o ≡ both (member_form (codes "head") text_form (view value.now))
+        (member_form (codes "body") (list_form position_form) (view value.now))) }
+{
+    let Some(head) = member::<Name>(alloc, value, "head")? else {
+        return Ok(None);
+    };
+    let Some(body) = member::<Seq<PosPart>>(alloc, value, "body")? else {
+        return Ok(None);
+    };
+    Ok(Some((head, body)))
+}
+
+/// The edges of a production, and its lists `in` and `out`.
+fn links_of(
+    alloc: Global,
+    value: &Value,
+) -> Result<Option<(Seq<EdgePart>, (Seq<EntryPart>, Seq<ExitPart>))>, AllocError>
+    ensures { IfOk result (λ o. o ≡ both (list_member (codes "edges") edge_form (view value.now))
+        (both (list_member (codes "in") entry_form (view value.now)) (list_member (codes "out") exit_form (view value.now)))) }
+{
+    let Some(edges) = member_list::<EdgePart>(alloc, value, "edges")? else {
+        return Ok(None);
+    };
+    let Some(ends) = in_and_out::<EntryPart, ExitPart>(alloc, value)? else {
+        return Ok(None);
+    };
+    Ok(Some((edges, ends)))
+}
+
 impl FromJson for ProdPart {
     ghost form = { production_form };
 
     fn from_json(alloc: Global, value: &Value) -> Result<Option<ProdPart>, AllocError> {
-        let Some(head) = member::<Name>(alloc, value, "head")? else {
+        let Some(front) = head_and_body(alloc, value)? else {
             return Ok(None);
         };
-        let Some(body) = member::<Seq<PosPart>>(alloc, value, "body")? else {
+        let Some(links) = links_of(alloc, value)? else {
             return Ok(None);
         };
-        let Some(edges) = member_list::<EdgePart>(alloc, value, "edges")? else {
-            return Ok(None);
-        };
-        let Some(entries) = member_list::<EntryPart>(alloc, value, "in")? else {
-            return Ok(None);
-        };
-        let Some(exits) = member_list::<ExitPart>(alloc, value, "out")? else {
-            return Ok(None);
-        };
+        let (head, body) = front;
+        let (edges, (entries, exits)) = links;
         Ok(Some(ProdPart {
             head,
             body,

@@ -1,9 +1,12 @@
 // What a table holds of a name.
-ghost use Rattle.std.specs.Prelude.{◌≡◌, ℕ, List, ◌∷◌, [], IfOk, bytes_eq};
-ghost use Rattle.std.specs.Cmp.Lexicographic.{bytes_decides, nat_list_eq_equiv};
+ghost use Rattle.std.specs.Prelude.{◌≡◌, ◌==◌, ◌&&◌, ℕ, List, IfOk, bytes_eq};
+ghost use Rattle.std.specs.Hash as fed;
+ghost use Rattle.std.specs.Cmp.Lexicographic.{bytes_decides};
 ghost use Rattle.std.specs.Cmp.Rules.{comparing, hashing};
 ghost use Rattle.std.proofs.Common.{ap, rules};
+ghost use Rattle.std.proofs.lemmas.Bool.{and_parts, eqb-true};
 
+use crate::hashed::HashedName;
 use crate::keyed::NameKey;
 use bumpalo::Bump;
 use indexmap::Equivalent;
@@ -60,19 +63,20 @@ impl<'a> HeldName for NameKey<'a> {
     }
 }
 
-/// What is held of a name, as a key of a table. It is looked up by a `NameKey`, and its bytes are hashed as those of one, by one call.
+/// What is held of a name, and 32 bits of its hash, as a key of a table. It is looked up by a `HashedName`.
 #[derive(Drop)]
 pub(crate) struct HeldKey<K> {
     pub(crate) held: K,
+    pub(crate) hash: u32,
 }
 
 impl<K: HeldName> PartialEq for HeldKey<K> {
-    ghost eq = { λ a b. bytes_eq (K.name a.held) (K.name b.held) };
+    ghost eq = { λ a b. (a.hash == b.hash) && bytes_eq (K.name a.held) (K.name b.held) };
 
     ghost laws = { Prim.search (comparing, rules) };
 
     fn eq(&self, other: &HeldKey<K>) -> bool {
-        self.held.bytes() == other.held.bytes()
+        self.hash == other.hash && self.held.bytes() == other.held.bytes()
     }
 }
 
@@ -81,23 +85,24 @@ impl<K: HeldName> Eq for HeldKey<K> {
 }
 
 impl<K: HeldName> Hash for HeldKey<K> {
-    ghost hash_input = { λ a. K.name a.held ∷ [] };
+    ghost hash_input = { λ a. fed.u32 a.hash };
 
     ghost respects_eq = { Prim.search (hashing, rules) };
 
     fn hash<H: Hasher>(&self, state: &mut H) {
-        state.write(self.held.bytes());
+        state.write_u32(self.hash);
     }
 }
 
-impl<'a, K: HeldName> Equivalent<HeldKey<K>> for &NameKey<'a> {
-    ghost equivalent = { λ q k. bytes_eq q.now.bytes.now (K.name k.held) };
+impl<'a, K: HeldName> Equivalent<HeldKey<K>> for &HashedName<'a> {
+    ghost equivalent = { λ q k. (q.now.hash == k.hash) && bytes_eq q.now.bytes.now (K.name k.held) };
 
-    ghost respects_hash = { λ q k h. ap (λ b. b ∷ []) ((bytes_decides q.now.bytes.now (K.name k.held)).0 h) };
+    ghost respects_hash = { λ q k h. ap fed.u32 (eqb-true q.now.hash k.hash (and_parts _ _ h).0) };
 
-    ghost respects_eq = { λ q x y. nat_list_eq_equiv.congr q.now.bytes.now (K.name x.held) (K.name y.held) };
+    ghost respects_eq = { λ q x y h. λ i. (eqb-true q.now.hash x.hash (and_parts _ _ h).0 i == y.hash) &&
+        bytes_eq ((bytes_decides q.now.bytes.now (K.name x.held)).0 (and_parts _ _ h).1 i) (K.name y.held) };
 
     fn equivalent(&self, key: &HeldKey<K>) -> bool {
-        self.bytes == key.held.bytes()
+        self.hash == key.hash && self.bytes == key.held.bytes()
     }
 }

@@ -28,7 +28,7 @@ pub(crate) fn visible_item(run: &ViewedRun<'_>, name: &[u8]) -> Option<Item>
 {
     // Two items of a run differ in their names.
     let _run = run.run();
-    let item = run.find_item(name)?;
+    let item = run.find_item(0, name)?;
     if !run.shows(&item) {
         return None;
     }
@@ -45,7 +45,11 @@ pub(crate) fn find_consumer(run: &ViewedRun<'_>, item: &Item, name: &[u8]) -> Op
 {
     // Two instances of a run differ in their names.
     let _run = run.run();
-    let via = run.find_instance(name)?;
+    let near = match item.to {
+        Some(port) => port.instance,
+        None => 0,
+    };
+    let via = run.find_instance(near, name)?;
     let input = run.consumes(item, via)?;
     Some(Consumer { via, input })
 }
@@ -66,7 +70,7 @@ pub(crate) fn next_item(
 {
     // Two items of a run differ in their names.
     let _run = run.run();
-    let item = run.find_item(name)?;
+    let item = run.find_item(by.via, name)?;
     if !run.leads_to(by.input, &item) {
         return None;
     }

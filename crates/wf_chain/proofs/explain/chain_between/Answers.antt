@@ -8,17 +8,17 @@ use Rattle.wf_chain.proofs.explain.chain_between.Goals as goal
 pub number_of-from-requires-clause-there : goal.number_of-from-requires-clause-there
 number_of-from-requires-clause-there c =
     let g = c.args.graph.now in
-    in_items g.run.now c.args.items.now g.consumed.now g.produced.now g.made.now c.requires.graph c.args.first.now c.requires.first.held
+    in_items g.run.now c.args.items.now g.consumed.now g.produced.now c.requires.graph c.args.first.now c.requires.first.held
 
 pub number_of-to-requires-clause-there : goal.number_of-to-requires-clause-there
 number_of-to-requires-clause-there c =
     let g = c.args.graph.now in
-    in_items g.run.now c.args.items.now g.consumed.now g.produced.now g.made.now c.requires.graph c.args.second.now c.requires.second.held
+    in_items g.run.now c.args.items.now g.consumed.now g.produced.now c.requires.graph c.args.second.now c.requires.second.held
 
 pub first_shortest-requires-clause-in_range : goal.first_shortest-requires-clause-in_range
 first_shortest-requires-clause-in_range c =
     let g = c.args.graph.now in
-    rows_in_range g.run.now c.args.items.now g.consumed.now g.produced.now g.made.now c.requires.graph
+    rows_in_range g.run.now c.args.items.now g.consumed.now g.produced.now c.requires.graph
 
 pub first_shortest-requires-clause-from : goal.first_shortest-requires-clause-from
 first_shortest-requires-clause-from c =
@@ -31,7 +31,7 @@ first_shortest-requires-clause-to c =
 pub returns-in_default : goal.returns-in_default
 returns-in_default c =
     let g = c.args.graph.now in
-    no_route g.run.now c.args.items.now g.consumed.now g.produced.now g.made.now c.requires.graph c.args.first.now c.args.second.now c.number_of-from.result c.number_of-to.result
+    no_route g.run.now c.args.items.now g.consumed.now g.produced.now c.requires.graph c.args.first.now c.args.second.now c.number_of-from.result c.number_of-to.result
     c.number_of-from.ensures c.number_of-to.ensures c.requires.first.visible (rw c.in_default.is at c.in_ok-route.ensures)
 
 pub steps_along-requires-clause-there : goal.steps_along-requires-clause-there
@@ -40,13 +40,13 @@ steps_along-requires-clause-there c = at_below c.args.first.now c.number_of-from
 pub steps_along-requires-clause-route : goal.steps_along-requires-clause-route
 steps_along-requires-clause-route c =
     let g = c.args.graph.now in
-    let row = led_from g.run.now g.consumed.now g.produced.now g.made.now in
+    let row = led_from g.run.now g.consumed.now g.produced.now in
     let f = rw c.in-Some.is at c.in_ok-route.ensures in
     (c.number_of-to.result, subst (λ ws. IsRoute row c.number_of-from.result ws c.number_of-to.result) (sym c.deref.ensures.value) f.route)
 
 pub returns : goal.returns
 returns c =
     let g = c.args.graph.now in
-    first_route g.run.now c.args.items.now g.consumed.now g.produced.now g.made.now c.requires.graph c.args.first.now c.args.second.now c.number_of-from.result c.number_of-to.result
+    first_route g.run.now c.args.items.now g.consumed.now g.produced.now c.requires.graph c.args.first.now c.args.second.now c.number_of-from.result c.number_of-to.result
     c.number_of-from.ensures c.number_of-to.ensures c.requires.first.visible c.in-Some.route.items (rw c.in-Some.is at c.in_ok-route.ensures)
     (record { first = c.args.first.now; steps = c.in_ok-steps.steps }) refl (c.in_ok-steps.ensures ∙ ap (steps_held c.args.items.now g.consumed.now c.number_of-from.result) c.deref.ensures.value)

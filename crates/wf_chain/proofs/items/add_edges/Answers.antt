@@ -1,5 +1,4 @@
 use Rattle.std.proofs.Common.{get_or, arith}
-use Rattle.wf_model.specs.declared.body.Edge.{Edge}
 use Rattle.wf_model.proofs.Lists.{is_at, at_in}
 use Rattle.wf_model.proofs.Absent.{no_edge}
 use Rattle.wf_chain.proofs.items.add_edges.Goals as goal

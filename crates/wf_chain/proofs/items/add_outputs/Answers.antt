@@ -1,5 +1,5 @@
 use Rattle.wf_chain.specs.ItemLists.{output_held}
-use Rattle.wf_chain.proofs.Numbered.{numbered_more}
+use Rattle.wf_flat.proofs.Numbered.{numbered_more}
 use Rattle.wf_chain.proofs.items.add_outputs.Goals as goal
 
 pub loop-k-preserved : goal.loop-k-preserved

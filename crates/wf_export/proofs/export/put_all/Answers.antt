@@ -3,7 +3,7 @@ use Rattle.std.proofs.lemmas.Result.{err_from_is_err_and}
 use Rattle.wf_flat.specs.Table.{events_of}
 use Rattle.wf_export.specs.Adds.{Adds}
 use Rattle.wf_export.specs.ExportText.{instances_text}
-use Rattle.wf_export.specs.Shown.{held_items_text, held_links_text}
+use Rattle.wf_export.specs.Shown.{held_items_text, seen_links_text}
 use Rattle.wf_export.proofs.Texts.{passed, stopped_longer, stopped_after, adds_after}
 use Rattle.wf_export.proofs.WholeText.{text_told}
 use Rattle.wf_export.proofs.export.put_all.Goals as goal
@@ -14,8 +14,8 @@ returns-in_err-put_instances g c =
     let u = c.args.view.now.core in
     let t = c.args.run.now in
     let first = instances_text h u (events_of t) in
-    let rest = held_items_text h t c.args.shown.now.opens ++ held_links_text h t c.args.shown.now.links in
-    subst (λ x. Adds g.O.Sink.put_bytes g.O.Sink.faults g.O.Sink.at_last x c.args.due.now c.put_instances.new.due c.args.out.now c.put_instances.new.out c.from_residual.result) (text_told h u t c.args.shown.now c.requires)
+    let rest = held_items_text h t c.args.shown.now.opens ++ seen_links_text h c.args.shown.now c.args.rows.now t.instances in
+    subst (λ x. Adds g.O.Sink.put_bytes g.O.Sink.faults g.O.Sink.at_last x c.args.due.now c.put_instances.new.due c.args.out.now c.put_instances.new.out c.from_residual.result) (text_told h u t c.args.rows.now c.args.shown.now c.requires.seen c.requires.links)
     (passed g.O.Sink.put_bytes g.O.Sink.faults g.O.Sink.at_last (first ++ rest) c.args.due.now c.put_instances.new.due c.args.out.now c.put_instances.new.out c.from_residual.result c.in_err-put_instances.field-0.0 (err_from_is_err_and c.from_residual.result c.from_residual.ensures.1)
     (stopped_longer g.O.Sink.put_bytes g.O.Sink.faults g.O.Sink.at_last first rest c.args.due.now c.args.out.now c.put_instances.new.out c.in_err-put_instances.field-0.0 c.in_err-put_instances.ensures))
 
@@ -26,8 +26,8 @@ returns-in_err-put_items g c =
     let t = c.args.run.now in
     let first = instances_text h u (events_of t) in
     let items = held_items_text h t c.args.shown.now.opens in
-    let last = held_links_text h t c.args.shown.now.links in
-    subst (λ x. Adds g.O.Sink.put_bytes g.O.Sink.faults g.O.Sink.at_last x c.args.due.now c.put_items.new.due c.args.out.now c.put_items.new.out c.from_residual-in_err-put_items.result) (text_told h u t c.args.shown.now c.requires)
+    let last = seen_links_text h c.args.shown.now c.args.rows.now t.instances in
+    subst (λ x. Adds g.O.Sink.put_bytes g.O.Sink.faults g.O.Sink.at_last x c.args.due.now c.put_items.new.due c.args.out.now c.put_items.new.out c.from_residual-in_err-put_items.result) (text_told h u t c.args.rows.now c.args.shown.now c.requires.seen c.requires.links)
     (passed g.O.Sink.put_bytes g.O.Sink.faults g.O.Sink.at_last (first ++ (items ++ last)) c.args.due.now c.put_items.new.due c.args.out.now c.put_items.new.out c.from_residual-in_err-put_items.result c.in_err-put_items.field-0.0 (err_from_is_err_and c.from_residual-in_err-put_items.result c.from_residual-in_err-put_items.ensures.1)
     (stopped_after g.O.Sink.put_bytes g.O.Sink.faults g.O.Sink.at_last first (items ++ last) c.args.due.now c.put_instances.new.due c.args.out.now c.put_instances.new.out c.put_items.new.out c.in_err-put_items.field-0.0 c.in_ok-put_instances.ensures
     (stopped_longer g.O.Sink.put_bytes g.O.Sink.faults g.O.Sink.at_last items last c.put_instances.new.due c.put_instances.new.out c.put_items.new.out c.in_err-put_items.field-0.0 c.in_err-put_items.ensures)))
@@ -39,7 +39,7 @@ returns g c =
     let t = c.args.run.now in
     let first = instances_text h u (events_of t) in
     let items = held_items_text h t c.args.shown.now.opens in
-    let last = held_links_text h t c.args.shown.now.links in
-    subst (λ x. Adds g.O.Sink.put_bytes g.O.Sink.faults g.O.Sink.at_last x c.args.due.now c.put_links.new.due c.args.out.now c.put_links.new.out c.put_links.result) (text_told h u t c.args.shown.now c.requires)
+    let last = seen_links_text h c.args.shown.now c.args.rows.now t.instances in
+    subst (λ x. Adds g.O.Sink.put_bytes g.O.Sink.faults g.O.Sink.at_last x c.args.due.now c.put_links.new.due c.args.out.now c.put_links.new.out c.put_links.result) (text_told h u t c.args.rows.now c.args.shown.now c.requires.seen c.requires.links)
     (adds_after g.O.Sink.put_bytes g.O.Sink.faults g.O.Sink.at_last first (items ++ last) c.args.due.now c.put_instances.new.due c.put_links.new.due c.args.out.now c.put_instances.new.out c.put_links.new.out c.put_links.result c.in_ok-put_instances.ensures
     (adds_after g.O.Sink.put_bytes g.O.Sink.faults g.O.Sink.at_last items last c.put_instances.new.due c.put_items.new.due c.put_links.new.due c.put_instances.new.out c.put_items.new.out c.put_links.new.out c.put_links.result c.in_ok-put_items.ensures c.put_links.ensures))

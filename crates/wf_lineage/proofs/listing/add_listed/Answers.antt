@@ -3,7 +3,7 @@ use Rattle.wf_model.proofs.Lists.{at_in, is_at}
 use Rattle.label_file.specs.Stored.{no_entry}
 use Rattle.wf_label.specs.Values.{AreLabelBits}
 use Rattle.wf_lineage.proofs.EntryLines.{all_so_far, one_more, cut_here}
-use Rattle.wf_lineage.proofs.ListedCosts.{one_dearer, one_more_cost, all_cost}
+use Rattle.wf_model.proofs.Costs.{one_dearer, one_more_cost, all_cost}
 use Rattle.wf_lineage.proofs.listing.add_listed.Goals as goal
 
 pub add_entry-requires-clause-label : goal.add_entry-requires-clause-label

@@ -1,23 +1,37 @@
-use Rattle.std.proofs.Common.{◌∙◌, get_or, refl, sym, None}
-use Rattle.wf_chain.specs.ItemGraphs.{is_joined}
-use Rattle.wf_chain.proofs.ReadLists.{read_in}
-use Rattle.wf_chain.proofs.PassedItems.{passed, found, ended}
+use Rattle.std.proofs.Common.{◌∙◌, sym, arith, length}
+use Rattle.wf_chain.proofs.ItemGraphs.{is_within}
+use Rattle.wf_chain.proofs.MadeSteps.{there_below, led_nothing, led_passed, led_found}
 use Rattle.wf_chain.proofs.item_graph.ItemGraph.next_led.Goals as goal
 
-pub leads-requires-clause-item : goal.leads-requires-clause-item
-leads-requires-clause-item c = c.requires.row (get_or c.args.row.now c.loop-at.at 0) (read_in c.args.row.now c.args.row.now c.loop-at.at 0 refl c.loop-at-test.true)
-
-pub loop-at-preserved : goal.loop-at-preserved
-loop-at-preserved c =
+pub returns-then-has_pair : goal.returns-then-has_pair
+returns-then-has_pair c =
     let g = c.args.self.now in
-    passed (λ w. is_joined g.run.now c.args.input (get_or g.produced.now w None)) c.args.row.now c.args.mark c.loop-at.at c.loop-at.invariant c.loop-at-test.true (sym c.leads.ensures ∙ c.if-leads.false)
+    let w = is_within (length g.run.now.run.instances) g.consumed.now g.produced.now g.first.now g.next.now g.within in
+    let at = c.loop-output.at in
+    let q = c.in-Some.output in
+    let is = sym c.output_of.ensures ∙ c.in-Some.is in
+    c.loop-output.invariant ∙ led_found g.run.now g.produced.now c.args.input at _ q is (w.made.nexts at q (omega arith) is) (sym c.has_pair.ensures ∙ c.if-has_pair.true)
 
-pub returns-then-leads : goal.returns-then-leads
-returns-then-leads c =
+pub loop-output-smaller : goal.loop-output-smaller
+loop-output-smaller c =
     let g = c.args.self.now in
-    found (λ w. is_joined g.run.now c.args.input (get_or g.produced.now w None)) c.args.row.now c.args.mark c.loop-at.at c.loop-at.invariant c.loop-at-test.true (sym c.leads.ensures ∙ c.if-leads.true)
+    let w = is_within (length g.run.now.run.instances) g.consumed.now g.produced.now g.first.now g.next.now g.within in
+    let at = c.loop-output.at in
+    let is = sym c.output_of.ensures ∙ c.in-Some.is in
+    let later = (w.made.nexts at c.in-Some.output (omega arith) is).behind in
+    let low = there_below g.produced.now at c.in-Some.output is in
+    omega (arith, later, low)
+
+pub loop-output-preserved : goal.loop-output-preserved
+loop-output-preserved c =
+    let g = c.args.self.now in
+    let w = is_within (length g.run.now.run.instances) g.consumed.now g.produced.now g.first.now g.next.now g.within in
+    let at = c.loop-output.at in
+    let q = c.in-Some.output in
+    let is = sym c.output_of.ensures ∙ c.in-Some.is in
+    c.loop-output.invariant ∙ led_passed g.run.now g.produced.now c.args.input at _ q is (w.made.nexts at q (omega arith) is) (sym c.has_pair.ensures ∙ c.if-has_pair.false)
 
 pub returns : goal.returns
 returns c =
     let g = c.args.self.now in
-    ended (λ w. is_joined g.run.now c.args.input (get_or g.produced.now w None)) c.args.row.now c.args.mark c.loop-at.at c.loop-at.invariant c.loop-at-test.false
+    c.loop-output.invariant ∙ led_nothing g.run.now g.produced.now c.args.input c.loop-output.at (sym c.output_of.ensures ∙ c.in_default.is)

@@ -3,6 +3,7 @@ use Rattle.std.proofs.lemmas.Grind.{merely}
 use Rattle.wf_flat.specs.declared.graph.Port.{Port}
 use Rattle.wf_flat.specs.declared.table.Inst.{Inst}
 use Rattle.wf_chain.specs.ViewedRuns.{ViewedRunValue, IsViewedRun}
+use Rattle.wf_chain.specs.ItemGraphs.{AreMadeFrom}
 use Rattle.wf_chain.proofs.ItemGraphs.{produced_there, within}
 use Rattle.wf_chain.proofs.Explaining.{graph_made}
 use Rattle.wf_chain.proofs.viewed_run.ViewedRun.explain_by.Goals as goal
@@ -30,15 +31,20 @@ pub chain_between-requires-clause-graph : goal.chain_between-requires-clause-gra
 chain_between-requires-clause-graph c =
     let v = c.args.self.now in
     let kept = subst (λ (w : ViewedRunValue). IsViewedRun w c.self.inside.flags.items) c.self.view_is c.self.invariant in
-    let all = c.instances.ensures.instances ∙ ap (λ (w : ViewedRunValue). w.run.instances) c.self.view_is in
-    graph_made v kept.safe kept.run c.args.items.now c.requires.items c.instances.result.now c.in_ok-consumed.consumed.items c.deref-2.result.now c.in_ok-produced.produced.items c.deref.result.now c.deref-3.result.now c.in_ok-made.made.items c.deref-4.result.now
-    all c.in_ok-consumed.ensures c.in_ok-produced.ensures c.in_ok-made.ensures c.deref-2.ensures.value c.deref.ensures.value c.deref-3.ensures.value c.deref-4.ensures.value
+    graph_made v kept.safe kept.run c.args.items.now c.requires.items c.in_ok-consumed.consumed.items c.deref-2.result.now c.in_ok-produced.produced.items c.deref-3.result.now
+    c.in_ok-consumed.ensures c.in_ok-produced.ensures c.deref-2.ensures.value c.deref-3.ensures.value
 
 pub invariant_of-graph : goal.invariant_of-graph
 invariant_of-graph c =
     let v = c.args.self.now in
     let kept = subst (λ (w : ViewedRunValue). IsViewedRun w c.self.inside.flags.items) c.self.view_is c.self.invariant in
     let all = c.instances.ensures.instances ∙ ap (λ (w : ViewedRunValue). w.run.instances) c.self.view_is in
-    let h = graph_made v kept.safe kept.run c.args.items.now c.requires.items c.instances.result.now c.in_ok-consumed.consumed.items c.deref-2.result.now c.in_ok-produced.produced.items c.deref.result.now c.deref-3.result.now c.in_ok-made.made.items c.deref-4.result.now
-    all c.in_ok-consumed.ensures c.in_ok-produced.ensures c.in_ok-made.ensures c.deref-2.ensures.value c.deref.ensures.value c.deref-3.ensures.value c.deref-4.ensures.value in
-    record { within = merely (within v h.run h.safe c.args.items.now c.deref-2.result.now c.deref-3.result.now h.items h.consumers h.producers c.deref-4.result.now h.rows) }
+    let h = graph_made v kept.safe kept.run c.args.items.now c.requires.items c.in_ok-consumed.consumed.items c.deref-2.result.now c.in_ok-produced.produced.items c.deref-3.result.now
+    c.in_ok-consumed.ensures c.in_ok-produced.ensures c.deref-2.ensures.value c.deref-3.ensures.value in
+    let made = c.in_ok-made.made in
+    let linked = subst (λ z. AreMadeFrom z 0 made.first.items made.next.items) (c.deref.ensures.value ∙ sym c.deref-3.ensures.value) c.in_ok-made.ensures.made in
+    record {
+      within = merely (within v h.run h.safe c.args.items.now c.deref-2.result.now c.deref-3.result.now h.items h.consumers h.producers c.deref-4.result.now c.deref-5.result.now
+          c.requires.few (ap length c.deref-4.ensures.value ∙ (c.in_ok-made.ensures.count ∙ ap length all))
+          (subst (λ z. AreMadeFrom c.deref-3.result.now 0 z c.deref-5.result.now) (sym c.deref-4.ensures.value) (subst (AreMadeFrom c.deref-3.result.now 0 made.first.items) (sym c.deref-5.ensures.value) linked)));
+    }

@@ -9,16 +9,16 @@ pub returns-clause-there : goal.returns-clause-there
 returns-clause-there c =
     let v = c.args.self.now in
     let kept = subst (λ (w : ViewedRunValue). IsViewedRun w c.self.inside.flags.items) c.self.view_is c.self.invariant in
-    found_there (grammar_in v) v.run kept.run c.args.name.now c.find.result (c.find.ensures.place ∙ ap (λ (w : ViewedRunValue). position (bytes_eq c.args.name.now) (names_in w.run.instances)) c.self.view_is)
+    found_there (grammar_in v) v.run kept.run c.args.name.now c.find_near.result (c.find_near.ensures.place ∙ ap (λ (w : ViewedRunValue). position (bytes_eq c.args.name.now) (names_in w.run.instances)) c.self.view_is)
 
 pub returns-clause-named : goal.returns-clause-named
 returns-clause-named c =
     let v = c.args.self.now in
     let kept = subst (λ (w : ViewedRunValue). IsViewedRun w c.self.inside.flags.items) c.self.view_is c.self.invariant in
-    found_instance (grammar_in v) v.run kept.run c.args.name.now c.find.result (c.find.ensures.place ∙ ap (λ (w : ViewedRunValue). position (bytes_eq c.args.name.now) (names_in w.run.instances)) c.self.view_is)
+    found_instance (grammar_in v) v.run kept.run c.args.name.now c.find_near.result (c.find_near.ensures.place ∙ ap (λ (w : ViewedRunValue). position (bytes_eq c.args.name.now) (names_in w.run.instances)) c.self.view_is)
 
 pub returns-clause-none : goal.returns-clause-none
 returns-clause-none c =
     let v = c.args.self.now in
     let kept = subst (λ (w : ViewedRunValue). IsViewedRun w c.self.inside.flags.items) c.self.view_is c.self.invariant in
-    none_found (grammar_in v) v.run kept.run c.args.name.now c.find.result (c.find.ensures.place ∙ ap (λ (w : ViewedRunValue). position (bytes_eq c.args.name.now) (names_in w.run.instances)) c.self.view_is)
+    none_found (grammar_in v) v.run kept.run c.args.name.now c.find_near.result (c.find_near.ensures.place ∙ ap (λ (w : ViewedRunValue). position (bytes_eq c.args.name.now) (names_in w.run.instances)) c.self.view_is)
