@@ -1,6 +1,12 @@
 pub mod OneComparing
 pub mod ComparedTexts
 pub mod ToldViews
+pub mod PackageValues
+pub mod GoodPackages
+pub mod OneConsulting
+pub mod SomeConsulting
+pub mod ConsultedTexts
+pub mod PackageTaking
 pub mod SomeSharing
 pub mod OneSharing
 pub mod GoodSharing

@@ -1,4 +1,7 @@
 pub mod Words
 pub mod Told
+pub mod PackageTold
+pub mod Consulted
+pub mod Stops
 pub mod Does
 pub mod Family

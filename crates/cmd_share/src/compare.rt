@@ -4,9 +4,11 @@ ghost use Rattle.wf_message.specs.Endings.{end_of, end_after, Done, Refused, NoM
 ghost use Rattle.wf_stage.specs.Promises.{Writes, Obeys};
 ghost use Rattle.wf_compare.specs.FaultText.{compare_text};
 ghost use Rattle.cmd_share.specs.Told.{ComparesViews};
-ghost use Rattle.cmd_share.specs.Does.{Compares};
+ghost use Rattle.cmd_share.specs.Stops.{AreNotCompared};
+ghost use Rattle.cmd_share.specs.Does.{Compares, ComparesIn, ComparesWith};
 
 use std::alloc::Global;
+use wf_accept::Accepted;
 use wf_compare::{CompareFault, add_text, compare};
 use wf_inputs::{COARSE, spec_stage, view_file_stage, view_stage};
 use wf_io::{Shelf, Sink};
@@ -42,7 +44,7 @@ fn not_compared(g: &Grammar, fault: CompareFault, mut text: Vec<u8>) -> Stop
 fn comparison(alloc: Global, fine: &SafeView<'_>, coarse: &SafeView<'_>) -> Result<Vec<u8>, Stop>
     requires same { coarse.now.accepted ≡ fine.now.accepted }
     ensures told { IfOk result (λ text. ComparesViews fine.now.accepted.grammar.core fine.now.view.core coarse.now.view.core Done text.items) }
-    ensures stops { IfErr result (λ e. (end_of e ≡ NoMemory) ⊎ ComparesViews fine.now.accepted.grammar.core fine.now.view.core coarse.now.view.core (end_of e) []) }
+    ensures stops { IfErr result (λ e. AreNotCompared fine.now.accepted.grammar.core fine.now.view.core coarse.now.view.core (end_of e)) }
 {
     let Ok(mut text) = empty_text(alloc) else {
         return Err(Stop::NoMemory);
@@ -66,12 +68,49 @@ fn put_comparison<O: Sink>(
     requires same { coarse.now.accepted ≡ fine.now.accepted }
     ensures writes { Writes O.put_bytes O.faults O.at_last []
         (ComparesViews fine.now.accepted.grammar.core fine.now.view.core coarse.now.view.core) out.old out.new (end_after result) }
+    ensures untouched { end_after result ≡ NoMemory → (O.put_bytes out.new ≡ O.put_bytes out.old) × (O.faults out.new ≡ O.faults out.old) }
 {
     // Two safe views of one grammar come to one text.
     let _of_fine = fine.grammar();
     let _of_coarse = coarse.grammar();
     let text = comparison(alloc, fine, coarse)?;
     put_text(out, &text)
+}
+
+/// Takes the coarser view beside the other of the same grammar.
+fn compare_with<H: Shelf, O: Sink>(
+    alloc: Global,
+    accepted: &Accepted,
+    fine: &SafeView<'_>,
+    name: &str,
+    shelf: &mut H,
+    out: &mut O,
+) -> Result<(), Stop>
+    requires same { fine.now.accepted ≡ accepted.now }
+    ensures obeys { Obeys H.files H.readings H.faults H.at_last O.put_bytes O.faults O.at_last (name.now ∷ []) []
+        (λ f. ComparesWith accepted.now.grammar.core fine.now.view.core (f name.now))
+        shelf.old shelf.new out.old out.new (end_after result) }
+    ensures untouched { end_after result ≡ NoMemory → (O.put_bytes out.new ≡ O.put_bytes out.old) × (O.faults out.new ≡ O.faults out.old) }
+{
+    let coarse = view_file_stage(alloc, shelf, name, COARSE, accepted)?;
+    put_comparison(alloc, fine, &coarse, out)
+}
+
+/// Takes the two views of an accepted grammar.
+fn compare_in<H: Shelf, O: Sink>(
+    alloc: Global,
+    accepted: &Accepted,
+    words: &CompareWords<'_>,
+    shelf: &mut H,
+    out: &mut O,
+) -> Result<(), Stop>
+    ensures obeys { Obeys H.files H.readings H.faults H.at_last O.put_bytes O.faults O.at_last (words.now.view.now ∷ words.now.coarse.now ∷ []) []
+        (λ f. ComparesIn accepted.now.grammar.core (f words.now.view.now) (f words.now.coarse.now))
+        shelf.old shelf.new out.old out.new (end_after result) }
+    ensures untouched { end_after result ≡ NoMemory → (O.put_bytes out.new ≡ O.put_bytes out.old) × (O.faults out.new ≡ O.faults out.old) }
+{
+    let fine = view_stage(alloc, shelf, words.view, accepted)?;
+    compare_with(alloc, accepted, &fine, words.coarse, shelf, out)
 }
 
 /// Tells whether the second of two safe views, which is coarser, ever denies what the first affirms.
@@ -87,9 +126,8 @@ pub fn compare_views<H: Shelf, O: Sink>(
         (words.now.spec.now ∷ words.now.view.now ∷ words.now.coarse.now ∷ []) []
         (λ f. Compares (f words.now.spec.now) (f words.now.view.now) (f words.now.coarse.now))
         shelf.old shelf.new out.old out.new (end_after result) }
+    ensures untouched { end_after result ≡ NoMemory → (O.put_bytes out.new ≡ O.put_bytes out.old) × (O.faults out.new ≡ O.faults out.old) }
 {
     let accepted = spec_stage(alloc, shelf, words.spec)?;
-    let fine = view_stage(alloc, shelf, words.view, &accepted)?;
-    let coarse = view_file_stage(alloc, shelf, words.coarse, COARSE, &accepted)?;
-    put_comparison(alloc, &fine, &coarse, out)
+    compare_in(alloc, &accepted, words, shelf, out)
 }

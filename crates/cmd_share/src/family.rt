@@ -1,11 +1,11 @@
-// The family of `package` and `compare`.
+// The family of `package`, `consult` and `compare`.
 use crate::command::Command;
 use std::alloc::Global;
 use wf_io::{Shelf, Sink};
 use wf_message::{Ending, ending_after};
 use wf_stage::Commands;
 
-/// `package` and `compare` as a family of commands.
+/// `package`, `consult` and `compare` as a family of commands.
 pub struct Family;
 
 impl Commands for Family {

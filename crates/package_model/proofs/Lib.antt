@@ -10,6 +10,7 @@ mod PackageFormed
 pub mod PackageLaws
 mod PackageLoops
 pub mod LoopSteps
+pub mod SameLoops
 pub mod ReadOnce
 pub mod InsideLabels
 mod ReadInGrammar

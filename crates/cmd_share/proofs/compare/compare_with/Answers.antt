@@ -1,0 +1,18 @@
+use Rattle.std.proofs.Common.{ap}
+use Rattle.std.proofs.lemmas.Result.{err_from_is_err_and}
+use Rattle.wf_accept.specs.Accepted.{AcceptedValue}
+use Rattle.wf_stage.proofs.Obeying.{obeys_passed, obeys_writing}
+use Rattle.wf_inputs.specs.Inputs.{coarse_kind}
+use Rattle.wf_inputs.proofs.Taking.{view_file_stops, view_file_goes, with_grammar}
+use Rattle.cmd_share.specs.Told.{ComparesViews}
+use Rattle.cmd_share.proofs.compare.compare_with.Goals as goal
+
+pub returns-in_err-coarse-clause-obeys : goal.returns-in_err-coarse-clause-obeys
+returns-in_err-coarse-clause-obeys g c =
+    obeys_passed _ _ _ _ _ _ c.from_residual.result c.in_err-coarse.field-0.0 (err_from_is_err_and c.from_residual.result c.from_residual.ensures.1)
+    (view_file_stops c.args.accepted.now.grammar.core coarse_kind _ _ _ _ _ c.in_err-coarse.ensures.reads)
+
+pub returns-clause-obeys : goal.returns-clause-obeys
+returns-clause-obeys g c =
+    view_file_goes c.args.accepted.now.grammar.core coarse_kind _ _ _ _ _ _ _ _ c.in_ok-coarse.ensures.reads
+    (with_grammar _ (λ f x. ComparesViews x.core c.args.fine.now.view.core c.in_ok-coarse.coarse.view.core) _ _ _ _ _ _ _ (ap (λ (a : AcceptedValue). a.grammar) c.requires.same) (obeys_writing _ _ _ _ _ _ c.put_comparison.ensures.writes))

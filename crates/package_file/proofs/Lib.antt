@@ -1,0 +1,11 @@
+pub mod Unformed
+pub mod Unaccepted
+pub mod DefaultViews
+pub mod DefaultVerdicts
+pub mod EmptyParts
+pub mod SmallNumbers
+pub mod NumberedEntries
+pub mod BadParts
+pub mod ReadParts
+pub mod OneReading
+pub mod PackageOrNot

@@ -1,0 +1,5 @@
+pub mod Form
+pub mod Packed
+pub mod Numbers
+pub mod FaultText
+pub mod OutcomeLaw

@@ -1,0 +1,9 @@
+pub mod NamedModules
+pub mod Entering
+pub mod StepTables
+pub mod SameSteps
+pub mod OneEntry
+pub mod GoodLoops
+pub mod GoodTargets
+pub mod GoodSteps
+pub mod GoodOrNot

@@ -1,0 +1,5 @@
+pub mod Tables
+pub mod Looped
+pub mod Entries
+pub mod Good
+pub mod Laws

@@ -1,0 +1,12 @@
+pub mod Options
+pub mod LoopFacts
+pub mod Told
+pub mod Readings
+pub mod FirstReadings
+pub mod PartsRead
+pub mod Walking
+pub mod ChainEnds
+pub mod Turning
+pub mod Whole
+pub mod HeldBits
+pub mod SomeTranslation
