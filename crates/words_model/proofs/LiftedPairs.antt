@@ -26,7 +26,7 @@ after_below a ia s [] hs = hs
 after_below a ia s (m ∷ word) hs = after_below a ia (next_state a s m) word (next_below a ia s m hs)
 
 -- a pair of the module m in the state s
-abbrev lift_pair : Automaton → ℕ → ℕ → ℕ × ℕ → ℕ × ℕ
+abbrev pub lift_pair : Automaton → ℕ → ℕ → ℕ × ℕ → ℕ × ℕ
 lift_pair a m s e = (in_state a.states s e.0, in_state a.states (next_state a s m) e.1)
 
 lifted_shown : (a : Automaton) (c j : ℕ) (xs : List (List (ℕ × ℕ))) → get_or (lift_shown a c xs) j [] ≡ lift_pairs a (c + j) (get_or xs j [])

@@ -1,0 +1,14 @@
+pub mod AlikeWitnesses
+pub mod AlikeLabels
+pub mod LiftedSafety
+pub mod WordViews
+pub mod AutoValues
+pub mod AutoTaking
+pub mod OneByWords
+pub mod ToldAutomata
+pub mod SomeByWords
+pub mod OneAutoStage
+pub mod SomeAutoStage
+pub mod OneAnswering
+pub mod SomeAnswering
+pub mod GoodAnswering

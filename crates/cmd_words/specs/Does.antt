@@ -1,0 +1,41 @@
+-- What `words` does.
+use Rattle.std.specs.Prelude.{ℕ, List, []}
+use Rattle.wf_model.specs.View.{View}
+use Rattle.wf_spec.specs.Held.{HeldGrammar}
+use Rattle.wf_io.specs.Told.{File}
+use Rattle.words_model.specs.Automata.{Automaton}
+use Rattle.wf_words.specs.Answers.{IsWordByWords}
+use Rattle.wf_message.specs.Endings.{End}
+use Rattle.wf_stage.specs.Stages.{Stage, OfWhole}
+use Rattle.wf_inputs.specs.Inputs.{labels_kind, SpecStage, ViewStage}
+use Rattle.wf_inputs.specs.LabelsTold.{TellsEntries, RefusesLabels}
+use Rattle.wf_asking.specs.Queries.{QueriesStage}
+use Rattle.cmd_words.specs.declared.command.Command.{Command as CommandHeld}
+use Rattle.cmd_words.specs.declared.command.Command.TheVariants.{Words as WordsHeld}
+use Rattle.cmd_words.specs.Words.{Command, Words}
+use Rattle.cmd_words.specs.AutoTold.{AutoStage}
+
+-- LABELS and QUERIES under a view, by an automaton
+abbrev pub AnswersLabels : HeldGrammar → View → Automaton → File → File → End → List ℕ → Type 0
+AnswersLabels h u a labels queries =
+    Stage labels_kind [] labels (TellsEntries h) (OfWhole (RefusesLabels h)) (λ entries. QueriesStage (IsWordByWords h.core u a entries) queries)
+
+-- AUTO, LABELS and QUERIES under a view
+abbrev pub AnswersAuto : HeldGrammar → View → File → File → File → End → List ℕ → Type 0
+AnswersAuto h u auto labels queries = AutoStage h.core u auto (λ a. AnswersLabels h u a labels queries)
+
+-- VIEW, AUTO, LABELS and QUERIES of a grammar
+abbrev pub AnswersView : HeldGrammar → File → File → File → File → End → List ℕ → Type 0
+AnswersView h view auto labels queries = ViewStage h.core view (λ u. AnswersAuto h u auto labels queries)
+
+-- `words` over the five files
+abbrev pub AnswersByWords : File → File → File → File → File → End → List ℕ → Type 0
+AnswersByWords spec view auto labels queries = SpecStage spec (λ h. AnswersView h view auto labels queries)
+
+-- the command that a value is
+abbrev pub meant : CommandHeld → Command
+meant (WordsHeld w) = Words w.spec.now w.view.now w.automaton.now w.labels.now w.queries.now
+
+-- what a command does over files
+abbrev pub Does : (List ℕ → File) → Command → End → List ℕ → Type 0
+Does files (Words s v a l q) = AnswersByWords (files s) (files v) (files a) (files l) (files q)

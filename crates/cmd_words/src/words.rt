@@ -1,0 +1,149 @@
+// `words`: SPEC, VIEW, AUTO and LABELS, and then the answers to QUERIES by the words of paths, from the labels alone.
+ghost use Rattle.std.specs.Prelude.{◌≡◌, ◌∷◌, ℕ, List, []};
+ghost use Rattle.words_model.specs.Laws.{Fits};
+ghost use Rattle.words_model.specs.Lifting.{lift};
+ghost use Rattle.wf_automaton.specs.Rules.{TellsAutomaton};
+ghost use Rattle.wf_message.specs.Endings.{end_after, NoMemory};
+ghost use Rattle.wf_stage.specs.Stages.{Holds};
+ghost use Rattle.wf_stage.specs.Promises.{HasRead, Obeys};
+ghost use Rattle.cmd_words.specs.AutoTold.{auto_kind};
+ghost use Rattle.cmd_words.specs.Does.{AnswersAuto, AnswersView, AnswersByWords};
+
+use crate::auto_input::{AUTO, automaton_of};
+use crate::labels::answer_labels;
+use crate::lifted::{lifted_grammar, lifted_view};
+use std::alloc::Global;
+use wf_accept::Accepted;
+use wf_automaton::Automaton;
+use wf_inputs::{spec_stage, view_stage};
+use wf_io::{Shelf, Sink};
+use wf_message::Stop;
+use wf_safe::SafeView;
+use wf_stage::read_file;
+
+/// The names of the files that `words` reads, in this order.
+#[derive(Clone, Copy)]
+pub struct WordsFiles<'w> {
+    pub spec: &'w str,
+    pub view: &'w str,
+    pub automaton: &'w str,
+    pub labels: &'w str,
+    pub queries: &'w str,
+}
+
+/// Takes LABELS and QUERIES under a view and an automaton, which AUTO told, from the grammar that was lifted to its states.
+fn answer_lifted<H: Shelf, O: Sink>(
+    alloc: Global,
+    v: &SafeView<'_>,
+    automaton: &Automaton,
+    grammar: &Accepted,
+    files: &WordsFiles<'_>,
+    shelf: &mut H,
+    out: &mut O,
+) -> Result<(), Stop>
+    requires fits { Fits v.now.accepted.grammar.core automaton.now }
+    requires grammar { grammar.now.grammar.core ≡ lift v.now.accepted.grammar.core automaton.now.states }
+    ensures obeys { (before : H) (bytes held : List ℕ) → TellsAutomaton v.now.accepted.grammar.core held automaton.now → held ≡ bytes →
+        HasRead H.files H.readings H.faults auto_kind files.now.automaton.now Holds before shelf.old bytes →
+        Obeys H.files H.readings H.faults H.at_last O.put_bytes O.faults O.at_last
+        (files.now.automaton.now ∷ files.now.labels.now ∷ files.now.queries.now ∷ []) []
+        (λ f. AnswersAuto v.now.accepted.grammar v.now.view.core (f files.now.automaton.now) (f files.now.labels.now) (f files.now.queries.now))
+        before shelf.new out.old out.new (end_after result) }
+    ensures untouched { end_after result ≡ NoMemory → (O.put_bytes out.new ≡ O.put_bytes out.old) × (O.faults out.new ≡ O.faults out.old) }
+{
+    let lifted = lifted_view(alloc, v, automaton, grammar)?;
+    answer_labels(
+        alloc,
+        v,
+        automaton,
+        &lifted,
+        files.labels,
+        files.queries,
+        shelf,
+        out,
+    )
+}
+
+/// Takes LABELS and QUERIES under a view and an automaton, which AUTO told.
+fn answer_read<H: Shelf, O: Sink>(
+    alloc: Global,
+    v: &SafeView<'_>,
+    automaton: &Automaton,
+    files: &WordsFiles<'_>,
+    shelf: &mut H,
+    out: &mut O,
+) -> Result<(), Stop>
+    requires fits { Fits v.now.accepted.grammar.core automaton.now }
+    ensures obeys { (before : H) (bytes held : List ℕ) → TellsAutomaton v.now.accepted.grammar.core held automaton.now → held ≡ bytes →
+        HasRead H.files H.readings H.faults auto_kind files.now.automaton.now Holds before shelf.old bytes →
+        Obeys H.files H.readings H.faults H.at_last O.put_bytes O.faults O.at_last
+        (files.now.automaton.now ∷ files.now.labels.now ∷ files.now.queries.now ∷ []) []
+        (λ f. AnswersAuto v.now.accepted.grammar v.now.view.core (f files.now.automaton.now) (f files.now.labels.now) (f files.now.queries.now))
+        before shelf.new out.old out.new (end_after result) }
+    ensures untouched { end_after result ≡ NoMemory → (O.put_bytes out.new ≡ O.put_bytes out.old) × (O.faults out.new ≡ O.faults out.old) }
+{
+    match lifted_grammar(alloc, v, automaton) {
+        Ok(grammar) => answer_lifted(alloc, v, automaton, &grammar, files, shelf, out),
+        Err(stop) => Err(stop),
+    }
+}
+
+/// Takes AUTO, LABELS and QUERIES under a view.
+///
+/// AUTO is refused with the first that there is of: TooLong; the fault of the automaton; and Unsafe where the lifted view is not safe.
+fn answer_auto<H: Shelf, O: Sink>(
+    alloc: Global,
+    v: &SafeView<'_>,
+    files: &WordsFiles<'_>,
+    shelf: &mut H,
+    out: &mut O,
+) -> Result<(), Stop>
+    ensures obeys { Obeys H.files H.readings H.faults H.at_last O.put_bytes O.faults O.at_last
+        (files.now.automaton.now ∷ files.now.labels.now ∷ files.now.queries.now ∷ []) []
+        (λ f. AnswersAuto v.now.accepted.grammar v.now.view.core (f files.now.automaton.now) (f files.now.labels.now) (f files.now.queries.now))
+        shelf.old shelf.new out.old out.new (end_after result) }
+    ensures untouched { end_after result ≡ NoMemory → (O.put_bytes out.new ≡ O.put_bytes out.old) × (O.faults out.new ≡ O.faults out.old) }
+{
+    let bytes = read_file(alloc, shelf, files.automaton, AUTO)?;
+    let automaton = automaton_of(alloc, v.grammar(), &bytes)?;
+    answer_read(alloc, v, &automaton, files, shelf, out)
+}
+
+/// Takes VIEW, AUTO, LABELS and QUERIES of a grammar.
+fn answer_view<H: Shelf, O: Sink>(
+    alloc: Global,
+    accepted: &Accepted,
+    files: &WordsFiles<'_>,
+    shelf: &mut H,
+    out: &mut O,
+) -> Result<(), Stop>
+    ensures obeys { Obeys H.files H.readings H.faults H.at_last O.put_bytes O.faults O.at_last
+        (files.now.view.now ∷ files.now.automaton.now ∷ files.now.labels.now ∷ files.now.queries.now ∷ []) []
+        (λ f. AnswersView accepted.now.grammar (f files.now.view.now) (f files.now.automaton.now) (f files.now.labels.now) (f files.now.queries.now))
+        shelf.old shelf.new out.old out.new (end_after result) }
+    ensures untouched { end_after result ≡ NoMemory → (O.put_bytes out.new ≡ O.put_bytes out.old) × (O.faults out.new ≡ O.faults out.old) }
+{
+    let safe = view_stage(alloc, shelf, files.view, accepted)?;
+    answer_auto(alloc, &safe, files, shelf, out)
+}
+
+/// Answers the queries on the items of a label file: whether a path leads from the first item to the second that passes modules in an order that an automaton accepts. It answers from the labels of the two items, a safe view and the lifted view alone, so that the answer holds however a run that has both is finished.
+///
+/// Want of memory comes before the first answer is put: the labels of the two views and the room for verdicts are made before it, and an answer takes no memory.
+pub fn words<H: Shelf, O: Sink>(
+    alloc: Global,
+    files: &WordsFiles<'_>,
+    shelf: &mut H,
+    out: &mut O,
+) -> Result<(), Stop>
+    ensures obeys { Obeys H.files H.readings H.faults H.at_last O.put_bytes O.faults O.at_last
+        (files.now.spec.now ∷ files.now.view.now ∷ files.now.automaton.now ∷ files.now.labels.now ∷ files.now.queries.now ∷ []) []
+        (λ f. AnswersByWords (f files.now.spec.now) (f files.now.view.now) (f files.now.automaton.now) (f files.now.labels.now) (f files.now.queries.now))
+        shelf.old shelf.new out.old out.new (end_after result) }
+    ensures untouched { end_after result ≡ NoMemory → (O.put_bytes out.new ≡ O.put_bytes out.old) × (O.faults out.new ≡ O.faults out.old) }
+{
+    match spec_stage(alloc, shelf, files.spec) {
+        Ok(accepted) => answer_view(alloc, &accepted, files, shelf, out),
+        Err(stop) => Err(stop),
+    }
+}

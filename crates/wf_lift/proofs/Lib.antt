@@ -1,0 +1,10 @@
+pub mod SameTables
+pub mod AlikeViews
+pub mod PerceivedAlike
+pub mod Growing
+pub mod LiftedPairs
+pub mod SetPairs
+pub mod LiftedRows
+pub mod Perceiving
+pub mod Rooms
+pub mod LiftedAccepted

@@ -1,0 +1,5 @@
+pub mod LastParts
+pub mod LiftedBits
+pub mod WordsTold
+pub mod StatesTried
+pub mod WordCosts

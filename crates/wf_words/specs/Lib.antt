@@ -1,0 +1,3 @@
+pub mod LastParts
+pub mod WordViews
+pub mod Answers
