@@ -117,15 +117,15 @@ module _ (g : Grammar) (u : View) (t : Table) (flat : FlatSeen) (p : IsPrepared 
     second_hidden shut = hidden_answer (both_flags ∙ shut)
 
     -- both are visible
-    pub path_answers : is_item_shown flat.opens b.maker ≡ true → (x : Answer) → TellsPath (named_links (names_in t.instances) flat.links) one.consumed other.produced x → IsAnswerOfRun g u (events_of t) first second (answer_text x)
+    pub path_answers : is_item_shown flat.opens b.maker ≡ true → (x : Answer) → TellsPath (named_links (names_in t.instances) p.held) one.consumed other.produced x → IsAnswerOfRun g u (events_of t) first second (answer_text x)
     path_answers open_too x = ⊎_elim
         (λ v. answered (answer_text x) (inl (ap answer_text v.0, moved v.1)))
         (λ v. answered (answer_text x) (inr (ap answer_text v.0, λ h. v.1 (back h))))
       where
-        moved : PathIn (named_links (names_in t.instances) flat.links) one.consumed other.produced → PathIn (links_with g u p.full g.start (events_of t)) one.consumed other.produced
+        moved : PathIn (named_links (names_in t.instances) p.held) one.consumed other.produced → PathIn (links_with g u p.full g.start (events_of t)) one.consumed other.produced
         moved = subst (λ ls. PathIn ls one.consumed other.produced) p.links
 
-        back : PathIn (links_with g u p.full g.start (events_of t)) one.consumed other.produced → PathIn (named_links (names_in t.instances) flat.links) one.consumed other.produced
+        back : PathIn (links_with g u p.full g.start (events_of t)) one.consumed other.produced → PathIn (named_links (names_in t.instances) p.held) one.consumed other.produced
         back = subst (λ ls. PathIn ls one.consumed other.produced) (sym p.links)
 
         answered : (word : List ℕ) → SaysPath (links_with g u p.full g.start (events_of t)) one other word → IsAnswerOfRun g u (events_of t) first second word

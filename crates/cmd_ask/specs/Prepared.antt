@@ -8,20 +8,21 @@ use Rattle.wf_model.specs.Safe.{IsInduced}
 use Rattle.wf_model.specs.Finishing.{ExpandsComposites}
 use Rattle.wf_model.specs.Run.{opens, seen_in}
 use Rattle.wf_model.specs.Links.{Port, Link, Path, links_with}
+use Rattle.wf_flat.specs.declared.graph.Link.{Link as LinkHeld}
 use Rattle.wf_flat.specs.Table.{Table, IsTableOf, events_of, names_in}
 use Rattle.wf_flat.specs.Graph.{named_links}
-use Rattle.wf_flat.specs.Flat.{FlatSeen, AreWithin}
+use Rattle.wf_flat.specs.Flat.{FlatSeen, AreWithin, IsGraphOf}
 use Rattle.wf_safe.specs.SafeViews.{SafeViewValue}
 use Rattle.wf_query.specs.declared.answers.Answer.{Answer}
 use Rattle.wf_query.specs.declared.answers.Answer.TheVariants.{Yes, No}
 
--- a run, with its links and the flags of its instances, under a view
+-- a run, with its flat graph, under a view
 pub record PreparedSeen : Type 0 where
   pub viewed : SafeViewValue
   pub run : Table
   pub flat : FlatSeen
 
--- a run of a grammar, with its links under a view, in which pending instances have the pairs that every production induces, and flags that tell which of its instances are open
+-- a run of a grammar, with the graph of its links under a view, in which pending instances have the pairs that every production induces, and flags that tell which of its instances are open
 pub record IsPrepared (g : Grammar) (u : View) (t : Table) (flat : FlatSeen) : Type 0 where
   pub formed : IsWellFormed g
   pub proper : IsProper g
@@ -29,8 +30,10 @@ pub record IsPrepared (g : Grammar) (u : View) (t : Table) (flat : FlatSeen) : T
   pub run : IsTableOf g t
   pub full : Assignment
   pub induced : IsInduced g u full
-  pub links : named_links (names_in t.instances) flat.links ≡ links_with g u full g.start (events_of t)
-  pub within : AreWithin (length t.instances) flat.links
+  pub held : List LinkHeld
+  pub links : named_links (names_in t.instances) held ≡ links_with g u full g.start (events_of t)
+  pub within : AreWithin (length t.instances) held
+  pub graph : IsGraphOf held flat
   pub opens : (k : ℕ) → k < length t.instances → get_or flat.opens k false ≡ opens u (seen_in g u g.start (events_of t)) (get_or (names_in t.instances) k [])
 
 -- a path of links between ports that may not be there

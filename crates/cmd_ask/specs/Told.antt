@@ -4,7 +4,7 @@ use Rattle.wf_flat.specs.Table.{events_of}
 use Rattle.cmd_ask.specs.Answers.{IsAnswerOfRun}
 use Rattle.cmd_ask.specs.Prepared.{PreparedSeen, IsPrepared}
 
--- the run is one of the grammar, with its links under the view
+-- the run is one of the grammar, with its flat graph under the view
 abbrev pub IsReady : PreparedSeen → Type 0
 IsReady p = IsPrepared p.viewed.accepted.grammar.core p.viewed.view.core p.run p.flat
 

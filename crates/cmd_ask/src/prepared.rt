@@ -3,7 +3,7 @@ use std::marker::Model;
 use wf_flat::{Flat, PlainRun};
 use wf_safe::SafeView;
 
-/// A run of a grammar, and its links under a safe view.
+/// A run of a grammar, and its flat graph under a safe view.
 #[derive(Drop)]
 pub struct Prepared<'p> {
     pub(crate) viewed: &'p SafeView<'p>,

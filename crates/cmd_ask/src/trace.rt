@@ -26,7 +26,7 @@ pub struct TraceWords<'w> {
     pub queries: &'w str,
 }
 
-/// A run with its links, as queries need it. Fails only for want of memory.
+/// A run with its flat graph, as queries need it. Fails only for want of memory.
 fn prepare<'p>(
     alloc: Global,
     v: &'p SafeView<'p>,

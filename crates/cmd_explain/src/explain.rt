@@ -7,10 +7,11 @@ ghost use Rattle.cmd_explain.specs.Reasons.{IsReason};
 ghost use Rattle.cmd_explain.specs.Does.{ExplainsRun, Explains};
 
 use crate::reason::put_reason;
+use crate::under_view::{UnderView, under_spec};
 use std::alloc::Global;
 use wf_chain::ViewedRun;
 use wf_flat::PlainRun;
-use wf_inputs::{events_stage, spec_stage, view_stage};
+use wf_inputs::events_stage;
 use wf_io::{Shelf, Sink};
 use wf_message::Stop;
 use wf_safe::SafeView;
@@ -66,6 +67,22 @@ fn explain_events<H: Shelf, O: Sink>(
     explain_run(alloc, v, &run, words, out)
 }
 
+impl UnderView for ExplainWords<'_> {
+    ghost names = { λ w. w.events.now ∷ [] };
+
+    ghost does = { λ w f h u. ExplainsRun h.core u (f w.events.now) w.first.now w.second.now };
+
+    fn obey_under<H: Shelf, O: Sink>(
+        &self,
+        alloc: Global,
+        v: &SafeView<'_>,
+        shelf: &mut H,
+        out: &mut O,
+    ) -> Result<(), Stop> {
+        explain_events(alloc, v, self, shelf, out)
+    }
+}
+
 /// Tells why one item of a run rests on another, however the run is finished: the first of the shortest chains of items that the view shows, each of which rests on the one before through one instance.
 ///
 /// Cost: linear in EVENTS and in the chain.
@@ -80,7 +97,5 @@ pub(crate) fn explain<H: Shelf, O: Sink>(
         (λ f. Explains (f words.now.spec.now) (f words.now.view.now) (f words.now.events.now) words.now.first.now words.now.second.now)
         shelf.old shelf.new out.old out.new (end_after result) }
 {
-    let accepted = spec_stage(alloc, shelf, words.spec)?;
-    let safe = view_stage(alloc, shelf, words.view, &accepted)?;
-    explain_events(alloc, &safe, words, shelf, out)
+    under_spec(alloc, words.spec, words.view, words, shelf, out)
 }

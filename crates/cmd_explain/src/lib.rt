@@ -8,6 +8,7 @@ mod item;
 mod listing;
 mod put;
 mod reason;
+mod under_view;
 mod verify;
 
 pub use family::Family;

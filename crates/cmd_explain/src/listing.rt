@@ -5,8 +5,9 @@ ghost use Rattle.wf_stage.specs.Promises.{Obeys};
 ghost use Rattle.cmd_explain.specs.Does.{ListsLabels, Lists};
 
 use crate::put::put_listing;
+use crate::under_view::{UnderView, under_spec};
 use std::alloc::Global;
-use wf_inputs::{LABELS, spec_stage, store_of, view_stage};
+use wf_inputs::{LABELS, store_of};
 use wf_io::{Shelf, Sink};
 use wf_lineage::Direction;
 use wf_message::Stop;
@@ -41,6 +42,29 @@ fn list_labels<H: Shelf, O: Sink>(
     put_listing(alloc, v, &store, direction, words.item.as_bytes(), out)
 }
 
+/// The items of a label file that are listed for one, in a direction.
+#[derive(Clone, Copy)]
+struct Listed<'w> {
+    words: ListingWords<'w>,
+    direction: Direction,
+}
+
+impl UnderView for Listed<'_> {
+    ghost names = { λ l. l.words.labels.now ∷ [] };
+
+    ghost does = { λ l f h u. ListsLabels h u l.direction l.words.item.now (f l.words.labels.now) };
+
+    fn obey_under<H: Shelf, O: Sink>(
+        &self,
+        alloc: Global,
+        v: &SafeView<'_>,
+        shelf: &mut H,
+        out: &mut O,
+    ) -> Result<(), Stop> {
+        list_labels(alloc, v, &self.words, self.direction, shelf, out)
+    }
+}
+
 /// Lists the items of a label file on which an item rests, or those that rest on it, in the order of the file.
 ///
 /// Cost: linear in LABELS, and a decision for each of its entries.
@@ -56,7 +80,9 @@ pub(crate) fn list_items<H: Shelf, O: Sink>(
         (λ f. Lists direction (f words.now.spec.now) (f words.now.view.now) (f words.now.labels.now) words.now.item.now)
         shelf.old shelf.new out.old out.new (end_after result) }
 {
-    let accepted = spec_stage(alloc, shelf, words.spec)?;
-    let safe = view_stage(alloc, shelf, words.view, &accepted)?;
-    list_labels(alloc, &safe, words, direction, shelf, out)
+    let listed = Listed {
+        words: *words,
+        direction,
+    };
+    under_spec(alloc, words.spec, words.view, &listed, shelf, out)
 }

@@ -3,6 +3,7 @@ ghost use Rattle.std.specs.Prelude.{◌≡◌, ◌≤◌, ◌<◌, [], List};
 ghost use Rattle.wf_model.specs.View.{View};
 ghost use Rattle.label_model.specs.Labels.{Label, IsLabel, label_bits};
 ghost use Rattle.label_model.specs.Files.{Entry};
+ghost use Rattle.wf_label.specs.Values.{AreLabelBits};
 ghost use Rattle.wf_message.specs.Endings.{end_after};
 ghost use Rattle.wf_stage.specs.Promises.{Writes};
 ghost use Rattle.label_file.specs.Stored.{AreHeldOf, IsStoreFor};
@@ -20,6 +21,7 @@ use std::marker::Brand;
 use std::sync::ledger::{Blank, Ledger};
 use wf_decode::{HeldEnd, Scratch};
 use wf_io::Sink;
+use wf_label::LabelRef;
 use wf_lineage::{Direction, Listing, list};
 use wf_lines::Due;
 use wf_message::Stop;
@@ -59,6 +61,58 @@ fn put_counted<L: Ledger, O: Sink>(
     }
 }
 
+/// Puts what is listed for the item of a label that was read, in places of its own.
+fn put_end<O: Sink>(
+    alloc: Global,
+    store: &Store<'_>,
+    vl: &ViewLabel<'_>,
+    direction: Direction,
+    of: &HeldEnd<'_>,
+    out: &mut O,
+) -> Result<(), Stop>
+    requires store { IsStoreFor vl.now.grammar store.now }
+    requires of { IsHeldEnd vl.now (side_of direction) of.now }
+    ensures writes { OfStore vl.now store.now of.now.bits (λ u entries y.
+        Writes O.put_bytes O.faults O.at_last [] (ListsLabel vl.now.grammar u direction entries y) out.old out.new (end_after result)) }
+{
+    let Ok(mut scratch) = Scratch::for_view(alloc, vl) else {
+        return Err(Stop::NoMemory);
+    };
+    let Ok(mut due) = Due::new(alloc) else {
+        return Err(Stop::NoMemory);
+    };
+    put_counted::<Brand, O>(
+        Blank::new(1),
+        store,
+        vl,
+        &mut scratch,
+        direction,
+        of,
+        &mut due,
+        out,
+    )
+}
+
+/// Reads a label, and puts what is listed for its item.
+fn put_label<O: Sink>(
+    alloc: Global,
+    store: &Store<'_>,
+    vl: &ViewLabel<'_>,
+    direction: Direction,
+    label: LabelRef<'_>,
+    out: &mut O,
+) -> Result<(), Stop>
+    requires store { IsStoreFor vl.now.grammar store.now }
+    requires label { AreLabelBits vl.now.grammar label }
+    ensures writes { OfStore vl.now store.now label.entry (λ u entries y.
+        Writes O.put_bytes O.faults O.at_last [] (ListsLabel vl.now.grammar u direction entries y) out.old out.new (end_after result)) }
+{
+    let Ok(of) = HeldEnd::read(alloc, vl, direction.side(), label) else {
+        return Err(Stop::NoMemory);
+    };
+    put_end(alloc, store, vl, direction, &of, out)
+}
+
 /// Puts what is listed for the item of this name: that it is unknown where no entry has the name, that it is hidden where the view hides its label, and otherwise the names of the entries that are listed.
 ///
 /// All that needs memory comes before the first byte is put.
@@ -81,23 +135,5 @@ pub(crate) fn put_listing<O: Sink>(
     let Ok(label) = ViewLabel::build(alloc, v) else {
         return Err(Stop::NoMemory);
     };
-    let Ok(of) = HeldEnd::read(alloc, &label, direction.side(), bits) else {
-        return Err(Stop::NoMemory);
-    };
-    let Ok(mut scratch) = Scratch::for_view(alloc, &label) else {
-        return Err(Stop::NoMemory);
-    };
-    let Ok(mut due) = Due::new(alloc) else {
-        return Err(Stop::NoMemory);
-    };
-    put_counted::<Brand, O>(
-        Blank::new(1),
-        store,
-        &label,
-        &mut scratch,
-        direction,
-        &of,
-        &mut due,
-        out,
-    )
+    put_label(alloc, store, &label, direction, bits, out)
 }

@@ -26,10 +26,10 @@ pub(crate) fn put_reason<O: Sink>(
 {
     // For two names there is one text.
     let _run = run.run();
-    let Some(x) = run.find_item(first) else {
+    let Some(x) = run.find_item(0, first) else {
         return put_text(out, b"unknown\n");
     };
-    let Some(y) = run.find_item(second) else {
+    let Some(y) = run.find_item(0, second) else {
         return put_text(out, b"unknown\n");
     };
     if !run.shows(&x) {

@@ -8,10 +8,11 @@ ghost use Rattle.wf_reason.specs.HandedIn.{ChainStage};
 ghost use Rattle.wf_reason.specs.Checked.{IsSaidOf};
 ghost use Rattle.cmd_explain.specs.Verifying.{VerifiesRun, Verifies};
 
+use crate::under_view::{UnderView, under_spec};
 use std::alloc::Global;
 use wf_chain::ViewedRun;
 use wf_flat::PlainRun;
-use wf_inputs::{events_stage, spec_stage, view_stage};
+use wf_inputs::events_stage;
 use wf_io::{Shelf, Sink};
 use wf_message::Stop;
 use wf_reason::verify_chain;
@@ -62,6 +63,22 @@ fn verify_events<H: Shelf, O: Sink>(
     verify_run(alloc, v, &run, words.chain, shelf, out)
 }
 
+impl UnderView for VerifyWords<'_> {
+    ghost names = { λ w. w.events.now ∷ w.chain.now ∷ [] };
+
+    ghost does = { λ w f h u. VerifiesRun h.core u (f w.events.now) (f w.chain.now) };
+
+    fn obey_under<H: Shelf, O: Sink>(
+        &self,
+        alloc: Global,
+        v: &SafeView<'_>,
+        shelf: &mut H,
+        out: &mut O,
+    ) -> Result<(), Stop> {
+        verify_events(alloc, v, self, shelf, out)
+    }
+}
+
 /// Says of the lines of a file whether they are a chain of items of a run, as `explain` writes it: `yes`, or `no` with the number of the first wrong line. It searches nothing.
 ///
 /// A refusal, also of a later line of CHAIN, comes before any answer.
@@ -78,7 +95,5 @@ pub(crate) fn verify<H: Shelf, O: Sink>(
         (λ f. Verifies (f words.now.spec.now) (f words.now.view.now) (f words.now.events.now) (f words.now.chain.now))
         shelf.old shelf.new out.old out.new (end_after result) }
 {
-    let accepted = spec_stage(alloc, shelf, words.spec)?;
-    let safe = view_stage(alloc, shelf, words.view, &accepted)?;
-    verify_events(alloc, &safe, words, shelf, out)
+    under_spec(alloc, words.spec, words.view, words, shelf, out)
 }

@@ -12,3 +12,4 @@ pub mod Drilled
 pub mod SomeMaking
 pub mod OneMaking
 pub mod GoodMaking
+pub mod OpenedSpec

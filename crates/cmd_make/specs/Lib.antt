@@ -5,4 +5,5 @@ pub mod DrillText
 pub mod DrillLaws
 pub mod HeldLabels
 pub mod Does
+pub mod BehindSpec
 pub mod Family

@@ -1,18 +1,18 @@
-// `drill`: SPEC and VIEW, and then a generated run is labelled, and drawn pairs of its items are decided under the view.
+// `drill`: VIEW over an accepted grammar, and then a generated run is labelled, and drawn pairs of its items are decided under the view.
 ghost use Rattle.std.specs.Prelude.{◌∷◌, [], IfOk};
 ghost use Rattle.wf_gen.specs.Turns.{generated};
 ghost use Rattle.wf_message.specs.Endings.{end_after};
 ghost use Rattle.wf_stage.specs.Promises.{Writes, Obeys};
-ghost use Rattle.wf_inputs.specs.Inputs.{instance_most};
+ghost use Rattle.wf_inputs.specs.Inputs.{instance_most, ViewStage};
 ghost use Rattle.cmd_make.specs.DrillText.{IsSummary, IsDrilled};
-ghost use Rattle.cmd_make.specs.Does.{Drills};
 
 use crate::labelling::label_run;
 use crate::summary::summary_text;
 use crate::verdicts::verdicts_of;
 use std::alloc::{AllocError, Global};
+use wf_accept::Accepted;
 use wf_gen::Gen;
-use wf_inputs::{INSTANCES, spec_stage, view_stage};
+use wf_inputs::{INSTANCES, view_stage};
 use wf_io::{Shelf, Sink};
 use wf_message::Stop;
 use wf_safe::SafeView;
@@ -67,14 +67,17 @@ fn put_drill<O: Sink>(
 /// Cost: linear in the run. Takes memory for the run, and for the labels of the items that are drawn.
 pub(crate) fn drill<H: Shelf, O: Sink>(
     alloc: Global,
+    accepted: &Accepted,
     words: &DrillWords<'_>,
     shelf: &mut H,
     out: &mut O,
 ) -> Result<(), Stop>
-    ensures obeys { Obeys H.files H.readings H.faults H.at_last O.put_bytes O.faults O.at_last (words.now.spec.now ∷ words.now.view.now ∷ []) []
-        (λ f. Drills (f words.now.spec.now) (f words.now.view.now) words.now.n words.now.seed) shelf.old shelf.new out.old out.new (end_after result) }
+    ensures obeys { Obeys H.files H.readings H.faults H.at_last O.put_bytes O.faults O.at_last (words.now.view.now ∷ []) []
+        (λ f. ViewStage accepted.now.grammar.core (f words.now.view.now) (λ u. IsDrilled accepted.now.grammar.core u words.now.n words.now.seed))
+        shelf.old shelf.new out.old out.new (end_after result) }
 {
-    let accepted = spec_stage(alloc, shelf, words.spec)?;
-    let safe = view_stage(alloc, shelf, words.view, &accepted)?;
-    put_drill(alloc, &safe, words.n, words.seed, out)
+    match view_stage(alloc, shelf, words.view, accepted) {
+        Ok(safe) => put_drill(alloc, &safe, words.n, words.seed, out),
+        Err(stop) => Err(stop),
+    }
 }

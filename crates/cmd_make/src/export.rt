@@ -1,14 +1,16 @@
-// `export`: SPEC, VIEW and EVENTS, and then what the run shows under the view.
+// `export`: VIEW and EVENTS over an accepted grammar, and then what the run shows under the view.
 ghost use Rattle.std.specs.Prelude.{◌∷◌, []};
 ghost use Rattle.wf_flat.specs.Table.{IsTableOf, events_of};
 ghost use Rattle.wf_message.specs.Endings.{end_after};
 ghost use Rattle.wf_stage.specs.Promises.{Writes, Obeys};
-ghost use Rattle.cmd_make.specs.Does.{ExportsRun, ExportsView, Exports};
+ghost use Rattle.wf_inputs.specs.Inputs.{ViewStage};
+ghost use Rattle.cmd_make.specs.Does.{ExportsRun, ExportsView};
 
 use std::alloc::Global;
+use wf_accept::Accepted;
 use wf_export::{ExportFault, write_export};
 use wf_flat::PlainRun;
-use wf_inputs::{events_stage, spec_stage, view_stage};
+use wf_inputs::{events_stage, view_stage};
 use wf_io::{Shelf, Sink};
 use wf_message::Stop;
 use wf_safe::SafeView;
@@ -59,15 +61,17 @@ fn export_events<H: Shelf, O: Sink>(
 /// Cost: linear in EVENTS and in the text.
 pub(crate) fn export<H: Shelf, O: Sink>(
     alloc: Global,
+    accepted: &Accepted,
     words: &ExportWords<'_>,
     shelf: &mut H,
     out: &mut O,
 ) -> Result<(), Stop>
-    ensures obeys { Obeys H.files H.readings H.faults H.at_last O.put_bytes O.faults O.at_last
-        (words.now.spec.now ∷ words.now.view.now ∷ words.now.events.now ∷ []) []
-        (λ f. Exports (f words.now.spec.now) (f words.now.view.now) (f words.now.events.now)) shelf.old shelf.new out.old out.new (end_after result) }
+    ensures obeys { Obeys H.files H.readings H.faults H.at_last O.put_bytes O.faults O.at_last (words.now.view.now ∷ words.now.events.now ∷ []) []
+        (λ f. ViewStage accepted.now.grammar.core (f words.now.view.now) (λ u. ExportsView accepted.now.grammar.core u (f words.now.events.now)))
+        shelf.old shelf.new out.old out.new (end_after result) }
 {
-    let accepted = spec_stage(alloc, shelf, words.spec)?;
-    let safe = view_stage(alloc, shelf, words.view, &accepted)?;
-    export_events(alloc, &safe, words.events, shelf, out)
+    match view_stage(alloc, shelf, words.view, accepted) {
+        Ok(safe) => export_events(alloc, &safe, words.events, shelf, out),
+        Err(stop) => Err(stop),
+    }
 }

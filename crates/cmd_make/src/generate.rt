@@ -1,17 +1,17 @@
-// `gen`: SPEC, and then the events of a generated run.
+// `gen`: the events of a generated run of an accepted grammar.
 ghost use Rattle.std.specs.Prelude.{◌∷◌, ◌≡◌, ◌<◌, ℕ, ◌++◌, List, [], length, OnOk};
 ghost use Rattle.wf_message.specs.Endings.{end_after};
 ghost use Rattle.wf_stage.specs.Ends.{IsWritten};
-ghost use Rattle.wf_stage.specs.Promises.{Writes, Obeys};
+ghost use Rattle.wf_stage.specs.Promises.{Writes};
 ghost use Rattle.cmd_make.specs.EventLines.{event_lines};
 ghost use Rattle.cmd_make.specs.Putting.{MakesDue};
-ghost use Rattle.cmd_make.specs.Does.{generated_text, Generates};
+ghost use Rattle.cmd_make.specs.Does.{generated_text};
 
 use std::alloc::Global;
 use wf_accept::Accepted;
 use wf_gen::Gen;
-use wf_inputs::{INSTANCES, spec_stage};
-use wf_io::{PIECE, Shelf, Sink};
+use wf_inputs::INSTANCES;
+use wf_io::{PIECE, Sink};
 use wf_lines::Due;
 use wf_message::Stop;
 use wf_stage::put_text;
@@ -58,8 +58,10 @@ fn put_events<O: Sink>(alloc: Global, events: &mut Gen<'_>, out: &mut O) -> Resu
     put_text(out, &due.text)
 }
 
-/// Puts the events of a generated run of a grammar, as lines.
-fn put_generated<O: Sink>(
+/// Writes the events of the run of a grammar that a number of expansions and a seed give, as lines.
+///
+/// Cost: linear in the text.
+pub(crate) fn generate<O: Sink>(
     alloc: Global,
     spec: &Accepted,
     n: u32,
@@ -70,22 +72,4 @@ fn put_generated<O: Sink>(
 {
     let mut events = Gen::new(alloc, spec.linear(), n, seed, INSTANCES);
     put_events(alloc, &mut events, out)
-}
-
-/// Writes the events of the run of a grammar that a number of expansions and a seed give.
-///
-/// Cost: linear in the text.
-pub(crate) fn generate<H: Shelf, O: Sink>(
-    alloc: Global,
-    name: &str,
-    n: u32,
-    seed: u64,
-    shelf: &mut H,
-    out: &mut O,
-) -> Result<(), Stop>
-    ensures obeys { Obeys H.files H.readings H.faults H.at_last O.put_bytes O.faults O.at_last (name.now ∷ []) []
-        (λ f. Generates (f name.now) n seed) shelf.old shelf.new out.old out.new (end_after result) }
-{
-    let spec = spec_stage(alloc, shelf, name)?;
-    put_generated(alloc, &spec, n, seed, out)
 }

@@ -6,6 +6,8 @@ mod body_tests;
 #[cfg(test)]
 mod caller_tests;
 #[cfg(test)]
+mod checker_tests;
+#[cfg(test)]
 mod entry_tests;
 #[cfg(test)]
 mod events;

@@ -9,7 +9,7 @@ use bumpalo::Bump;
 use std::alloc::{AllocError, Global};
 use std::test::Fail;
 use wf_accept::Accepted;
-use wf_flat::{Flat, Item, Link, PlainRun, Port, find_item};
+use wf_flat::{Flat, Item, Link, PlainRun, Port, RunView, add_links, find_item};
 use wf_samples::{LINE, LOOP, safe, sample};
 use wf_spec::RunFault::{
     AlreadyExpanded, NameBad, NameTwice, NotStarted, PositionsWrong, StartedTwice,
@@ -277,7 +277,7 @@ fn both_kinds_of_run_take_and_refuse_events(rt: HostRuntime) -> Result<(), Fail>
 fn is_item(alloc: Global, name: &str, wanted: Option<Item>) -> Result<bool, Fail> {
     let s = sample(alloc, LINE)?;
     let run = table(alloc, s.grammar(), 3, WHOLE)?;
-    Ok(find_item(s.grammar(), &run, name.as_bytes()) == wanted)
+    Ok(find_item(s.grammar(), &run, 0, name.as_bytes()) == wanted)
 }
 
 #[test]
@@ -352,18 +352,24 @@ fn is_linked(alloc: Global, wanted: &[(Port, Port)]) -> Result<bool, Fail> {
     let s = sample(alloc, LINE)?;
     let run = table(alloc, s.grammar(), 3, WHOLE)?;
     let safe = safe(alloc, &s, "{}")?;
-    let flat = Flat::of(
-        alloc,
-        safe.grammar(),
-        &run,
-        safe.view().marks(),
-        safe.full().deps(),
-    )?;
-    Ok(are_links(flat.links(), wanted))
+    let marks = safe.view().marks();
+    let shown = RunView::of(alloc, safe.grammar(), &run, marks)?;
+    let mut links = Vec::new(alloc);
+    for k in shown.seen() {
+        add_links(
+            &mut links,
+            safe.grammar(),
+            &run,
+            *k,
+            marks,
+            safe.full().deps(),
+        )?;
+    }
+    Ok(are_links(&links, wanted))
 }
 
 #[test]
-fn links_are_lent_in_order(rt: HostRuntime) -> Result<(), Fail> {
+fn links_are_listed_in_order(rt: HostRuntime) -> Result<(), Fail> {
     assert!(rt; is_linked(rt.alloc(), &LINKS)?);
     Ok(())
 }

@@ -7,7 +7,7 @@ use Rattle.wf_message.specs.declared.status.Status.TheVariants.{WriteFault as Is
 use Rattle.wf_message.specs.Endings.{End, Done, Usage, Refused, ReadFault, WriteFault, NoMemory, status_of}
 use Rattle.wf_stage.specs.Ends.{IsOfOutcome}
 use Rattle.wf_top.specs.Outcome.{IsOutcome}
-use Rattle.wf_top.specs.Meets.{HasEnded, EndsBy}
+use Rattle.wf_top.specs.Meets.{HasEnded}
 use Rattle.outcome_laws.specs.Laws.{OneOutcomeLaw}
 use Rattle.outcome_laws.specs.GoodCalls.{IsGoodCall, GoodCallLaw, EndedAs, IsComplete}
 

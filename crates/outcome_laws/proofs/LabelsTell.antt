@@ -1,15 +1,13 @@
 -- What the labels of a run tell under a safe view, the run tells, however it is finished.
-use Rattle.std.proofs.Common.{◌≡◌, ℕ, ◌⊎◌, ◌^◌, Bool, true, false, cond, List, ◌++◌, Option, Some, None, codes, refl, sym, ap, ◌∙◌, subst, inl, inr, ⊎_elim}
-use Rattle.std.specs.Prelude.{◌↔◌, IsTrue}
+use Rattle.std.proofs.Common.{◌≡◌, ℕ, ◌⊎◌, ◌^◌, Bool, true, false, List, ◌++◌, Option, Some, None, codes, refl, sym, ap, ◌∙◌, subst, inl, inr, ⊎_elim}
 use Rattle.wf_model.specs.Grammar.{Grammar, Assignment}
 use Rattle.wf_model.specs.WellFormed.{IsWellFormed}
 use Rattle.wf_model.specs.View.{View}
 use Rattle.wf_model.specs.Safe.{IsInduced}
 use Rattle.wf_model.specs.declared.event.Event.{Event}
 use Rattle.wf_model.specs.Run.{IsAccepted}
-use Rattle.wf_model.specs.Items.{Item, items, IsMadeOpen}
+use Rattle.wf_model.specs.Items.{Item, items}
 use Rattle.wf_model.specs.Finishing.{IsFinishing}
-use Rattle.wf_model.proofs.ItemNames.{item_of_name}
 use Rattle.wf_laws.proofs.Growth.{finishing_law}
 use Rattle.wf_laws.proofs.Full.{full_law, safe_full_law}
 use Rattle.label_model.specs.Labels.{Label}
@@ -18,61 +16,45 @@ use Rattle.label_model.specs.Files.{entries_of}
 use Rattle.verdict_model.specs.declared.verdict.Verdict.{Verdict}
 use Rattle.verdict_model.specs.declared.verdict.Verdict.TheVariants.{Hidden1, Hidden2, Clash, Yes, No}
 use Rattle.verdict_model.specs.Verdicts.{IsHidden, AreShown, HasBoth, IsVerdict as IsVerdictOf}
-use Rattle.verdict_model.proofs.Keeping.{visible_shown}
 use Rattle.verdict_model.proofs.Clashing.{either_law, no_clash_law}
 use Rattle.verdict_model.proofs.Answering.{one_answer_induced}
 use Rattle.wf_query.specs.declared.answers.Answer.TheVariants.{Unknown}
-use Rattle.wf_query.specs.Answers.{HasEntry, answer_of, answer_text, IsAnswerText}
+use Rattle.wf_query.specs.Answers.{answer_of, answer_text, IsAnswerText}
 use Rattle.wf_flat.specs.Item.{item_named}
-use Rattle.wf_flat.specs.Shown.{is_made_open, are_visible}
+use Rattle.wf_flat.specs.Shown.{are_visible}
 use Rattle.cmd_ask.specs.Answers.{IsVerdictOfRun, IsShown, IsAnswerFor}
 use Rattle.outcome_laws.specs.Laws.{LabelsTellLaw}
 use Rattle.wf_flat.proofs.NamedItems.{IsFoundBy, found_by}
-use Rattle.outcome_laws.proofs.LabelEntries.{entry_named, item_entry, entry_item, no_entry}
+use Rattle.outcome_laws.proofs.LabelEntries.{entry_named, no_entry, found_entry, found_label, not_found}
+use Rattle.outcome_laws.proofs.VisibleItems.{both, both_visible, first_not, second_not}
 use Rattle.outcome_laws.proofs.OlderFiles.{accepted_too, file_entries}
 
 module _ (g : Grammar) (u : View) (wf : IsWellFormed g) (e : List Event) (acc : IsAccepted g (2 ^ 24) e) where
-  -- the test of what is made open
-  open_told : (o : Option (List ℕ)) → IsTrue (is_made_open g u e o) ↔ IsMadeOpen g u g.start e o
-  open_told None = ((λ h. tt), (λ h. refl))
-  open_told (Some k) = ((λ h. h), (λ h. h))
-
-  -- it passes where the label of an item is not hidden
-  shown_open : (t : Item) (l : Label) → HasLabel g e t l → (IsHidden g u l → ⊥) → is_made_open g u e t.maker ≡ true
-  shown_open t l h n = (open_told t.maker).1 ((visible_shown g wf u e acc.0 t l h.0).1 n)
-
-  -- and fails where it is
-  hidden_shut : (t : Item) (l : Label) → HasLabel g e t l → IsHidden g u l → is_made_open g u e t.maker ≡ false
-  hidden_shut t l h hidden = go (is_made_open g u e t.maker) refl
-    where
-      go : (b : Bool) → is_made_open g u e t.maker ≡ b → is_made_open g u e t.maker ≡ false
-      go true q = absurd ((visible_shown g wf u e acc.0 t l h.0).0 ((open_told t.maker).0 q) hidden)
-      go false q = q
-
   module _ (d : Assignment) (induced : IsInduced g u d) (s t : Item) (x y : Label) (first : HasLabel g e s x) (second : HasLabel g e t y) where
-    both : (more : List Event) → IsFinishing g u g.start e more → HasBoth g u x y e more s t
-    both more f = record { run = acc.0; first = first; second = second; finishing = f }
+    abbrev visible : Bool
+    visible = are_visible g u e s t
 
-    -- both items are visible where neither label is hidden
-    both_visible : AreShown g u x y → are_visible g u e s t ≡ true
-    both_visible shown = ap (λ b. cond b (is_made_open g u e t.maker) false) (shown_open s x first shown.0) ∙ shown_open t y second shown.1
+    have_both : (more : List Event) → IsFinishing g u g.start e more → HasBoth g u x y e more s t
+    have_both = both g u wf e acc s t x y first second
 
-    -- and not where one is
-    first_not : IsHidden g u x → are_visible g u e s t ≡ false
-    first_not hidden = ap (λ b. cond b (is_made_open g u e t.maker) false) (hidden_shut s x first hidden)
+    shown_true : AreShown g u x y → visible ≡ true
+    shown_true = both_visible g u wf e acc s t x y first second
 
-    second_not : (IsHidden g u x → ⊥) → IsHidden g u y → are_visible g u e s t ≡ false
-    second_not shown hidden = ap (λ b. cond b (is_made_open g u e t.maker) false) (shown_open s x first shown) ∙ hidden_shut t y second hidden
+    first_false : IsHidden g u x → visible ≡ false
+    first_false = first_not g u wf e acc s t x y first second
+
+    second_false : (IsHidden g u x → ⊥) → IsHidden g u y → visible ≡ false
+    second_false = second_not g u wf e acc s t x y first second
 
     -- the word of their verdict answers in each finishing
-    verdict_answers : (v : Verdict) → IsVerdictOf g u x y v → (more : List Event) → IsFinishing g u g.start e more → IsShown (are_visible g u e s t) g u (e ++ more) s t (answer_text (answer_of v))
-    verdict_answers Hidden1 h more f = subst (λ b. IsShown b g u (e ++ more) s t (codes "hidden")) (sym (first_not h)) refl
-    verdict_answers Hidden2 h more f = subst (λ b. IsShown b g u (e ++ more) s t (codes "hidden")) (sym (second_not h.0 h.1)) refl
+    verdict_answers : (v : Verdict) → IsVerdictOf g u x y v → (more : List Event) → IsFinishing g u g.start e more → IsShown visible g u (e ++ more) s t (answer_text (answer_of v))
+    verdict_answers Hidden1 h more f = subst (λ b. IsShown b g u (e ++ more) s t (codes "hidden")) (sym (first_false h)) refl
+    verdict_answers Hidden2 h more f = subst (λ b. IsShown b g u (e ++ more) s t (codes "hidden")) (sym (second_false h.0 h.1)) refl
     verdict_answers Clash h more f = absurd (no_clash_law g wf e acc.0 s t x y first second h.1)
-    verdict_answers Yes h more f = subst (λ b. IsShown b g u (e ++ more) s t (codes "yes")) (sym (both_visible h.0)) (inl (refl, h.2 e more s t (both more f)))
+    verdict_answers Yes h more f = subst (λ b. IsShown b g u (e ++ more) s t (codes "yes")) (sym (shown_true h.0)) (inl (refl, h.2 e more s t (have_both more f)))
     verdict_answers No h more f =
-        subst (λ b. IsShown b g u (e ++ more) s t (codes "no")) (sym (both_visible h.0))
-        (inr (refl, λ depends. h.2 (one_answer_induced g u d wf induced x y h.0 e more s t (both more f) depends)))
+        subst (λ b. IsShown b g u (e ++ more) s t (codes "no")) (sym (shown_true h.0))
+        (inr (refl, λ depends. h.2 (one_answer_induced g u d wf induced x y h.0 e more s t (have_both more f) depends)))
 
     -- the labels have the verdict whose word answers in one finishing
     abbrev Decided : List ℕ → Type 0
@@ -80,51 +62,37 @@ module _ (g : Grammar) (u : View) (wf : IsWellFormed g) (e : List Event) (acc : 
 
     shown_verdict : (more : List Event) → IsFinishing g u g.start e more → AreShown g u x y → (word : List ℕ) → IsVerdictOfRun g u (e ++ more) s t word → Decided word
     shown_verdict more f shown word (inl p) =
-        (Yes, (shown, no_clash_law g wf e acc.0 s t x y first second, one_answer_induced g u d wf induced x y shown e more s t (both more f) p.1), p.0)
+        (Yes, (shown, no_clash_law g wf e acc.0 s t x y first second, one_answer_induced g u d wf induced x y shown e more s t (have_both more f) p.1), p.0)
     shown_verdict more f shown word (inr p) =
-        (No, (shown, no_clash_law g wf e acc.0 s t x y first second, λ always. p.1 (always e more s t (both more f))), p.0)
+        (No, (shown, no_clash_law g wf e acc.0 s t x y first second, λ always. p.1 (always e more s t (have_both more f))), p.0)
 
-    answer_decides : (more : List Event) → IsFinishing g u g.start e more → (word : List ℕ) → IsShown (are_visible g u e s t) g u (e ++ more) s t word → Decided word
+    answer_decides : (more : List Event) → IsFinishing g u g.start e more → (word : List ℕ) → IsShown visible g u (e ++ more) s t word → Decided word
     answer_decides more f word h = by_first (either_law g u wf x y first.1 second.1).hidden (either_law g u wf y x second.1 first.1).hidden
       where
         by_first : IsHidden g u x ⊎ (IsHidden g u x → ⊥) → IsHidden g u y ⊎ (IsHidden g u y → ⊥) → Decided word
-        by_first (inl hidden) either = (Hidden1, hidden, subst (λ b. IsShown b g u (e ++ more) s t word) (first_not hidden) h)
-        by_first (inr shown) (inl hidden) = (Hidden2, (shown, hidden), subst (λ b. IsShown b g u (e ++ more) s t word) (second_not shown hidden) h)
+        by_first (inl hidden) either = (Hidden1, hidden, subst (λ b. IsShown b g u (e ++ more) s t word) (first_false hidden) h)
+        by_first (inr shown) (inl hidden) = (Hidden2, (shown, hidden), subst (λ b. IsShown b g u (e ++ more) s t word) (second_false shown hidden) h)
         by_first (inr shown) (inr shown_too) =
-            shown_verdict more f (shown, shown_too) word (subst (λ b. IsShown b g u (e ++ more) s t word) (both_visible (shown, shown_too)) h)
+            shown_verdict more f (shown, shown_too) word (subst (λ b. IsShown b g u (e ++ more) s t word) (shown_true (shown, shown_too)) h)
 
   module _ (d : Assignment) (induced : IsInduced g u d) (first second word : List ℕ) (more : List Event) (f : IsFinishing g u g.start e more) where
-    -- an item that has a name has an entry of it
-    found_entry : (n : List ℕ) (t : Item) → IsFoundBy (items g g.start e) n (Some t) → (l : Label) × HasLabel g e t l × HasEntry g (entries_of g e) n l
-    found_entry n t found = let q = item_entry g wf e acc t found.0 in (q.0, q.1, subst (λ m. HasEntry g (entries_of g e) m q.0) found.1 q.2)
-
-    -- the label of an entry is that of the item of its name
-    found_label : (n : List ℕ) (t : Item) (l : Label) → IsFoundBy (items g g.start e) n (Some t) → HasEntry g (entries_of g e) n l → HasLabel g e t l
-    found_label n t l found has =
-        let q = entry_item g wf e acc n l has in
-        subst (λ z. HasLabel g e z l) (item_of_name g g.start e wf acc.0 q.0 t q.1 found.0 (q.2 ∙ sym found.1)) q.3
-
-    -- no entry has a name by which no item is found
-    not_found : (n : List ℕ) (l : Label) → IsFoundBy (items g g.start e) n None → HasEntry g (entries_of g e) n l → ⊥
-    not_found n l none has = let q = entry_item g wf e acc n l has in none q.0 q.1 q.2
-
     -- from the entries to the run
     labels_give : (a b : Option Item) → IsFoundBy (items g g.start e) first a → IsFoundBy (items g g.start e) second b → IsAnswerText g u (entries_of g e) first second word → IsAnswerFor g u e (e ++ more) a b word
     labels_give None b found found_too h = ⊎_elim
         (λ p. h.2 ∙ ap answer_text p.1)
-        (λ q. absurd (not_found first q.1.x found q.1.first_entry))
+        (λ q. absurd (not_found g wf e acc first q.1.x found q.1.first_entry))
         h.1
     labels_give (Some s) None found found_too h = ⊎_elim
         (λ p. h.2 ∙ ap answer_text p.1)
-        (λ q. absurd (not_found second q.1.y found_too q.1.second_entry))
+        (λ q. absurd (not_found g wf e acc second q.1.y found_too q.1.second_entry))
         h.1
     labels_give (Some s) (Some t) found found_too h = ⊎_elim
         (λ p. absurd (⊎_elim
-        (λ lacks. let z = found_entry first s found in lacks (entry_named g (entries_of g e) first z.0 z.2))
-        (λ lacks. let z = found_entry second t found_too in lacks (entry_named g (entries_of g e) second z.0 z.2))
+        (λ lacks. let z = found_entry g wf e acc first s found in lacks (entry_named g (entries_of g e) first z.0 z.2))
+        (λ lacks. let z = found_entry g wf e acc second t found_too in lacks (entry_named g (entries_of g e) second z.0 z.2))
         p.0))
         (λ q. subst (λ w. IsShown (are_visible g u e s t) g u (e ++ more) s t w) (sym (h.2 ∙ ap answer_text q.2))
-        (verdict_answers d induced s t q.1.x q.1.y (found_label first s q.1.x found q.1.first_entry) (found_label second t q.1.y found_too q.1.second_entry) q.0 q.1.verdict more f))
+        (verdict_answers d induced s t q.1.x q.1.y (found_label g wf e acc first s q.1.x found q.1.first_entry) (found_label g wf e acc second t q.1.y found_too q.1.second_entry) q.0 q.1.verdict more f))
         h.1
 
     -- and back
@@ -132,8 +100,8 @@ module _ (g : Grammar) (u : View) (wf : IsWellFormed g) (e : List Event) (acc : 
     labels_take None b found found_too h = (Unknown, inl (inl (no_entry g wf e acc first found), refl), h)
     labels_take (Some s) None found found_too h = (Unknown, inl (inr (no_entry g wf e acc second found_too), refl), h)
     labels_take (Some s) (Some t) found found_too h =
-        let x = found_entry first s found in
-        let y = found_entry second t found_too in
+        let x = found_entry g wf e acc first s found in
+        let y = found_entry g wf e acc second t found_too in
         let v = answer_decides d induced s t x.0 y.0 x.1 y.1 more f word h in
         (answer_of v.0, inr (v.0, record { x = x.0; y = y.0; first_entry = x.2; second_entry = y.2; verdict = v.1 }, refl), v.2)
 

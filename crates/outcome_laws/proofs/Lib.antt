@@ -16,3 +16,6 @@ pub mod SameInstances
 pub mod SameLines
 pub mod ToldRuns
 pub mod Listed
+pub mod VisibleItems
+pub mod WordsTell
+pub mod ConsultIsDecide

@@ -1,5 +1,5 @@
 -- Runs and label files of an earlier version of a grammar: the grammar has the same runs, and the same entries.
-use Rattle.std.proofs.Common.{◌≡◌, ℕ, ◌^◌, List, [], map, length, take_all, refl, sym, ap, ◌∙◌, subst, inl, inr, arith, append-nil}
+use Rattle.std.proofs.Common.{◌≡◌, ◌^◌, List, [], map, length, take_all, refl, sym, ap, ◌∙◌, subst, inl, inr, arith, append-nil}
 use Rattle.sha2.proofs.Facts256.{length-sha256}
 use Rattle.wf_model.specs.Lists.{IsIn}
 use Rattle.wf_model.specs.Grammar.{Grammar, Given}

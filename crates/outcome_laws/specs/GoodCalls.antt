@@ -12,7 +12,7 @@ abbrev pub AreGood : (List ℕ → File) → Option Command → Type 0
 AreGood files None = ⊥
 AreGood files (Some c) = families.IsGood files c
 
--- the words are a command, SPEC is accepted, VIEW is well-formed and safe, the reports of EVENTS are taken whole, LABELS a label file of the grammar or of one of its earlier versions, QUERIES are queries, and the words that are labels are labels
+-- the words are a command, and its files are good: SPEC is accepted, VIEW is well-formed and safe, and COARSE so too and coarser than VIEW, or as coarse. The reports of EVENTS are taken whole, LABELS is a label file of the grammar or of one of its earlier versions, QUERIES are queries, and each line of CHAIN has the form of its turn. AUTO describes an automaton whose lifted view is safe, and PACKAGE is a package. The words that are labels are labels, those of `consult` over the package
 abbrev pub IsGoodCall : (List ℕ → File) → List (List ℕ) → Type 0
 IsGoodCall files words = AreGood files (command_of words)
 

@@ -1,8 +1,11 @@
 // Laws of what the program does: the contracts of functions that do nothing. The first three are instances of the laws that the families bring.
+ghost use Rattle.outcome_laws.specs.ConsultIsDecide.{ConsultIsDecideLaw};
 ghost use Rattle.outcome_laws.specs.GoodCalls.{GoodCallLaw};
 ghost use Rattle.outcome_laws.specs.Laws.{AskIsTraceLaw, IngestGrowsLaw, LabelsAnswerLaw, LabelsTellLaw, ListedLaw, OneOutcomeLaw, ReorderedAnswersLaw, ReorderedFilesLaw, SameLinesLaw, SomeOutcomeLaw, ToldRunLaw};
 ghost use Rattle.outcome_laws.specs.SameInstances.{SameInstancesLaw};
+ghost use Rattle.outcome_laws.specs.WordsTell.{WordsTellLaw};
 
+use package_laws::{consult_written_law, read_back_law};
 use wf_stage::Commands;
 use wf_top::Families;
 
@@ -59,6 +62,11 @@ pub fn labels_tell_law()
     ensures { LabelsTellLaw }
 {}
 
+/// A query by words is answered from the label file of a run as it is answered by the run, however the run is finished under a safe view whose lift by the automaton is safe.
+pub fn words_tell_law()
+    ensures { WordsTellLaw }
+{}
+
 /// Under a safe view, what is listed over the label file of a run for an item is what the run answers yes to, item by item, however it is finished.
 pub fn listed_law()
     ensures { ListedLaw }
@@ -73,6 +81,14 @@ pub fn labels_answer_law()
 pub fn ask_is_trace_law()
     ensures { AskIsTraceLaw }
 {}
+
+/// What `consult` answers over the package that `package` wrote is what `decide` answers over the specification and the view. A first label that `consult` refuses, `decide` refuses; and where `consult` refuses the second, `decide` refuses one of the two.
+pub fn consult_is_decide_law()
+    ensures { ConsultIsDecideLaw }
+{
+    read_back_law();
+    consult_written_law();
+}
 
 /// A run that `trace` reads and a run that `ingest` labels have the same instances after the same events: the same names, modules and children, in the same order.
 pub fn same_instances_law()

@@ -5,9 +5,11 @@
 //! - `good_call_law`: where nothing is to be refused, the end is that all is done.
 //! - `call`, `call_plain`: the program comes to its outcome, or wants memory.
 //! - `labels_tell_law`: a query has the same answers from a run's label file as from the run, in each of its finishings.
+//! - `words_tell_law`: a query by words has the same answers from a run's label file as from the run, in each of its finishings.
 //! - `listed_law`: what is listed for an item over a run's label file is what the run answers yes to, in each of its finishings.
 //! - `labels_answer_law`: so have lines of queries, to the byte and to the end.
 //! - `ask_is_trace_law`: `ask` over the label file that `ingest` wrote writes what `trace` writes over the events.
+//! - `consult_is_decide_law`: `consult` over the package that `package` wrote writes what `decide` writes under the view.
 //! - `ingest_grows_law`: what `ingest` writes over events begins what it writes over more of them.
 //! - `told_run_law`: a file of events whose reports are taken whole tells an accepted run, with the events that it reports.
 //! - `same_lines_law`: a file with the same lines, in whatever order and repeated, reports the events of this run.
@@ -21,7 +23,7 @@ mod law;
 
 pub use calls::{call, call_plain};
 pub use law::{
-    ask_is_trace_law, good_call_law, ingest_grows_law, labels_answer_law, labels_tell_law,
-    listed_law, one_outcome_law, reordered_answers_law, reordered_files_law, same_instances_law,
-    same_lines_law, some_outcome_law, told_run_law,
+    ask_is_trace_law, consult_is_decide_law, good_call_law, ingest_grows_law, labels_answer_law,
+    labels_tell_law, listed_law, one_outcome_law, reordered_answers_law, reordered_files_law,
+    same_instances_law, same_lines_law, some_outcome_law, told_run_law, words_tell_law,
 };

@@ -1,11 +1,50 @@
-// Calls of the program over files in memory.
+// Calls of the program over files in memory, and runs of the line grammar with bytes that were worked by hand.
 ghost use Rattle.std.specs.Prelude.{◌≤◌};
 
 use std::alloc::{AllocError, Global};
-use wf_io::{FuseShelf, MemFile, MemShelf, MemSink, PlainFile, PlainShelf, PlainSink, Shelf};
+use wf_io::{FuseShelf, MemFile, MemShelf, MemSink, Shelf};
 use wf_model::{Name, Seq};
 use wf_top::Status::ReadFault;
 use wf_top::{Status, run};
+
+pub const INGEST: &str = "ingest spec events";
+
+pub const ASK: &str = "ask spec view labels queries";
+
+pub const TRACE: &str = "trace spec view events queries";
+
+pub const NO_SPEC: &str = "fault: reading spec\n";
+
+pub const NO_VIEW: &str = "fault: reading view\n";
+
+pub const NO_LABELS: &str = "fault: reading labels\n";
+
+pub const NO_EVENTS: &str = "fault: reading events\n";
+
+pub const NO_QUERIES: &str = "fault: reading queries\n";
+
+pub const NO_ROOM: &str = "fault: writing\n";
+
+/// The label file for no events: the head alone, four letters and the digest of the canonical text of the grammar.
+pub const HEAD: &[u8] =
+    b"WFL1\x8f\xbb\x4f\xca\xf0\xd4\x77\x63\x20\x00\x89\x79\xb9\x21\x95\x0e\x24\xba\x2b\x3f\xfd\x93\x7a\x5f\xbe\x18\x24\x81\x20\x1d\xce\x8e";
+
+/// The label file of a run in which nothing is expanded.
+pub const START: &[u8] =
+    b"WFL1\x8f\xbb\x4f\xca\xf0\xd4\x77\x63\x20\x00\x89\x79\xb9\x21\x95\x0e\x24\xba\x2b\x3f\xfd\x93\x7a\x5f\xbe\x18\x24\x81\x20\x1d\xce\x8e\x03r.a\x00\x01\x20\x03r.b\x00\x01\x60";
+
+/// The label file of a run that is finished.
+pub const WHOLE: &[u8] =
+    b"WFL1\x8f\xbb\x4f\xca\xf0\xd4\x77\x63\x20\x00\x89\x79\xb9\x21\x95\x0e\x24\xba\x2b\x3f\xfd\x93\x7a\x5f\xbe\x18\x24\x81\x20\x1d\xce\x8e\x03r.a\x00\x01\x20\x03r.b\x00\x01\x60\x04i1.y\x00\x01\xb0";
+
+/// The events of that run.
+pub const EVENTS: &str =
+    "{\"start\":\"r\"}\n{\"expand\":\"r\",\"production\":0,\"names\":[\"i1\",\"i2\"]}\n";
+
+/// Queries on it, and their answers.
+pub const QUERIES: &str = "r.a i1.y\ni1.y r.b\nr.b r.a\ni1.y i1.y\nr.a i2.y\n";
+
+pub const ANSWERS: &[u8] = b"yes\nyes\nno\nno\nunknown\n";
 
 /// What a file of a shelf is: its name, its bytes, and whether reading past them fails.
 pub type Filed<'a> = (&'a str, &'a [u8], bool);
@@ -13,7 +52,7 @@ pub type Filed<'a> = (&'a str, &'a [u8], bool);
 /// How a call ends: its status, and what it puts into out and into err.
 pub type End<'a> = (Status, &'a [u8], &'a str);
 
-fn name(alloc: Global, text: &str) -> Result<Name, AllocError> {
+pub fn name(alloc: Global, text: &str) -> Result<Name, AllocError> {
     Ok(Name::from_vec(Vec::from_slice(alloc, text.as_bytes())?))
 }
 
@@ -36,7 +75,7 @@ fn shelf_of(alloc: Global, files: &[Filed], piece: u32) -> Result<MemShelf, Allo
     Ok(MemShelf::new(Seq::from_vec(list), piece))
 }
 
-fn words<'a>(alloc: Global, line: &'a str) -> Result<Vec<&'a str>, AllocError> {
+pub fn words<'a>(alloc: Global, line: &'a str) -> Result<Vec<&'a str>, AllocError> {
     let mut words = Vec::new(alloc);
     for word in line.split_whitespace() {
         words.push(word)?;
@@ -58,23 +97,7 @@ fn ends_over<H: Shelf>(
     Ok(found == status && out.bytes() == text && err.bytes() == message.as_bytes())
 }
 
-/// Whether a call with these words, over files that come in pieces of so many bytes, and sinks with room for so many, ends so. The shelf fails once where a fault of reading ends the call, and else never.
-pub fn ends_with(
-    alloc: Global,
-    files: &[Filed],
-    piece: u32,
-    words: &[&str],
-    rooms: (usize, usize),
-    end: End,
-) -> Result<bool, AllocError>
-    requires { 1 ≤ piece }
-{
-    let mut shelf = shelf_of(alloc, files, piece)?;
-    let is_so = ends_over(alloc, &mut shelf, words, rooms, end)?;
-    Ok(is_so && shelf.faults() == u64::from(end.0 == ReadFault))
-}
-
-/// The same with the words of a line.
+/// Whether a call with the words of a line, over files that come in pieces of so many bytes, and sinks with room for so many, ends so. The shelf fails once where a fault of reading ends the call, and else never.
 pub fn ends(
     alloc: Global,
     files: &[Filed],
@@ -86,7 +109,9 @@ pub fn ends(
     requires { 1 ≤ piece }
 {
     let words = words(alloc, line)?;
-    ends_with(alloc, files, piece, &words, rooms, end)
+    let mut shelf = shelf_of(alloc, files, piece)?;
+    let is_so = ends_over(alloc, &mut shelf, &words, rooms, end)?;
+    Ok(is_so && shelf.faults() == u64::from(end.0 == ReadFault))
 }
 
 /// The same over a shelf that passes so many calls on, each of them for at most 4,096 bytes, and then fails.
@@ -101,46 +126,4 @@ pub fn ends_over_a_fuse(
     let mut shelf = FuseShelf::new(shelf_of(alloc, files, 4096)?, calls);
     let is_so = ends_over(alloc, &mut shelf, &words, (64, 64), end)?;
     Ok(is_so && shelf.faults() == u64::from(end.0 == ReadFault))
-}
-
-/// A shelf of plain files of these names and texts.
-fn plain_shelf_of(alloc: Global, texts: &[(&str, &str)]) -> Result<PlainShelf, AllocError> {
-    let mut files = Vec::new(alloc);
-    for (called, text) in texts {
-        files.push(PlainFile {
-            name: name(alloc, called)?,
-            bytes: Seq::from_vec(Vec::from_slice(alloc, text.as_bytes())?),
-        })?;
-    }
-    Ok(PlainShelf::new(Seq::from_vec(files)))
-}
-
-/// Calls the program over plain files of these names and texts: the status, and how many bytes went to out and to err.
-pub fn plainly_called(
-    alloc: Global,
-    texts: &[(&str, &str)],
-    line: &str,
-) -> Result<(Status, u64, u64), AllocError> {
-    let mut shelf = plain_shelf_of(alloc, texts)?;
-    let mut out = PlainSink::new();
-    let mut err = PlainSink::new();
-    let words = words(alloc, line)?;
-    let status = run(alloc, &words, &mut shelf, &mut out, &mut err);
-    Ok((status, out.length(), err.length()))
-}
-
-/// A text that begins so, then a letter so many times, and this behind it.
-pub fn filled(
-    alloc: Global,
-    before: &str,
-    letter: u8,
-    count: usize,
-    behind: &str,
-) -> Result<Vec<u8>, AllocError> {
-    let mut letters = Vec::new(alloc);
-    letters.resize(count, letter)?;
-    let mut bytes = Vec::from_slice(alloc, before.as_bytes())?;
-    bytes.extend_from_slice(&letters)?;
-    bytes.extend_from_slice(behind.as_bytes())?;
-    Ok(bytes)
 }

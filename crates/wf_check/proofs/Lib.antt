@@ -14,3 +14,4 @@ pub mod UnitOrNone
 pub mod ProperOrFault
 pub mod UnitRoutes
 pub mod UnitGraphs
+pub mod NoneOfProper

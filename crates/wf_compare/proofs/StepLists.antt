@@ -1,22 +1,11 @@
 -- Lists of steps, made one by one, and read.
-use Rattle.std.proofs.Common.{◌≡◌, ℕ, suc, ◌+◌, ◌<◌, ◌≤◌, List, [], ◌∷◌, ◌++◌, map, length, get_or, refl, sym, ap, ◌∙◌, append_assoc, arith}
-use Rattle.std.proofs.lemmas.List.{get_or-map, length-map, map-append}
+use Rattle.std.proofs.Common.{◌≡◌, ℕ, ◌<◌, ◌≤◌, List, [], ◌∷◌, map, length, get_or, refl, sym, ap, ◌∙◌, arith}
+use Rattle.std.proofs.lemmas.List.{get_or-map, length-map}
 use Rattle.wf_model.specs.declared.body.Position.{Position as PositionHeld}
-use Rattle.wf_model.specs.Lists.{numbers_from}
 use Rattle.wf_model.specs.Grammar.{Grammar, Position, Production, body_of, production_at}
 use Rattle.wf_model.specs.Meaning.{position_of}
-use Rattle.wf_model.proofs.NumberLists.{numbers_from-last}
 use Rattle.wf_compare.specs.declared.steps.Leading.{Leading}
 use Rattle.wf_compare.specs.Steps.{targets_of}
-
--- the value of one number more
-pub value_more : {A : Type 0} (f : ℕ → A) (k : ℕ) (before old new : List A) (x : A) → old ≡ before ++ map f (numbers_from 0 k) → x ≡ f k → new ≡ old ++ x ∷ [] → new ≡ before ++ map f (numbers_from 0 (k + 1))
-value_more f k before old new x so_far value pushed =
-    let one : k + 1 ≡ suc k = omega arith in
-    let last : 0 + k ≡ k = omega arith in
-    pushed ∙ (ap (λ l. l ++ x ∷ []) so_far ∙ (append_assoc before (map f (numbers_from 0 k)) (x ∷ [])
-    ∙ ap (λ l. before ++ l) (ap (λ y. map f (numbers_from 0 k) ++ y ∷ []) (value ∙ sym (ap f last))
-    ∙ (sym (map-append f (numbers_from 0 k) ((0 + k) ∷ [])) ∙ (sym (ap (map f) (numbers_from-last 0 k)) ∙ ap (λ j. map f (numbers_from 0 j)) (sym one))))))
 
 -- the modules of held positions are those of the body
 bodies : (g : Grammar) (p : ℕ) (held : List PositionHeld) (rule : Production) → map position_of held ≡ rule.positions → rule ≡ production_at g p → body_of g p ≡ map (λ (q : PositionHeld). q.module.0) held

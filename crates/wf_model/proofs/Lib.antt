@@ -25,3 +25,5 @@ pub mod Going
 pub mod Expanding
 pub mod Absent
 pub mod Rising
+pub mod Costs
+pub mod Joined

@@ -15,6 +15,7 @@ pub mod Settling
 pub mod Checking
 pub mod Disagreeing
 pub mod OneWitness
+pub mod OneFirstWitness
 pub mod ByRows
 pub mod Choosing
 pub mod Comparing

@@ -5,4 +5,4 @@ mod reading;
 mod texts;
 
 pub use reading::{grammar, safe, sample, view};
-pub use texts::{CLOSED, FORKING, GROWN, LINE, LOOP, PAIR, ROTATING, TWISTING};
+pub use texts::{CLOSED, FORKING, GROWN, LINE, LOOP, PAIR, TWISTING};

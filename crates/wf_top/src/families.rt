@@ -9,8 +9,11 @@ pub type Families = Either<
         Either<
             cmd_ask::Family,
             Either<
-                cmd_explain::Family,
-                Either<cmd_share::Family, Either<cmd_decide::Family, cmd_make::Family>>,
+                cmd_words::Family,
+                Either<
+                    cmd_explain::Family,
+                    Either<cmd_share::Family, Either<cmd_decide::Family, cmd_make::Family>>,
+                >,
             >,
         >,
     >,

@@ -61,7 +61,7 @@ kept_pairs g parts m list expanded few is k = by expanded refl
     by false e = pairs_same g m (is_shown g parts.deps m) list few (k.rows e) ∙ sym (ap (λ b. cond b [] (pairs_by g m (is_shown g parts.deps m))) (sym is ∙ e))
 
 -- a number without bits from n on is below 2 ^ n
-bits_below : (r n : ℕ) → ((o : ℕ) → n ≤ o → bit_at r o ≡ 0) → r < 2 ^ n
+pub bits_below : (r n : ℕ) → ((o : ℕ) → n ≤ o → bit_at r o ≡ 0) → r < 2 ^ n
 bits_below r n none =
     let rest = mod-lt r (pow_pos n) in
     let whole = div-add-mod' r (2 ^ n) in

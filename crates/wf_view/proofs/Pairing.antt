@@ -99,7 +99,7 @@ none_above m (e ∷ pairs) known i o above =
     by true false q = refl
     by false false q = refl
 
-nothing_set : (n i o : ℕ) → bit_in (replicate n 0) i o ≡ 0
+pub nothing_set : (n i o : ℕ) → bit_in (replicate n 0) i o ≡ 0
 nothing_set n i o = by (nat_lt i n) refl
   where
     by : (b : Bool) → nat_lt i n ≡ b → bit_in (replicate n 0) i o ≡ 0

@@ -1,9 +1,11 @@
-use Rattle.std.proofs.Common.{◌≡◌, List, option_map, refl, sym, subst, ◌∙◌}
+use Rattle.std.proofs.Common.{◌≡◌, List, length, option_map, refl, sym, subst, ◌∙◌}
 use Rattle.wf_model.specs.declared.event.Event.{Event}
 use Rattle.wf_model.specs.Items.{Item, items}
 use Rattle.wf_model.specs.Lists.{IsIn}
 use Rattle.wf_spec.specs.Held.{HeldGrammar}
 use Rattle.wf_flat.specs.Table.{events_of, names_in}
+use Rattle.wf_flat.specs.declared.graph.Link.{Link as LinkHeld}
+use Rattle.wf_flat.specs.Flat.{AreWithin, IsGraphOf}
 use Rattle.wf_flat.specs.Item.{named_item}
 use Rattle.wf_flat.specs.Graph.{named_links, named_port}
 use Rattle.cmd_ask.specs.Prepared.{PreparedSeen, TellsPath}
@@ -41,7 +43,8 @@ returns-then-not-shows-2-clause-told c =
 
 pub returns-clause-told : goal.returns-clause-told
 returns-clause-told c =
-    let told = subst (λ (q : PreparedSeen). TellsPath (named_links (names_in q.run.instances) q.flat.links) (option_map (named_port (names_in q.run.instances)) c.in-Some.a.to) (option_map (named_port (names_in q.run.instances)) c.in-Some-find_item.b.from) c.in_ok-told.told) (sym c.p.view_is) c.in_ok-told.ensures.path in
+    let r = c.p.invariant in
+    let told = subst (λ (q : PreparedSeen). (ls : List LinkHeld) → IsGraphOf ls q.flat → AreWithin (length q.run.instances) ls → TellsPath (named_links (names_in q.run.instances) ls) (option_map (named_port (names_in q.run.instances)) c.in-Some.a.to) (option_map (named_port (names_in q.run.instances)) c.in-Some-find_item.b.from) c.in_ok-told.told) (sym c.p.view_is) c.in_ok-told.ensures.path r.held r.graph r.within in
     rw (← c.p.view_is)
     (path_answers _ _ _ _ c.p.invariant c.args.query.now.first.now c.args.query.now.second.now c.in-Some.a c.in-Some-find_item.b (item_of_same c.grammar-g.ensures.grammar _ _ c.in-Some.ensures.found) (item_of_same c.grammar-g.ensures.grammar _ _ c.in-Some-find_item.ensures.found) c.in-Some.ensures.within c.in-Some-find_item.ensures.within
     (sym c.shows.ensures ∙ c.if-not-shows.false) (sym c.shows-2.ensures ∙ c.if-not-shows-2.false) c.in_ok-told.told told)

@@ -31,8 +31,10 @@ invariant_of-result c =
       run = subst (λ (h : HeldGrammar). IsTableOf h.core c.args.run.now) (sym same) c.requires.run;
       full = pairs_of v.full;
       induced = full.induced;
-      links = c.in_ok-flat.ensures.links v.view.core marks
+      held = c.in_ok-flat.ensures.graph.0;
+      links = c.in_ok-flat.ensures.graph.1 v.view.core marks
           ∙ ap (λ (rows : List (Option (List ℕ))). links_with g v.view.core (pairs_of rows) g.start (events_of c.args.run.now)) (c.deps.ensures ∙ c.full.ensures.full);
-      within = c.in_ok-flat.ensures.within;
+      within = c.in_ok-flat.ensures.graph.2;
+      graph = c.in_ok-flat.ensures.graph.3;
       opens = c.in_ok-flat.ensures.opens v.view.core marks;
     })

@@ -16,26 +16,17 @@ returns-in_default g c = record {
 pub returns-in_default-build : goal.returns-in_default-build
 returns-in_default-build g c = record { writes = λ es held. writes_wanting [] _ (begins_nothing _) _ }
 
-pub returns-in_default-read : goal.returns-in_default-read
-returns-in_default-read g c = record { writes = λ es held. writes_wanting [] _ (begins_nothing _) _ }
-
-pub returns-in_default-for_view : goal.returns-in_default-for_view
-returns-in_default-for_view g c = record { writes = λ es held. writes_wanting [] _ (begins_nothing _) _ }
-
-pub returns-in_default-new : goal.returns-in_default-new
-returns-in_default-new g c = record { writes = λ es held. writes_wanting [] _ (begins_nothing _) _ }
-
 -- the label of the view is of the same grammar
-pub put_counted-requires-clause-store : goal.put_counted-requires-clause-store
-put_counted-requires-clause-store g c = subst (λ (x : Grammar). IsStoreFor x c.args.store.now) (sym c.in-Ok.ensures.grammar) c.requires.store
-
-pub read-requires : goal.read-requires
-read-requires g c = subst (λ (x : Grammar). AreLabelBits x c.in-Some.bits) (sym c.in-Ok.ensures.grammar) (c.requires.store.labels _ c.in-Some.ensures.found)
+pub put_label-requires : goal.put_label-requires
+put_label-requires g c = record {
+  store = subst (λ (x : Grammar). IsStoreFor x c.args.store.now) (sym c.in-Ok.ensures.grammar) c.requires.store;
+  label = subst (λ (x : Grammar). AreLabelBits x c.in-Some.bits) (sym c.in-Ok.ensures.grammar) (c.requires.store.labels _ c.in-Some.ensures.found);
+}
 
 pub returns : goal.returns
 returns g c = record {
   writes = λ es held.
       item_put c.args.v.now.accepted.grammar.core c.args.v.now.view.core c.args.direction es c.args.store.now c.requires.store held c.args.item.now _ _ _
-      c.in-Ok.label c.in-Ok.ensures.grammar c.in-Ok.ensures.label c.in-Some.bits c.in-Ok-read.of.bits c.in-Some.ensures.found
-      c.in-Ok-read.ensures.bits c.put_counted.ensures.writes;
+      c.in-Ok.label c.in-Ok.ensures.grammar c.in-Ok.ensures.label c.in-Some.bits c.in-Some.bits c.in-Some.ensures.found
+      refl c.put_label.ensures.writes;
 }

@@ -1,29 +1,4 @@
-use Rattle.std.proofs.Common.{ap}
-use Rattle.std.proofs.lemmas.Result.{err_from_is_err_and}
-use Rattle.wf_accept.specs.Accepted.{AcceptedValue}
-use Rattle.wf_stage.proofs.Obeying.{obeys_passed}
-use Rattle.wf_inputs.proofs.Taking.{spec_stops, spec_goes, view_stops, view_goes, with_grammar}
-use Rattle.cmd_explain.specs.Verifying.{VerifiesRun}
 use Rattle.cmd_explain.proofs.verify.verify.Goals as goal
 
-pub returns-in_err-accepted : goal.returns-in_err-accepted
-returns-in_err-accepted g c =
-    record {
-      obeys = obeys_passed _ _ _ _ _ _ c.from_residual.result c.in_err-accepted.field-0.0 (err_from_is_err_and c.from_residual.result c.from_residual.ensures.1)
-          (spec_stops _ _ _ _ _ c.in_err-accepted.ensures.reads);
-    }
-
-pub returns-in_err-safe : goal.returns-in_err-safe
-returns-in_err-safe g c =
-    record {
-      obeys = obeys_passed _ _ _ _ _ _ c.from_residual-in_err-safe.result c.in_err-safe.field-0.0 (err_from_is_err_and c.from_residual-in_err-safe.result c.from_residual-in_err-safe.ensures.1)
-          (spec_goes _ _ _ _ _ _ _ _ c.in_ok-accepted.ensures.reads (view_stops c.in_ok-accepted.accepted.grammar.core _ _ _ _ _ c.in_err-safe.ensures.reads));
-    }
-
 pub returns : goal.returns
-returns g c =
-    record {
-      obeys = spec_goes _ _ _ _ _ _ _ _ c.in_ok-accepted.ensures.reads
-          (view_goes c.in_ok-accepted.accepted.grammar.core _ _ _ _ _ _ _ _ c.in_ok-safe.ensures.reads
-          (with_grammar _ (λ f x. VerifiesRun x.core c.in_ok-safe.safe.view.core (f c.args.words.now.events.now) (f c.args.words.now.chain.now)) _ _ _ _ _ _ _ (ap (λ (a : AcceptedValue). a.grammar) c.in_ok-safe.ensures.accepted) c.verify_events.ensures.obeys));
-    }
+returns g c = record { obeys = c.under_spec.ensures.obeys }

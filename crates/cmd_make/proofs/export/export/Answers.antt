@@ -1,29 +1,15 @@
 use Rattle.std.proofs.Common.{ap}
-use Rattle.std.proofs.lemmas.Result.{err_from_is_err_and}
 use Rattle.wf_accept.specs.Accepted.{AcceptedValue}
-use Rattle.wf_stage.proofs.Obeying.{obeys_passed}
-use Rattle.wf_inputs.proofs.Taking.{spec_stops, spec_goes, view_stops, view_goes, with_grammar}
+use Rattle.wf_inputs.proofs.Taking.{view_stops, view_goes, with_grammar}
 use Rattle.cmd_make.specs.Does.{ExportsView}
 use Rattle.cmd_make.proofs.export.export.Goals as goal
 
-pub returns-in_err-accepted : goal.returns-in_err-accepted
-returns-in_err-accepted g c = record {
+pub returns-in-Ok : goal.returns-in-Ok
+returns-in-Ok g c = record {
   obeys =
-      obeys_passed _ _ _ _ _ _ c.from_residual.result c.in_err-accepted.field-0.0 (err_from_is_err_and c.from_residual.result c.from_residual.ensures.1)
-      (spec_stops _ _ _ _ _ c.in_err-accepted.ensures.reads);
+      view_goes c.args.accepted.now.grammar.core _ _ _ _ _ _ _ _ c.in-Ok.ensures.reads
+      (with_grammar _ (λ f x. ExportsView x.core c.in-Ok.safe.view.core (f c.args.words.now.events.now)) _ _ _ _ _ _ _ (ap (λ (a : AcceptedValue). a.grammar) c.in-Ok.ensures.accepted) c.export_events.ensures.obeys);
 }
 
-pub returns-in_err-safe : goal.returns-in_err-safe
-returns-in_err-safe g c = record {
-  obeys =
-      obeys_passed _ _ _ _ _ _ c.from_residual-in_err-safe.result c.in_err-safe.field-0.0 (err_from_is_err_and c.from_residual-in_err-safe.result c.from_residual-in_err-safe.ensures.1)
-      (spec_goes _ _ _ _ _ _ _ _ c.in_ok-accepted.ensures.reads (view_stops c.in_ok-accepted.accepted.grammar.core _ _ _ _ _ c.in_err-safe.ensures.reads));
-}
-
-pub returns : goal.returns
-returns g c = record {
-  obeys =
-      spec_goes _ _ _ _ _ _ _ _ c.in_ok-accepted.ensures.reads
-      (view_goes c.in_ok-accepted.accepted.grammar.core _ _ _ _ _ _ _ _ c.in_ok-safe.ensures.reads
-      (with_grammar _ (λ f x. ExportsView x.core c.in_ok-safe.safe.view.core (f c.args.words.now.events.now)) _ _ _ _ _ _ _ (ap (λ (a : AcceptedValue). a.grammar) c.in_ok-safe.ensures.accepted) c.export_events.ensures.obeys));
-}
+pub returns-in-Err : goal.returns-in-Err
+returns-in-Err g c = record { obeys = view_stops c.args.accepted.now.grammar.core _ _ _ _ _ c.in-Err.ensures.reads }

@@ -1,14 +1,14 @@
-use Rattle.std.proofs.lemmas.Result.{err_from_is_err_and}
-use Rattle.wf_stage.proofs.Obeying.{obeys_passed, obeys_writing}
-use Rattle.wf_inputs.proofs.Taking.{spec_stops, spec_goes}
+use Rattle.std.proofs.Common.{◌∙◌, ap}
+use Rattle.wf_spec.specs.Held.{HeldGrammar}
+use Rattle.wf_gen.specs.Coming.{Coming}
+use Rattle.wf_stage.proofs.Writing.{writes_text}
+use Rattle.cmd_make.specs.EventLines.{event_lines}
+use Rattle.cmd_make.specs.Does.{generated_text}
 use Rattle.cmd_make.proofs.generate.generate.Goals as goal
 
-pub returns-in_err-spec : goal.returns-in_err-spec
-returns-in_err-spec g c = record {
-  obeys =
-      obeys_passed _ _ _ _ _ _ c.from_residual.result c.in_err-spec.field-0.0 (err_from_is_err_and c.from_residual.result c.from_residual.ensures.1)
-      (spec_stops _ _ _ _ _ c.in_err-spec.ensures.reads);
-}
-
 pub returns : goal.returns
-returns g c = record { obeys = spec_goes _ _ _ _ _ _ _ _ c.in_ok-spec.ensures.reads (obeys_writing _ _ _ _ _ _ c.put_generated.ensures.writes) }
+returns g c = record {
+  writes = writes_text _ _
+      (ap (λ (e : Coming). event_lines e.events) c.new-events.ensures ∙ ap (λ (h : HeldGrammar). generated_text h.core c.args.n c.args.seed) c.linear.ensures.grammar)
+      _ _ _ c.put_events.ensures.writes;
+}

@@ -3,7 +3,8 @@ use Rattle.wf_model.specs.declared.body.Position.{Position as PositionHeld}
 use Rattle.wf_model.specs.Lists.{numbers_from}
 use Rattle.wf_compare.specs.Steps.{leading_at}
 use Rattle.wf_body.proofs.Ordering.{count_is}
-use Rattle.wf_compare.proofs.StepLists.{value_more, module_there}
+use Rattle.wf_model.proofs.Joined.{value_more}
+use Rattle.wf_compare.proofs.StepLists.{module_there}
 use Rattle.wf_compare.proofs.steps.add_steps.Goals as goal
 
 pub loop-k-init : goal.loop-k-init

@@ -2,7 +2,7 @@ use Rattle.std.proofs.Common.{◌∙◌, [], ◌∷◌, ap, Vec, Global}
 use Rattle.std.proofs.lemmas.List.{map-append}
 use Rattle.wf_compare.specs.declared.steps.Leading.{Leading}
 use Rattle.wf_compare.specs.Steps.{open_leadings, rows_in}
-use Rattle.wf_compare.proofs.StepLists.{value_more}
+use Rattle.wf_model.proofs.Joined.{value_more}
 use Rattle.wf_compare.proofs.steps.all_open_steps.Goals as goal
 
 pub loop-k-preserved : goal.loop-k-preserved

@@ -1,0 +1,13 @@
+use Rattle.std.proofs.Common.{[]}
+use Rattle.wf_stage.proofs.Ends.{begins_nothing}
+use Rattle.wf_stage.proofs.Writing.{writes_wanting}
+use Rattle.cmd_explain.proofs.put.put_end.Goals as goal
+
+pub returns-in_default : goal.returns-in_default
+returns-in_default g c = record { writes = λ u es y of held of_y y_is. writes_wanting [] _ (begins_nothing _) _ }
+
+pub returns-in_default-new : goal.returns-in_default-new
+returns-in_default-new g c = record { writes = λ u es y of held of_y y_is. writes_wanting [] _ (begins_nothing _) _ }
+
+pub returns : goal.returns
+returns g c = record { writes = c.put_counted.ensures.writes }
