@@ -22,7 +22,7 @@ USE = re.compile(r"\buse Rattle\.(\w+)\.proofs\.([\w.]+)\.\{")
 def crates():
     """Returns the crates, in the order of crates.txt."""
     with open(f"{TOP}/crates.txt", encoding="utf-8") as file:
-        return [line.partition(":")[0].strip() for line in file if ":" in line.partition("#")[0]]
+        return [line.partition(":")[0].split()[0] for line in file if ":" in line.partition("#")[0]]
 
 
 def citations(names):

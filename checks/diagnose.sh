@@ -1,6 +1,6 @@
 #!/usr/bin/env bash
 # Checks of tools/diagnose.py: a case for each refusal and each warning with the text that is kept, mistakes with their mends, random mutations of the examples on which it and the program have to agree, its reader of JSON, and what it does at its edges.
-# The words are how many mutations are tried, and from which seed; 2,000 and 1 where they are not given.
+# The words are how many mutations of the examples are tried, and from which seed; 2,000 and 1 where they are not given. Of second views, automata and packages half as many are tried.
 set -euo pipefail
 
 cd "$(dirname "${BASH_SOURCE[0]}")/.."
@@ -27,16 +27,16 @@ while read -r result name; do
 done <"$work/mended"
 check "there are ten mistakes or more of each file" test "$(cut -d: -f1 "$work/mended" | sort | uniq -c | awk '$1 >= 10' | wc -l)" = 5
 
-# Each kind of refusal that docs/FORMATS.md names has a case, but for two that need more than a few bytes, and are tried below, and for NotCoarser, which is said of two views, while the tool takes one.
+# Each kind of refusal that docs/FORMATS.md names has a case, but for two that need more than a few bytes, and are tried below.
 has_cases() {
     grep -oE '(`|: )[A-Z][A-Za-z]+' docs/FORMATS.md | grep -oE '[A-Z][a-z]+[A-Z][A-Za-z]+|Unreachable|Unproductive|Unsafe|Malformed|Truncated|Conflict|Orphan' | sort -u |
-        grep -vxE 'FileTooLong|TooManyInstances|NotCoarser' >"$work/kinds"
+        grep -vxE 'FileTooLong|TooManyInstances' >"$work/kinds"
     python3 -c 'import sys; sys.path.insert(0, sys.argv[1]); import cases; print(*(message for _, message in cases.CASES.values()), sep="\n")' $golden >"$work/messages"
     local kind missing=0
     while read -r kind; do
         grep -q ": $kind\b" "$work/messages" || { echo "no case for $kind" && missing=1; }
     done <"$work/kinds"
-    [ "$(wc -l <"$work/kinds")" -ge 43 ] && [ "$missing" = 0 ]
+    [ "$(wc -l <"$work/kinds")" -ge 50 ] && [ "$(grep -cxE 'NotCoarser|StatesBad|StateBad|MoveTwice|TooManyStates|NotPackage|BadPackage' "$work/kinds")" = 7 ] && [ "$missing" = 0 ]
 }
 check "each kind of refusal of docs/FORMATS.md has a case" has_cases
 
@@ -45,7 +45,7 @@ small_limits() {
     python3 - <<'LIMITS'
 import io, sys
 sys.path.insert(0, "tools")
-from diagnosis import faults, label_files, lines, questions, runs, specs
+from diagnosis import faults, files, label_files, lines, questions, runs, specs
 text, grammar = specs.read_parts("spec", open("examples/line/spec", "rb").read())
 grammar = specs.accepted(text, grammar)
 events = b'{"start":"r"}\n{"expand":"r","production":0,"names":["i1","i2"]}\n'
@@ -65,6 +65,10 @@ lines.MOST_OF_LINE, lines.MOST_OF_FILE = 65536, 8
 assert told(lambda: list(questions.read_questions("queries", io.BytesIO(b"r.a r.b\nr.a r.b\n")))) == "refused: queries line 2: FileTooLong"
 lines.MOST_OF_FILE, runs.MOST_INSTANCES = 100, 2
 assert read(events) == "refused: events line 2: TooManyInstances"
+for where in ("coarse", "auto", "package"):
+    specs.MOST[where] = 2
+    for data, wanted in ((b"{ }", f"refused: {where}: TooLong"), (b"{}", "")):
+        assert told(lambda: specs.parts_of(files.Text(where, data), lambda node: node, where)) == wanted, where
 label_files.MOST = 57
 assert told(lambda: label_files.read_labels(open("examples/line/labels", "rb").read(), grammar)) == "refused: labels: TooLong"
 LIMITS
@@ -73,6 +77,7 @@ check "files that are too long and runs with too many instances are told, by sma
 
 check "at the edges of files, lines, names and labels kind and place are those of the program" python3 checks/edges.py "$program"
 check "on random mutations of the examples kind and place are those of the program" python3 checks/mutations.py "$program" "${1:-2000}" "${2:-1}"
+check "so they are on those of second views, automata and packages" python3 checks/mutated_calls.py "$program" $((${1:-2000} / 2)) "${2:-1}"
 
 # What JSON is, by RFC 8259 and docs/FORMATS.md, in a member that no form knows: the reader and the program take the first, and refuse the second.
 same_json() {
@@ -150,15 +155,27 @@ check "good files have status 0" ends 0 "wfprov accepts the files: wfprov check 
 check "a run is read without a view" ends 0 "wfprov accepts the files: wfprov trace $line/spec the default view $line/events /dev/null" python3 "$tool" $line/spec - $line/events
 check "the file of a label file is known by its beginning" ends 0 "wfprov accepts the files: wfprov ask $line/spec $line/view $line/labels /dev/null" python3 "$tool" $line/spec $line/view $line/labels
 check "two labels are read" ends 0 "wfprov accepts the files: wfprov decide $line/spec $line/view 20 B0" python3 "$tool" --decide $line/spec $line/view 20 B0
+check "the default view may stand for the view of a label" ends 0 "wfprov accepts the files: wfprov decide $line/spec the default view 20 b0" python3 "$tool" --decide $line/spec - 20 b0
+check "a view is compared with the default view" ends 0 "wfprov accepts the files: wfprov compare $line/spec the default view $line/coarse" python3 "$tool" --compare $line/spec - $line/coarse
+check "what two views that agree answer is told" grep -qxF 'Nothing is left out: about items that the second view shows, the first view gives the same answers.' "$work/out"
+check "a package and two labels are read" ends 0 "wfprov accepts the files: wfprov consult $line/package 20 B0" python3 "$tool" --consult $line/package 20 B0
+check "pipes may stand for two views" ends 0 'Nothing is left out: about items that the second view shows, the first view gives the same answers.' \
+    python3 "$tool" --compare $line/spec <(echo '{}') <(echo '{}')
 check "pipes may stand for files" ends 2 "wfprov refuses the events: refused: events line 1: Orphan" \
     python3 "$tool" <(cat $line/spec) <(echo '{}') <(echo '{"expand":"r","production":0,"names":[]}')
 check "missing words are told" complains 'diagnose.py: the words are not SPEC [VIEW] [EVENTS | LABELS] [QUERIES]; see --help' python3 "$tool"
 check "words that are no labels are told" complains 'diagnose.py: the words behind --decide are not SPEC VIEW HEX HEX, with two hexadecimal digits for each byte; see --help' \
     python3 "$tool" --decide $line/spec $line/view 2 20
-check "the tool tells how it is called" test "$(python3 "$tool" --help | grep -c 'tools/diagnose.py SPEC')" = 4
+misses() { complains "diagnose.py: the words behind $1 are not $2; see --help" python3 "$tool" "$1" "${@:3}"; }
+check "missing words of two views are told" misses --compare 'SPEC VIEW VIEW' $line/spec $line/view
+check "missing words of an automaton are told" misses --words 'SPEC VIEW AUTO [LABELS [QUERIES]]' $line/spec $line/view
+check "words that are no labels over a package are told" misses --consult 'PACKAGE HEX HEX, with two hexadecimal digits for each byte' $line/package 20 2g
+check "an option that is none is told" complains 'diagnose.py: the words are not SPEC [VIEW] [EVENTS | LABELS] [QUERIES]; see --help' python3 "$tool" --coarse $line/spec
+check "the tool tells how it is called" test "$(python3 "$tool" --help | grep -cE 'tools/diagnose.py (--[a-z]+ )?(SPEC|PACKAGE)')" = 8
 check "a full device is told" test "$(python3 "$tool" $line/spec 2>&1 >/dev/full)" = "diagnose.py: writing: No space left on device"
 check "closed standard output is told" test "$(python3 "$tool" $line/spec 2>&1 >&-)" = "diagnose.py: writing: standard output is closed"
 check "a folder in place of a file is told" ends 2 "wfprov cannot read the specification: fault: reading spec" python3 "$tool" examples
+check "a folder in place of a package is told" ends 2 "wfprov cannot read the package: fault: reading package" python3 "$tool" --consult examples 20 20
 
 # Without the program the tool says so; where the program says otherwise, it says this.
 check "a program that is not built is told" ends 2 "wfprov would say that it refuses the specification: refused: spec: WrongShape top" env WFPROV="$work/absent" python3 "$tool" <(echo '[]')
@@ -166,6 +183,20 @@ printf '#!/bin/sh\necho "refused: spec: NameBad module 7" >&2\nexit 2\n' >"$work
 chmod +x "$work/other"
 check "a program that says otherwise is told" ends 2 "The program says: refused: spec: NameBad module 7. This tool finds: that nothing is wrong. The program" env WFPROV="$work/other" python3 "$tool" $line/spec
 
+# A program that answers otherwise of two views, and one that has no command `words`.
+printf '#!/bin/sh\nprintf "yes\\nexact\\n"\n' >"$work/other"
+denied="$work/cases/denied"
+check "another answer to two views is told" ends 2 "The program says: yes, exact. This tool finds: no Refine c q. The program decides; please report that this" \
+    env WFPROV="$work/other" python3 "$tool" --compare "$denied"/{spec,view,coarse}
+check "without the program its own answer is told" ends 1 "Nothing is refused by the rules of docs/FORMATS.md." env WFPROV="$work/absent" python3 "$tool" --compare "$denied"/{spec,view,coarse}
+says_no_run() { ! grep -q 'is a step of' "$work/out" && grep -q '^The second view denies\|: The second view denies' "$work/out"; }
+check "it is without a run" says_no_run
+printf '#!/bin/sh\n[ "$1" != words ] || { echo "usage: wfprov COMMAND WORDS" >&2; exit 1; }\nexec %q "$@"\n' "$program" >"$work/former"
+chmod +x "$work/former"
+unsafe="$work/cases/auto-unsafe"
+check "a program without the command is told" ends 2 "The program did not check the files: usage: wfprov COMMAND WORDS. This is the reading of this tool alone." \
+    env WFPROV="$work/former" python3 "$tool" --words "$unsafe"/{spec,view,auto}
+check "what it would say is told" grep -qF 'wfprov would say that it refuses the automaton: refused: auto: Unsafe module Refine one 2 other 1' "$work/out"
 printf '#!/bin/sh\necho "no memory" >&2\nexit 5\n' >"$work/small"
 chmod +x "$work/small"
 check "a program that could not check is told" ends 0 "The program did not check the files: no memory. This is the reading of this tool alone." env WFPROV="$work/small" python3 "$tool" $line/spec
@@ -176,7 +207,10 @@ check "a path that is no text is read" ends 0 "wfprov accepts the files: wfprov 
 shows_escapes() {
     printf '{"start":"S\\u001b[2J","modules":[]}' >"$work/signs"
     printf '{"start":"\x9b\x1b[2J"' >"$work/bytes"
-    ! { python3 "$tool" "$work/signs"; python3 "$tool" "$work/bytes"; } >"$work/out" 2>&1 && grep -qF 'S\x1b[2J' "$work/out" && ! LC_ALL=C grep -q "[$(printf '\001-\010\013-\037\177')]" "$work/out"
+    printf '{"states":1,"start":0,"moves":[[0,"S\\u001b[2J",0]]}' >"$work/moves"
+    printf '{"package":1,"start":"S\\u001b[2J","modules":[],"productions":[],"deps":[],"loops":[]}' >"$work/packed"
+    ! { python3 "$tool" "$work/signs"; python3 "$tool" "$work/bytes"; } >"$work/out" 2>&1 &&
+        ! { python3 "$tool" --words $line/spec $line/view "$work/moves"; python3 "$tool" --consult "$work/packed" 20 20; } >>"$work/out" 2>&1 && grep -qF 'S\x1b[2J' "$work/out" && ! LC_ALL=C grep -q "[$(printf '\001-\010\013-\037\177')]" "$work/out"
 }
 check "signs that a terminal obeys are shown as escapes" shows_escapes
 
@@ -210,5 +244,39 @@ mends_view() {
 }
 check "the view that is proposed is safe" mends_view unsafe ''
 check "the view that is proposed with pairs of its own is safe" mends_view unsafe-by-view '{"module":"Realign","pairs":[["m","c2"],["c","m2"]]},'
+
+# What is proposed for the other files: two views that are coarser one than the other, a view that denies nothing, an automaton that is safe, and a package.
+coarser() {
+    echo "{$(proposed "$1" '`\("expand":[^`]*\)`'),\"deps\":[$(proposed "$1" '`\({"module[^`]*\)`')]}" >"$work/mended"
+    "$program" compare "$work/cases/$1/spec" "$work/cases/$1/view" "$work/mended" >/dev/null
+}
+check "the coarser view that is proposed is one" coarser not-coarser
+check "so is the one that is proposed where neither is coarser" coarser not-coarser-apart
+exchanged() { "$program" compare "$work/cases/$1/spec" "$work/cases/$1/coarse" "$work/cases/$1/view" >/dev/null; }
+check "exchanged views are accepted" exchanged not-coarser
+check "so are two of which the second sees less" exchanged not-coarser-unseen
+denies_nothing() {
+    echo "{\"expand\":[\"Main\"],\"deps\":[$(proposed denied '`\({"module[^`]*\)`')]}" >"$work/mended" && [ "$("$program" compare "$denied/spec" "$denied/view" "$work/mended")" = $'yes\nexact' ]
+}
+check "the pairs that are proposed deny nothing" denies_nothing
+# The view that is proposed for an automaton, and the automaton that names the module itself.
+keeps_safe() {
+    local ended=0
+    echo "{$(proposed "$1" '\("expand":[^`]*\)`'),\"deps\":[$(proposed "$1" '`\({"module[^`]*\)`')]}" >"$work/mended"
+    sed "s/\"$2\"/\"$3\"/g" "$work/cases/$1/auto" >"$work/auto" && ! cmp -s "$work/auto" "$work/cases/$1/auto" && "$program" view "$work/cases/$1/spec" "$work/mended" >/dev/null || return 1
+    python3 "$tool" --words "$work/cases/$1/spec" "$work/mended" "$work/auto" >"$work/out" || ended=$?
+    [ "$ended" = 0 ]
+}
+check "the view that is proposed for an automaton keeps it safe" keeps_safe auto-unsafe Realign Refine
+check "so it is where each way passes the module" keeps_safe auto-unsafe-other P L
+mends_move() {
+    mends_name move-unknown-module Scores auto && python3 "$tool" --words "$work/cases/move-unknown-module"/{spec,view} "$work/mended" >"$work/out"
+}
+check "the module that is near mends the move" mends_move
+mends_loops() {
+    sed "s/\"loops\":.*/\"loops\":[$(proposed "$1" 'write `\([^`]*\)`')]}/" "$work/cases/$1/package" >"$work/mended" && "$program" consult "$work/mended" 20 60 >/dev/null
+}
+check "the entry of a loop that is proposed mends the package" mends_loops bad-package-no-loop
+check "so it does in the place of another" mends_loops bad-package-other-loop
 
 finish

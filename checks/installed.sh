@@ -216,9 +216,15 @@ if command -v man >/dev/null && man --version >/dev/null 2>&1; then
 else
     echo "left out: man is not installed here, so it does not read the manual page"
 fi
-check "the completion offers the commands" offers "ask check compare decide drill explain export gen impact ingest lineage package trace verify view" "$completion" wfprov ""
+check "the completion offers the commands" offers "ask check compare consult decide drill explain export gen impact ingest lineage package trace verify view words" "$completion" wfprov ""
 check "it offers a command that is begun" offers "explain export" "$completion" wfprov ex
+check "it offers files where a form ends with one" offers "spec" "$completion" wfprov check sp
+check "it offers files before a label" offers "view" "$completion" wfprov decide spec vi
 check "it offers files where a form has one" offers "events" "$completion" wfprov trace spec view ev
+check "it offers files where a form has a second view" offers "events" "$completion" wfprov compare spec view ev
+check "it offers files where a form has a chain" offers "events" "$completion" wfprov verify spec view events ev
+check "it offers files where a form has a package" offers "events" "$completion" wfprov consult ev
+check "it offers files where a form has an automaton" offers "events" "$completion" wfprov words spec view ev
 check "it offers no file behind the last word of a form" offers "" "$completion" wfprov check spec ev
 check "it offers no file where a form has a label" offers "" "$completion" wfprov decide spec view ev
 check "it offers no file behind a word that is no command" offers "" "$completion" wfprov exalt ev

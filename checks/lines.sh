@@ -11,7 +11,7 @@ lines() {
 
 rows() {
     local crate folder code tests specs proofs edits
-    for crate in $(sed -e 's/#.*//' crates.txt | awk -F: 'NF > 1 { print $1 }'); do
+    for crate in $(sed -e 's/#.*//' crates.txt | awk -F: 'NF > 1 { split($1, word, " "); print word[1] }'); do
         folder=crates/$crate
         case $crate in
             wf_samples | *_trials)

@@ -1,5 +1,5 @@
 #!/usr/bin/env bash
-# Checks that want of memory ends a call as it should, wherever it comes: of each worked call it refuses the first growth, then the second, and so on, until the call asks for no more. A call that is refused a growth ends with status 5 and the line `no memory`, behind a beginning of its text, and of `ask` behind no text at all; or it does without, and ends as if nothing was refused.
+# Checks that want of memory ends a call as it should, wherever it comes: of each worked call it refuses the first growth, then the second, and so on, until the call asks for no more. A call that is refused a growth ends with status 5 and the line `no memory`, behind a beginning of its text, and of `ask` and `words` behind no text at all; or it does without, and ends as if nothing was refused.
 #
 # It is no part of the gate. The program is the built one, and a small library of plain Rust, which stands before it, refuses the growth; so the script wants rustc. With `--try NUMBER..` it refuses the growths of these numbers alone, on the program that `rt try` makes, which stops at each access out of bounds, too. `rt try` refuses one growth a run and makes the program anew for each: two minutes of a processor a run and a call, so that a few numbers have to do.
 set -euo pipefail
@@ -22,6 +22,7 @@ echo '{"expand":["Main"],"deps":[{"module":"Refine","pairs":[["m","r"],["m","q"]
 calls='ingest|line|ingest spec events|0|labels|
 ingest of held reports|line|ingest spec '$work/exchanged'|0|labels|
 ask|line|ask spec view labels queries|0|answers|
+words|line|words spec view auto labels queries|0|own|
 lineage|phylogeny|lineage spec view labels run.report|0|own|
 impact|phylogeny|impact spec view labels run.seqs|0|own|
 explain|phylogeny|explain spec view events run.seqs run.report|0|own|
@@ -29,6 +30,7 @@ verify|line|verify spec view events chain|0|own|
 compare|phylogeny|compare spec '$work/everything' outer|0|own|
 compare of a denied pair|phylogeny|compare spec '$work/everything' '$work/narrow'|0|own|
 package|phylogeny|package spec '$work/narrow'|0|own|
+consult|line|consult package 20 60|0|own|
 trace|line|trace spec view events queries|0|answers|
 trace of held reports|line|trace spec view '$work/exchanged' queries|0|answers|
 export|line|export spec view events|0|own|
@@ -77,7 +79,7 @@ is_whole() {
 
 # Whether the last run ended for want of memory, behind a beginning of the text, or, where nothing is to be put, behind none.
 is_wanting() {
-    ended 5 'no memory' && if [ "$2" = ask ]; then
+    ended 5 'no memory' && if [ "$2" = ask ] || [ "$2" = words ]; then
         [ ! -s "$work/out" ]
     else
         head -c "$(wc -c <"$work/out")" "$1" | cmp -s - "$work/out"

@@ -4,8 +4,8 @@
   python3 checks/minutes.py run LOG COMMAND..   runs the command, and writes to LOG what its processes took
   python3 checks/minutes.py table LOG           prints the table of such a LOG
 
-For the whole gate, from nothing: `python3 checks/minutes.py run LOG rt ci --anew`, at the top of the repository, and then the table.
-Without --anew what an earlier run on the machine passed is kept, and takes no time.
+For the whole gate, from nothing: `python3 checks/minutes.py run LOG rt ci`, at the top of the repository, and then the table.
+A kit that keeps what an earlier run on the machine passed wants `rt ci --anew`.
 
 `rt ci` tells no times, and tells of its edits only at its end. So the processes of the prover are looked at twice a second while
 they run: each names its crate, those with --test prove tests, and edits are tried in folders of their own. What the last look

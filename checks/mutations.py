@@ -19,7 +19,7 @@ import tempfile
 
 TOP = os.path.dirname(os.path.dirname(os.path.abspath(__file__)))
 sys.path.insert(0, os.path.join(TOP, "tools"))
-from diagnosis import call
+import told
 
 EXAMPLES = ["line", "phylogeny", "phylogeny-once", "twisting", "pair", "grown", "skewed", "mapping-cwl", "mapping-nextflow"]
 # How often each file is the one that is changed.
@@ -239,23 +239,25 @@ def change_labels(data, rng):
     return data[:36] + b"".join(entries)
 
 
-def mutated(example, rng):
-    """Returns the files of an example of which one is changed, by their words, in the order of a call."""
+def held(example, name):
+    """Returns a file of an example."""
+    with open(os.path.join(TOP, "examples", example, name), "rb") as file:
+        return file.read()
 
-    def held(name):
-        with open(os.path.join(TOP, "examples", example, name), "rb") as file:
-            return file.read()
 
+def mutated(rng):
+    """Returns the files of an example of which one is changed, by their names in the order of a call, and the name of this one."""
+    example = rng.choice(EXAMPLES)
     there = set(os.listdir(os.path.join(TOP, "examples", example)))
-    files = {"spec": held("spec"), "view": held("view")}
+    files = {"spec": held(example, "spec"), "view": held(example, "view")}
     third = rng.choice(["events", "labels"])
     for name in (third, "queries"):
         if name in there:
-            files[name] = held(name)
+            files[name] = held(example, name)
     which = rng.choice([name for name in files for _ in range(WEIGHTS[name])])
     for _ in range(rng.choice([1, 1, 1, 2, 3])):
         if which == "view":
-            files[which] = change_view(files[which], rng, held("spec"))
+            files[which] = change_view(files[which], rng, held(example, "spec"))
         elif which == "labels":
             files[which] = change_labels(files[which], rng) if len(files[which]) > 40 else change_bytes(files[which], rng)
         elif which == "spec":
@@ -266,17 +268,13 @@ def mutated(example, rng):
 
 
 def compared(program, folder, files):
-    """Returns what the program says and what the tool says of some files."""
-    words = []
-    for name, data in files.items():
-        path = os.path.join(folder, name)
-        with open(path, "wb") as file:
-            file.write(data)
-        words.append(path)
-    held = call.Files(words, folder)
-    said, _ = call.said_by(program, held)
-    fault = call.Finding(held).fault
-    return said, fault.message() if fault else ""
+    """Returns what the program says and what the tool finds of some files."""
+    paths = {name: data if name == "hexes" else os.path.join(folder, name) for name, data in files.items()}
+    for name, path in paths.items():
+        if name != "hexes":
+            with open(path, "wb") as file:
+                file.write(files[name])
+    return told.both(program, told.words_of(paths))
 
 
 def keep(folder, number, files):
@@ -285,15 +283,16 @@ def keep(folder, number, files):
         shutil.copytree(folder, os.path.join(os.environ["KEEP"], str(number)), dirs_exist_ok=True)
 
 
-def main(words):
-    program, count, seed = words[0], int(words[1]), int(words[2]) if len(words) > 2 else 1
+def tried(words, draw, compare=compared):
+    """Tries mutations that are drawn, and returns whether some differ. `compare` gives what is said and what is found of the files of each."""
+    program, count, seed = os.path.abspath(words[0]), int(words[1]), int(words[2]) if len(words) > 2 else 1
     rng, kinds, differences = random.Random(seed), collections.Counter(), 0
     with tempfile.TemporaryDirectory() as folder:
         for number in range(count):
-            which, files = mutated(rng.choice(EXAMPLES), rng)
-            said, found = compared(program, folder, files)
+            which, files = draw(rng)
+            said, found = compare(program, folder, files)
             kind = re.sub(r" line \d+", "", said.split(": ", 1)[-1]).split(" ")
-            kinds[" ".join(kind[:2]) if said else "accepted"] += 1
+            kinds[" ".join(kind[:2]) if said.startswith("refused") else "accepted"] += 1
             if said != found:
                 differences += 1
                 print(f"mutation {number} of {which}: the program says `{said}`, and the tool `{found}`")
@@ -301,8 +300,8 @@ def main(words):
     for kind, times in sorted(kinds.items()):
         print(f"{times:6} {kind}")
     print(f"{count} mutations, {count - kinds['accepted']} refused, {differences} differences")
-    return int(differences > 0)
+    return differences > 0
 
 
 if __name__ == "__main__":
-    sys.exit(main(sys.argv[1:]))
+    sys.exit(tried(sys.argv[1:], mutated))

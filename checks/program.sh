@@ -642,7 +642,57 @@ shut='{"package":1,"start":"m0","modules":[{"name":"m0","in":["i0"],"out":["o0"]
 check "a view that opens nothing has a package of one module" packages line '{"expand":[]}' "$shut"
 twisting='{"package":1,"start":"m0","modules":[{"name":"m0","in":["i0","i1"],"out":["o0","o1"]},{"name":"m1","in":["i0","i1"],"out":["o0","o1"]},{"name":"m2","in":["i0","i1"],"out":["o0","o1"]},{"name":"m3","in":["i0","i1"],"out":["o0","o1"]}],"productions":[{"head":"m0","body":[["p0","m1"]],"edges":[],"in":[["i0","p0.i0"],["i1","p0.i1"]],"out":[["p0.o0","o0"],["p0.o1","o1"]]},{"head":"m1","body":[["p0","m2"],["p1","m1"],["p2","m2"]],"edges":[["p0.o0","p1.i0"],["p0.o1","p1.i1"],["p1.o0","p2.i0"],["p1.o1","p2.i1"]],"in":[["i0","p0.i0"],["i1","p0.i1"]],"out":[["p2.o0","o0"],["p2.o1","o1"]]},{"head":"m1","body":[["p0","m3"]],"edges":[],"in":[["i0","p0.i0"],["i1","p0.i1"]],"out":[["p0.o0","o0"],["p0.o1","o1"]]}],"deps":[{"module":"m2","pairs":[["i0","o1"],["i1","o0"]]},{"module":"m3","pairs":[["i0","o0"],["i1","o1"]]}],"loops":[["m1",1,1]]}'
 check "a package has the pairs of the closed modules and the steps that lead back" packages twisting '{}' "$twisting"
+check "an example has its package" packages line '{}' "$(cat examples/line/package)"
 check "a view that opens nothing hides pairs and steps" packages twisting '{"expand":[]}' '{"package":1,"start":"m0","modules":[{"name":"m0","in":["i0","i1"],"out":["o0","o1"]}],"productions":[],"deps":[],"loops":[]}'
+
+# What two labels tell by a package, and what is no package.
+consults() {
+    printf '%s' "$1" >"$work/package"
+    if [ "$4" = 0 ]; then
+        run consult "$work/package" "$2" "$3" && ended 0 "$(text expected_out "$5\n")" "$nothing"
+    else
+        says "$4" "$5\n" consult "$work/package" "$2" "$3"
+    fi
+}
+check "an output of the root rests on its input" consults "$shut" 20 60 0 yes
+check "a label of what the package does not show is hidden" consults "$shut" 20 b0 0 'hidden 2'
+check "so is the first, whatever its bytes go on with" consults "$shut" b1 20 0 'hidden 1'
+check "a port that the root has not is no label" consults "$shut" 10 20 2 'refused: label 1: Malformed'
+check "the second is tried before the first is answered" consults "$shut" b1 10 2 'refused: label 2: Malformed'
+check "other spaces and a further member change nothing" consults " { \"versions\":3,${shut#?}" 20 60 0 yes
+check "a package has six members" consults '{}' 20 60 2 'refused: package: NotPackage'
+check "text behind the value is no JSON" consults "$shut}" 20 60 2 'refused: package: NotJson'
+check "its start module is one of its modules" consults "${shut/m0/m1}" 20 60 2 'refused: package: BadPackage'
+check "a module that leads back has an entry" consults "${twisting/\[\"m1\",1,1\]/}" 20 60 2 'refused: package: BadPackage'
+check "and it is the step that leads back" consults "${twisting/\[\"m1\",1,1\]/[\"m1\",1,0]}" 20 60 2 'refused: package: BadPackage'
+
+# Paths whose modules an automaton accepts.
+passes() {
+    printf '%s' "$1" >"$work/auto"
+    printf "$2" >"$work/queries"
+    run words $line/spec $line/view "$work/auto" $line/labels "$work/queries" && ended 0 "$(text expected_out "$3")" "$nothing"
+}
+past='{"states":2,"start":0,"accept":[1],"moves":[[0,"Q",1]]}'
+check "a path that passes a module is told from one that does not" passes "$past" 'r.a r.b\nr.a i1.y\ni1.y r.b\nr.b r.a\nr.a i2.y\n' 'yes\nno\nyes\nno\nunknown\n'
+check "the file of the example is this automaton" test "$(cat $line/auto)" = "$past"
+check "an automaton that accepts every word answers as \`ask\`" passes '{"states":1,"start":0,"accept":[0]}' "$(sed 's/$/\\n/' $line/queries | tr -d '\n')" "$(sed 's/$/\\n/' $line/answers | tr -d '\n')"
+refuses_words() {
+    says 2 "refused: $2\n" words "$3" "$4" "$1" "$5" $line/queries
+}
+check "an automaton is refused before the labels are read" refuses_words "$(text no_states '{}')" 'auto: WrongShape states' $line/spec $line/view "$work/absent"
+check "a view is refused before the automaton is read" refuses_words "$work/absent" 'view: NotJson' $line/spec "$(text no_view '')" $line/labels
+check "labels are read behind the automaton" refuses_words $line/auto 'labels: NotLabels' $line/spec $line/view $line/spec
+# The automaton of the example, with so many bytes of spaces before it that it has this length.
+padded_auto() {
+    { head -c "$(($1 - $(wc -c <$line/auto)))" /dev/zero | tr '\0' ' ' && cat $line/auto; } >"$work/long"
+    echo "$work/long"
+}
+reads_long_auto() {
+    run words $line/spec $line/view "$(padded_auto 16777216)" $line/labels "$(text one 'r.a r.b\n')" && ended 0 "$(text expected_out 'yes\n')" "$nothing"
+}
+check "an automaton of 16,777,216 bytes is read" reads_long_auto
+check "one byte more is too long" refuses_words "$(padded_auto 16777217)" 'auto: TooLong' $line/spec $line/view $line/labels
+check "an automaton that is not there is told" says 3 'fault: reading auto\n' words $line/spec $line/view "$work/absent" $line/labels $line/queries
 
 # The items on which an item rests, and those that rest on it.
 lists() {

@@ -24,13 +24,14 @@ PARTS = [
     ("Which workflows and views are accepted", ["wf_inputs/specs/Specification", "wf_inputs/specs/ViewTold"]),
     ("Runs, labels and label files", ["wf_inputs/specs/RunTold", "cmd_ingest/specs/Ingested", "wf_inputs/specs/LabelsTold"]),
     ("What labels tell", ["wf_query/specs/Answers", "wf_lineage/specs/Listed", "cmd_decide/specs/Decided"]),
+    ("Paths whose modules an automaton accepts", ["wf_words/specs/Answers", "cmd_words/specs/AutoTold"]),
     ("Why an item rests on another", ["cmd_explain/specs/Reasons", "wf_reason/specs/Checked"]),
     ("Whether a coarser view denies what a finer one affirms", ["cmd_share/specs/Told"]),
-    ("What a view shows, without the specification", ["wf_package/specs/PackageText"]),
+    ("What a view shows, without the specification", ["wf_package/specs/PackageText", "cmd_share/specs/Consulted"]),
     ("What the other commands write", ["cmd_describe/specs/Does", "wf_export/specs/ExportText", "cmd_make/specs/Does"]),
     ("The program", ["wf_top/specs/Outcome", "wf_top/specs/Meets", "wf_top/specs/Counts"]),
 ]
-LAWS = ["wf_laws", "label_model", "decode_model", "verdict_model", "version_model", "report_model", "chain_model", "compare_model", "words_model", "package_model", "outcome_laws"]
+LAWS = ["wf_laws", "label_model", "decode_model", "verdict_model", "version_model", "report_model", "chain_model", "compare_model", "words_model", "package_model", "package_laws", "outcome_laws"]
 TABLES = re.compile(r"^\*\*" + PARTS[0][0] + r"\*\*.*?^Together \d+ files .*?$.*?(?=^## )", re.M | re.S)
 
 

@@ -49,7 +49,7 @@ check "each statement stands once" stands_once
 check "the tables of definitions in docs/PROOFS.md are up to date" python3 checks/reading.py --check
 check "the table of cited lemmas in docs/ARCHITECTURE.md is up to date" python3 checks/cited.py --check
 check "what docs/LIBRARY.md quotes stands in the crates" python3 checks/quoted.py
-check "the table of crates in docs/ARCHITECTURE.md names what each uses" python3 checks/uses.py
+check "the table of crates in docs/ARCHITECTURE.md names what each uses, and crates.txt no more" python3 checks/uses.py
 check "nothing that rt makes is committed" has_no_output
 for crate in $(crates); do
     check "$crate is there" is_a_folder "$crate"

@@ -34,6 +34,8 @@ works() {
         file) python3 tools/labels.py file "$work/lines" ;;
         pick) python3 tools/labels.py pick $line/labels $line/queries ;;
         two_labels) python3 tools/two_labels.py $line/spec $line/labels r.a r.b ;;
+        consult) python3 tools/consult.py $line/package $line/labels $line/queries ;;
+        automaton) python3 tools/automaton.py $line/spec '.* Q .*' ;;
         impact_of_file) python3 tools/files.py impact $line/spec $line/view $line/labels "$work/table" a ;;
         page_of_files) python3 tools/page.py --table "$work/table" $line/spec $line/view $line/events "$work/names" ;;
         page) python3 tools/page.py $line/spec $line/view $line/events $line/queries ;;
@@ -54,6 +56,8 @@ fails() {
         file) python3 tools/labels.py file "$work/absent" ;;
         pick) python3 tools/labels.py pick $line/labels "$work/absent" ;;
         two_labels) python3 tools/two_labels.py $line/spec "$work/absent" r.a r.b ;;
+        consult) python3 tools/consult.py $line/package "$work/absent" $line/queries ;;
+        automaton) python3 tools/automaton.py "$work/absent" '.* Q .*' ;;
         impact_of_file) python3 tools/files.py impact $line/spec $line/view $line/labels "$work/absent" a ;;
         page_of_files) python3 tools/page.py --table "$work/absent" $line/spec $line/view $line/events "$work/names" ;;
         page) python3 tools/page.py $line/spec $line/view $line/events "$work/absent" ;;
@@ -99,7 +103,7 @@ at_no_error() {
     fails "$1" >>"$work/out" 2>/dev/full || full=$?
     [ "$ended" = 2 ] && [ "$full" = 2 ] && [ ! -s "$work/out" ]
 }
-for tool in dot export labels file pick two_labels impact_of_file page page_of_files crates files runs list_of_runs to_rocrate; do
+for tool in dot export labels file pick two_labels consult automaton impact_of_file page page_of_files crates files runs list_of_runs to_rocrate; do
     check "$tool: a full device is told" at_full "$tool"
     check "$tool: closed standard output is told" at_closed_output "$tool"
     check "$tool: closed standard input changes nothing" at_closed_input "$tool"

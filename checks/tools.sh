@@ -23,7 +23,7 @@ is_drawn() {
     fi
 }
 
-for picture in line phylogeny phylogeny-spec twisting-skewed labels crates; do
+for picture in line phylogeny phylogeny-spec twisting-skewed labels automaton crates; do
     check "the picture of $picture is the one that is kept" is_kept "$picture"
     check "the picture of $picture is drawn as it is kept" is_drawn "$picture"
 done
