@@ -1,8 +1,9 @@
 #!/usr/bin/env python3
 """Measures the most memory that a small file can make a command hold: the bytes held for each byte read.
 
-`trace` and `export` hold the links of the run. An instance of an atomic module has a link for each of its pairs, so a module of 64
-inputs and 64 outputs has 4,096 of them, and a body of 63 such modules has them 63 times, for one line of EVENTS. A specification or
+`trace` and `export` hold the run, and `trace` a few bytes for each port. An instance of an atomic module has a link for each of its
+pairs, so a module of 64 inputs and 64 outputs has 4,096 of them, and a body of 63 such modules has them 63 times, for one line of
+EVENTS: none of these is held. A specification or
 a view is read whole, and its JSON takes a value for each member, however short the member is.
 
 Each command runs on files of some sizes, so that one sees that the multiple does not grow. With --small the files are a fortieth.

@@ -240,20 +240,32 @@ def tell_workload(table, run):
         run.tell_verify(table)
 
 
-def main():
-    words = argparse.ArgumentParser(description=__doc__.splitlines()[0])
+def called(about, small):
+    """What a script on workloads is called with, by what it says of itself first."""
+    words = argparse.ArgumentParser(description=about.splitlines()[0])
     words.add_argument("--program", default=str(PROGRAM))
     words.add_argument("--turns", type=int, default=5, help="how often each call is made")
     words.add_argument("--judge", action="store_true", help="end with 1 where a ratio is above its limit")
-    words.add_argument("--small", action="store_true", help="small runs and chains, to try the script")
+    words.add_argument("--small", action="store_true", help=small)
     words.add_argument("folders", nargs="*", metavar="FOLDER", type=Path, help="a workload")
-    args = words.parse_args()
+    return words.parse_args()
+
+
+def runs(kind, program, args, name):
+    """Yields the workloads that are given, or made in a folder, one after the other, each as a run of this kind in a folder of its own."""
+    made = Path(name) / "made"
+    made.mkdir()
+    for given in args.folders or workloads(program, made, args.small):
+        with tempfile.TemporaryDirectory(dir=name) as own:
+            yield kind(program, given.resolve(), Path(own), args.turns)
+
+
+def main():
+    args = called(__doc__, "small runs and chains, to try the script")
     program, table, scale = built(args.program), Table(), 100 if args.small else 1
     with tempfile.TemporaryDirectory(prefix="wfprov-bench-") as name:
-        (Path(name) / "made").mkdir()
-        for given in args.folders or workloads(program, Path(name) / "made", args.small):
-            with tempfile.TemporaryDirectory(dir=name) as own:
-                tell_workload(table, Run(program, given.resolve(), Path(own), args.turns))
+        for run in runs(Run, program, args, name):
+            tell_workload(table, run)
         with tempfile.TemporaryDirectory(dir=name) as own:
             Loop(program, Path(own), args.turns, ROUNDS // scale).try_whole()
         with tempfile.TemporaryDirectory(dir=name) as own:

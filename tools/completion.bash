@@ -8,14 +8,16 @@ _wfprov_forms="\
 # Offers a command, and then for each word what its form says: names of files, or nothing where a label or a number stands.
 _wfprov() {
     local word=${COMP_WORDS[COMP_CWORD]} commands="" wanted="" form
+    # A form has no word for the program itself.
+    local place=$((COMP_CWORD - 1))
     local -a words
     COMPREPLY=()
     while IFS= read -r form; do
         read -ra words <<<"$form"
         [ "${#words[@]}" -gt 0 ] || continue
         commands+=" ${words[0]}"
-        if [ "${words[0]}" = "${COMP_WORDS[1]}" ] && [ "$COMP_CWORD" -lt "${#words[@]}" ]; then
-            wanted+=" ${words[COMP_CWORD]}"
+        if [ "${words[0]}" = "${COMP_WORDS[1]}" ] && [ "$place" -lt "${#words[@]}" ]; then
+            wanted+=" ${words[place]}"
         fi
     done <<<"$_wfprov_forms"
     if [ "$COMP_CWORD" -eq 1 ]; then
@@ -23,7 +25,7 @@ _wfprov() {
         return
     fi
     case "$wanted " in
-        *' SPEC '* | *' VIEW '* | *' EVENTS '* | *' LABELS '* | *' QUERIES '*)
+        *' SPEC '* | *' VIEW '* | *' COARSE '* | *' EVENTS '* | *' LABELS '* | *' QUERIES '* | *' CHAIN '* | *' PACKAGE '* | *' AUTO '*)
             compopt -o filenames 2>/dev/null
             mapfile -t COMPREPLY < <(compgen -f -- "$word")
             ;;

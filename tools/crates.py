@@ -3,7 +3,8 @@
 
   python3 tools/crates.py [CRATES]     reads CRATES, and crates.txt of the repository where none is given
 
-A crate has an arrow to each crate that it uses and that none of the others that it uses stands on. Crates of the kit are left out.
+A crate has an arrow to each crate that it uses and that none of the others that it uses stands on. Crates of the kit are left out. Behind
+the name of a crate on which nothing stands the word `staticlib` may stand.
 """
 import os
 import re
@@ -14,18 +15,19 @@ sys.path.insert(0, os.path.dirname(os.path.abspath(__file__)))
 import terminal
 from terminal import Wrong
 
-NAME = re.compile(r"[A-Za-z0-9_-]+")
+NAME = re.compile(r"([A-Za-z0-9_-]+)( staticlib)?")
 
 
 def uses_in(path):
     """Returns for each crate of a file the crates of the file that it uses."""
     uses = {}
     for number, line in enumerate(terminal.read_text(path).splitlines(), 1):
-        name, colon, used = line.partition("#")[0].strip().partition(":")
-        if colon and not NAME.fullmatch(name.strip()):
-            raise Wrong(f"{path}: line {number}: `{name}` is no name of a crate")
+        head, colon, used = line.partition("#")[0].strip().partition(":")
+        name = NAME.fullmatch(head.strip())
+        if colon and not name:
+            raise Wrong(f"{path}: line {number}: `{head}` is no name of a crate")
         if colon:
-            uses[name.strip()] = used.split()
+            uses[name[1]] = used.split()
     return {name: [other for other in used if other in uses] for name, used in uses.items()}
 
 

@@ -6,14 +6,18 @@
   python3 tools/diagnose.py SPEC VIEW EVENTS [QUERIES]             and a run of it, and questions
   python3 tools/diagnose.py SPEC VIEW LABELS [QUERIES]             and a label file of a run, and questions
   python3 tools/diagnose.py --decide SPEC VIEW HEX HEX             and two labels
+  python3 tools/diagnose.py --compare SPEC VIEW VIEW               a specification, a view of it and a coarser one
+  python3 tools/diagnose.py --words SPEC VIEW AUTO [LABELS [QUERIES]]   an automaton, and what else `words` takes
+  python3 tools/diagnose.py --consult PACKAGE HEX HEX              a package and two labels
 
-It runs `wfprov` on the files (`check`, `view`, `trace` or `ask`) and finds the same fault by a reading of its own, since the program says
-the kind of a fault and its place, and no more. VIEW may be `-`: the run is then seen under the default view. A third file that begins with
-the letters `WFL1` is a label file, and any other holds events.
+It runs `wfprov` on the files (`check`, `view`, `trace` or `ask`, or the command of the option) and finds the same fault by a reading of its
+own, since the program says the kind of a fault and its place, and no more. VIEW may be `-`, which is the default view. A third file that
+begins with the letters `WFL1` is a label file, and any other holds events. Of two views that are accepted it says what `compare` answers.
 
 It warns of what is accepted and surely not meant: a member that no form knows, or that is given twice; a module
 that stands in no body; a module that a view names and never shows; a view that gives a module fewer pairs than its inside has, or than
-the specification gives it; and a question for what is no item, such as an output that leads out of its body.
+the specification gives it; a second view that denies what is so under the first; an automaton whose states that accept are never reached, or
+that accepts every word; and a question for what is no item, such as an output that leads out of its body.
 
 The text goes to standard output. The status is 0 where nothing is wrong, 1 where there are warnings alone, and 2 where something is
 refused or cannot be read.
@@ -26,32 +30,42 @@ import sys
 
 sys.path.insert(0, os.path.dirname(os.path.abspath(__file__)))
 import terminal
-from diagnosis import call, report
-from terminal import Wrong
+import two_views
+from diagnosis import call, coarse, report
+from diagnosis.finding import Finding
 
 
 def findings(files):
     """Returns the lines on some files, and the status."""
     program, lines = call.program(), []
-    said, status = call.said_by(program, files) if program else ("it is not built", None)
-    if status not in call.CHECKED:
-        lines = [*report.wrapped(f"The program did not check the files: {said}. This is the reading of this tool alone."), ""]
+    said = call.said_by(program, files) if program else call.Said("it is not built", None, [])
+    if said.status not in call.CHECKED:
+        lines = [*report.wrapped(f"The program did not check the files: {said.line}. This is the reading of this tool alone."), ""]
         program = said = None
-    found = call.Finding(files)
+    found = Finding(files)
     fault = found.fault
-    if program and (fault.message() if fault else "") != said:
-        return report.of_difference(fault, said), 2
+    message = fault.message() if fault else ""
+    if program and message != said.line:
+        return report.of_difference(message, said.line), 2
     if fault:
-        return lines + report.of_fault(fault, said) + (report.of_doubts(found.doubts, True) if found.doubts else []), 2
+        return lines + report.of_fault(fault, program and said.line) + (report.of_doubts(found.doubts, True) if found.doubts else []), 2
     accepts = f"wfprov accepts the files: {terminal.escaped(files.shown_command())}"
     lines.append(accepts if program else "Nothing is refused by the rules of docs/FORMATS.md.")
-    return (lines + report.of_doubts(found.doubts, False), 1) if found.doubts else (lines, 0)
+    told, status = beside(found.beside, program and said.answer) if found.beside else ([], 0)
+    if status == 2:
+        return told, status
+    return lines + told + (report.of_doubts(found.doubts, False) if found.doubts else []), status or int(bool(found.doubts))
+
+
+def beside(views, answer):
+    """Returns the lines on two views that are accepted, and the status, with the answer of `compare`, or None where it was not asked."""
+    own = views.answer()
+    if answer is not None and coarse.without_run(answer) != own:
+        return report.of_difference(", ".join(own), ", ".join(answer)), 2
+    return report.of_views(views, answer or own), int(two_views.denies(own))
 
 
 def work(words):
-    decides = words[:1] == [call.DECIDE]
-    if len(words) != 5 if decides else not 1 <= len(words) <= 4 or words[0].startswith("--"):
-        raise Wrong(f"the words are not {call.WORDS}; see --help")
     lines, status = call.diagnosed(words, findings)
     terminal.write("\n".join(lines) + "\n")
     return status

@@ -1,8 +1,14 @@
-"""Reads the bits of a label: single bits, and numbers in gamma code."""
+"""Reads the bits of a label: single bits, and numbers in gamma code, which it also writes."""
 from terminal import Wrong
 
 # A number of a label is at most that of the instances of a run.
 MOST = 1 << 24
+
+
+def gamma(number):
+    """Returns the gamma code of a number and one more, as the bits that `Bits.number` reads."""
+    digits = f"{number + 1:b}"
+    return "0" * (len(digits) - 1) + digits
 
 
 class Bits:

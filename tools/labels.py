@@ -106,13 +106,15 @@ def name_of(word, number):
     return ESCAPE.sub(lambda found: bytes.fromhex(found[1].decode()), written)
 
 
-def words_in(text):
-    """Yields the words of the lines of a text, with their numbers. A line may end with a carriage return."""
+def words_in(text, needs_head=True):
+    """Yields the words of the lines of a text, with their numbers. A line may end with a carriage return. The first line is that of the head,
+    or may be it where none is needed."""
     lines = text.split("\n")
     for number, line in enumerate(lines[:-1] if lines[-1] == "" else lines, 1):
         words = line[:-1].split(" ") if line.endswith("\r") else line.split(" ")
-        if len(words) != 2 or (words[0] == "head") != (number == 1):
-            raise Wrong(f"line {number}: not {'`head`' if number == 1 else 'a name'} and hexadecimal digits with one space between")
+        is_head, wants_head = words[0] == "head", needs_head and number == 1
+        if len(words) != 2 or (wants_head and not is_head) or (is_head and number > 1):
+            raise Wrong(f"line {number}: not {'`head`' if wants_head else 'a name'} and hexadecimal digits with one space between")
         yield number, words
 
 
@@ -134,6 +136,13 @@ def file_of(text):
         if len(name) > 255 or len(told) > 65535:
             raise Wrong(f"line {number}: the name has more than 255 bytes, or the label more than 65,535")
         yield entry_of(name, told)
+
+
+def labels_in(text):
+    """Yields the names and the labels of lines, each as bytes. The line of the head may be left out."""
+    for number, words in words_in(text, needs_head=False):
+        if words[0] != "head":
+            yield name_of(words[0], number), bytes_of(words[1], number)
 
 
 def pieces_of(path):
@@ -160,12 +169,12 @@ def names_in(paths):
 
 
 class Picked:
-    """The entries of a label file whose names are wanted, as a label file, with their numbers in the whole one, and its SHA-256."""
+    """The entries of a label file, given in pieces, whose names are wanted, as a label file, with their numbers in the whole one, and its SHA-256."""
 
-    def __init__(self, path, wanted):
+    def __init__(self, pieces, wanted):
         self.wanted, self.count, self.labels, self.numbers = wanted, 0, bytearray(), array.array("Q")
         digest, data, before = hashlib.sha256(), b"", 0
-        for piece in pieces_of(path):
+        for piece in pieces:
             digest.update(piece)
             data += piece
             at = 0 if self.labels else self.begin(data)
@@ -206,7 +215,7 @@ class Picked:
 
 def pick(digest, path, names):
     """Picks the entries with these names of a label file, which must have this digest where one is given."""
-    picked = Picked(path, names)
+    picked = Picked(pieces_of(path), names)
     if digest not in (None, picked.digest):
         raise Wrong(f"{path}: its SHA-256 is {picked.digest}, and not {digest}: it is another file, or has changed")
     return picked

@@ -52,6 +52,7 @@ import digests
 import file_table
 import labels as label_file
 import terminal
+import two_views
 from digests import PART
 from terminal import Wrong
 
@@ -323,19 +324,15 @@ def beside_full(program, grammar, words, shown):
             raise
 
 
-def rests_on(module, first, second):
-    """Returns that an output of a module rests on an input, in words, as the program tells the pair."""
-    return f"the output {code(second)} of {code(module)} rests on its input {code(first)}"
+# How the view of a page and the one that opens every step are called where they are compared.
+CALLED = two_views.Called("the view", "on this page", "the view that opens every step", "with every step opened")
 
 
 def warning_part(told):
     """Yields a warning where `compare` tells of a pair that the view denies."""
-    if told and told[0].startswith("no "):
-        yield (
-            f'<p class="warning"><strong>The view denies what is so.</strong> With every step opened, {rests_on(*told[0].split(" ")[1:4])}, in'
-            " whatever way the run is finished. The view says that it does not. So an answer <code>no</code> on this page may be"
-            " <code>yes</code> where every step is opened. The view may deny more: this is the first such pair.</p>"
-        )
+    if told and two_views.denies(told):
+        what, more = two_views.meaning(told, CALLED, code)
+        yield f'<p class="warning"><strong>{what}</strong> {more}</p>'
 
 
 def beside_part(told):
@@ -345,14 +342,8 @@ def beside_part(told):
             "<p>The view is not compared with the one that opens every step: that one is not safe. Two ways to carry out a step disagree there"
             " about what its outputs rest on.</p>"
         )
-    elif told == ["yes", "exact"]:
-        yield "<p>Nothing is left out: about items that this view shows, the view that opens every step gives the same answers.</p>"
-    elif told and told[0] == "yes":
-        yield (
-            "<p>Nothing is left out: about items that this view shows, whatever is <code>yes</code> where every step is opened is <code>yes</code>"
-            f" here. The view says more: by it, {rests_on(*told[1].split(' ')[1:])}, and with every step opened it does not. So an answer"
-            " <code>yes</code> may be <code>no</code> there. This is the first such pair.</p>"
-        )
+    elif told and not two_views.denies(told):
+        yield f"<p>{' '.join(two_views.meaning(told, CALLED, code)).rstrip()}</p>"
 
 
 MEANINGS = {

@@ -1,5 +1,5 @@
 #!/usr/bin/env bash
-# Makes the pictures of docs/pictures: what `export` writes of examples, specifications, labels and crates, drawn by Graphviz.
+# Makes the pictures of docs/pictures: what `export` writes of examples, specifications, labels, an automaton and crates, drawn by Graphviz.
 #   bash tools/pictures.sh [FOLDER]           writes them to FOLDER, and to docs/pictures where none is given
 #   bash tools/pictures.sh --page [FOLDER]    writes page.png alone, by Chromium: a page for a reviewer, up to its answers
 #   bash tools/pictures.sh --browse [FOLDER]  writes browse.png alone, by Chromium: the page of browse.py after two clicks
@@ -93,5 +93,7 @@ draw_specs phylogeny-spec examples/phylogeny/spec
 draw_specs twisting-skewed examples/twisting/spec examples/skewed/spec
 python3 tools/two_labels.py examples/phylogeny/spec examples/phylogeny/labels rl2.c2 rl55.c2 >"$folder/labels.dot"
 draw labels
+python3 tools/automaton.py --picture examples/phylogeny/spec '[^Build]* Refine [^Build]*' >"$folder/automaton.dot"
+draw automaton
 python3 tools/crates.py >"$folder/crates.dot"
 draw crates

@@ -8,6 +8,7 @@
   with wfprov.Answers("spec", "view", "labels") as store:      one `ask`, kept open: the label file is read once
       answers = store.ask([("run.cfg", "run.tree"), ("run.cfg", "run.report")])
       if answers[0] is wfprov.Answer.NO: ...
+  with wfprov.Answers("spec", "view", "labels", auto="auto") as store:    by paths that an automaton accepts alone
 
   with wfprov.Ingest("spec") as run:                           one `ingest`, kept open: labels come while the run goes on
       run.start("run")
@@ -16,6 +17,7 @@
           print(item.name, item.label.hex())
 
   wfprov.decide("spec", "view", first, second)                 and `check`, `view`, `export`, `gen`: one call of the program each
+  wfprov.consult("package", first, second)                     the same by a package, without the specification
   wfprov.explain("spec", "view", "events", first, second)      and `verify`, `lineage`, `impact`
   wfprov.call(["check", "spec"])                               any command, for its text
 
@@ -47,7 +49,7 @@ PIECE = 65536
 HEAD = 36
 QUERY = re.compile(r"[A-Za-z0-9_-]{1,64}\.[A-Za-z0-9_-]{1,64} [A-Za-z0-9_-]{1,64}\.[A-Za-z0-9_-]{1,64}\n")
 NAME = re.compile(r"[A-Za-z0-9_-]{1,64}")
-REFUSED = re.compile(r"refused: (spec|view|coarse|events|labels|queries|chain|label [12])(?: line (\d+))?: (\w+)(?: (.*))?")
+REFUSED = re.compile(r"refused: (spec|view|coarse|auto|events|labels|queries|chain|package|label [12])(?: line (\d+))?: (\w+)(?: (.*))?")
 
 
 class Answer(enum.Enum):
@@ -132,7 +134,7 @@ class Ended(Exception):
 class Refused(Ended):
     """A file, a line or a label is refused.
 
-    `place` is `spec`, `view`, `coarse`, `events`, `labels`, `queries`, `chain`, `label 1` or `label 2`; `line` is a number in events,
+    `place` is `spec`, `view`, `coarse`, `events`, `labels`, `queries`, `chain`, `package`, `label 1` or `label 2`; `line` is a number in events,
     queries and chain, and None elsewhere; `kind` is the name of the fault, as `WrongShape`; and `about` is what stands behind it, as `modules`, or empty.
     """
 
@@ -340,13 +342,14 @@ class Answers(Kept):
     """A label file under a view, opened once, of which any number of questions can be asked: one `wfprov ask` that is kept open.
 
     Making one waits until the files are read, and raises what they are refused for. The label file is as it was then: what is added to
-    it later is not seen.
+    it later is not seen. With an automaton only paths whose modules it accepts count, and a `wfprov words` is kept open.
     """
 
     WORDS = {answer.value.encode(): answer for answer in Answer}
 
-    def __init__(self, spec: Path, view: Path, labels: Path, program: Optional[Path] = None) -> None:
-        super().__init__(["ask", spec, view, labels, "/dev/stdin"], program)
+    def __init__(self, spec: Path, view: Path, labels: Path, program: Optional[Path] = None, auto: Optional[Path] = None) -> None:
+        words = ["ask", spec, view] if auto is None else ["words", spec, view, auto]
+        super().__init__([*words, labels, "/dev/stdin"], program)
         self._owed = 0
         self._rest = b""
         try:
@@ -515,6 +518,11 @@ def view(spec: Path, view_file: Path, program: Optional[Path] = None) -> List[Se
 def decide(spec: Path, view_file: Path, first: bytes, second: bytes, program: Optional[Path] = None) -> Verdict:
     """Decides from two labels whether the second item depends on the first."""
     return Verdict(lines_of(["decide", spec, view_file, first.hex(), second.hex()], program)[0])
+
+
+def consult(package: Path, first: bytes, second: bytes, program: Optional[Path] = None) -> Verdict:
+    """Decides from two labels and a package whether the second item depends on the first."""
+    return Verdict(lines_of(["consult", package, first.hex(), second.hex()], program)[0])
 
 
 def export(spec: Path, view_file: Path, events: Path, program: Optional[Path] = None) -> Exported:

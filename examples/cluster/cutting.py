@@ -42,7 +42,7 @@ def opened(folder, labels):
         raise Wrong(f"wfprov ask: {terminal.ended(said, status)}")
     if status == 0:
         try:
-            digest = label_files.Picked(labels, frozenset()).digest
+            digest = label_files.Picked(label_files.pieces_of(labels), frozenset()).digest
         except label_files.NotWhole as cut:
             return 2, b"refused: labels: Truncated offset %d\n" % cut.offset
         except Wrong:

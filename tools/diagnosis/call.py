@@ -1,4 +1,5 @@
-"""Which files a call has, what this package finds in them, and what the program says."""
+"""Which files a call has, and what the program says of them."""
+import collections
 import os
 import re
 import shutil
@@ -6,29 +7,36 @@ import subprocess
 import tempfile
 
 import terminal
-from diagnosis import doubts, kinds, specs
-from diagnosis.faults import Doubt, Fault
-from diagnosis.label_files import MAGIC, check_word, read_labels
-from diagnosis.questions import read_questions, with_items
-from diagnosis.runs import read_run
+from diagnosis.label_files import MAGIC
 
 TOP = os.path.dirname(os.path.dirname(os.path.dirname(os.path.abspath(__file__))))
-WORDS = "SPEC [VIEW] [EVENTS | LABELS] [QUERIES]"
-NO_VIEW, DECIDE = "-", "--decide"
+# A form of a call: the command of the program, the words as they are written, the files by their names in messages of the program, how many
+# of them are given at least, how many labels stand behind them, and which files belong where.
+Form = collections.namedtuple("Form", "command words names least hexes order")
+ORDER = "The words are SPEC VIEW EVENTS QUERIES, in this order, and LABELS may stand in the place of EVENTS."
+PLAIN = Form("", "SPEC [VIEW] [EVENTS | LABELS] [QUERIES]", ("spec", "view", "events", "queries"), 1, 0, ORDER)
+# The other forms, by the option that stands before the words.
+FORMS = {
+    "--decide": Form("decide", "SPEC VIEW HEX HEX", ("spec", "view"), 2, 2, ORDER),
+    "--compare": Form("compare", "SPEC VIEW VIEW", ("spec", "view", "coarse"), 3, 0, "The words are SPEC VIEW VIEW, in this order."),
+    "--consult": Form("consult", "PACKAGE HEX HEX", ("package",), 1, 2, "`wfprov package SPEC VIEW` writes a package."),
+    "--words": Form(
+        "words",
+        "SPEC VIEW AUTO [LABELS [QUERIES]]",
+        ("spec", "view", "auto", "labels", "queries"),
+        3,
+        0,
+        "The words are SPEC VIEW AUTO LABELS QUERIES, in this order.",
+    ),
+}
+NO_VIEW = "-"
 # The statuses of a program that accepted, refused, or could not read a file.
 CHECKED = (0, 2, 3)
 HEX = re.compile("(?:[0-9A-Fa-f]{2})*")
 
-
-def unreadable(where, path, error):
-    """Returns the fault of a file that cannot be read, which the program tells as a fault of reading."""
-    mend = "Look for the path, and for the right to read the file."
-    if isinstance(error, IsADirectoryError):
-        mend = f"Give a file: the folder `{path}` has{' one' if os.path.isfile(os.path.join(path, where)) else ' none'} that is called `{where}`."
-    elif isinstance(error, FileNotFoundError):
-        mend = "Look how the path is spelled. If it does not begin with `/`, it leads from the folder in which you are."
-    fault = Fault("", f"`{path}` cannot be read: {terminal.reason(error)}.", mend)
-    return fault.stands_in(where, None)
+# What the program says: its line on standard error, which is empty where it accepts the files, its status, and the lines of its answer to
+# `compare`.
+Said = collections.namedtuple("Said", "line status answer")
 
 
 def is_text(path):
@@ -37,30 +45,33 @@ def is_text(path):
 
 
 class Files:
-    """The files of a call. What is no regular file, or has a path that the program takes for no word, is read once, into a folder, so that
-    the program and this package read the same."""
+    """The files of a call, by their names in messages of the program. What is no regular file, or has a path that the program takes for no
+    word, is read once, into a folder, so that the program and this package read the same."""
 
-    def __init__(self, words, folder, hexes=()):
-        self.spec, self.view, self.third, self.queries = (*words, None, None, None)[:4]
-        self.hexes = list(hexes)
-        self.names, self.folder = {}, folder
-        self.spec, self.third, self.queries = map(self.kept, (self.spec, self.third, self.queries))
-        self.view = self.kept(self.view if self.view != NO_VIEW else self.default_view())
-        self.labels = self.third is not None and self.begins_labels()
+    def __init__(self, form, words, folder):
+        count = len(words) - form.hexes
+        self.form, self.hexes, self.folder, self.names = form, words[count:], folder, {}
+        self.paths = dict(zip(form.names, words[:count]))
+        if form is PLAIN and words[1:] == [NO_VIEW]:
+            del self.paths["view"]
+        for name, path in self.paths.items():
+            is_default = name in ("view", "coarse") and path == NO_VIEW
+            self.paths[name] = self.named("default view", "the default view", b"{}") if is_default else self.kept(path)
+        if form is PLAIN and self.begins_labels():
+            self.paths["labels"] = self.paths.pop("events")
+        self.no_items = self.named("no items", "a label file without items") if form.command == "words" and "labels" not in self.paths else None
 
-    def default_view(self):
-        """Returns the path of a view that expands every composite module, where a file behind VIEW is given and no view."""
-        if self.third is None:
-            return None
-        path = os.path.join(self.folder, "default view")
-        with open(path, "w", encoding="utf-8") as file:
-            file.write("{}")
-        self.names[path] = "the default view"
+    def named(self, name, what, data=b""):
+        """Returns the path of a file that is made, and is called something in messages."""
+        path = os.path.join(self.folder, name)
+        with open(path, "wb") as file:
+            file.write(data)
+        self.names[path] = what
         return path
 
     def kept(self, path):
         """Returns the path of a file that may be read twice."""
-        if path is None or is_text(path) and (not os.path.exists(path) or os.path.isfile(path) or os.path.isdir(path)):
+        if is_text(path) and (not os.path.exists(path) or os.path.isfile(path) or os.path.isdir(path)):
             return path
         copy = os.path.join(self.folder, str(len(self.names)))
         self.names[copy] = path
@@ -72,9 +83,9 @@ class Files:
     def begins_labels(self):
         """Whether the third file begins as a label file does, so that it is read as LABELS and not as EVENTS."""
         try:
-            with open(self.third, "rb") as file:
+            with open(self.paths["events"], "rb") as file:
                 return file.read(len(MAGIC)) == MAGIC
-        except OSError:
+        except (KeyError, OSError):
             return False
 
     def name(self, path):
@@ -83,22 +94,32 @@ class Files:
 
     def command(self):
         """Returns the words of the program's call."""
-        if self.hexes:
-            return ["decide", self.spec, self.view, *self.hexes]
-        if self.third is None:
-            return ["check", self.spec] if self.view is None else ["view", self.spec, self.view]
-        return ["ask" if self.labels else "trace", self.spec, self.view, self.third, self.queries or os.devnull]
+        held, form = self.paths, self.form
+        first = [path for name, path in held.items() if name not in ("events", "labels", "queries")]
+        third = held.get("labels") or held.get("events") or self.no_items
+        if third:
+            return [form.command or ("ask" if "labels" in held else "trace"), *first, third, held.get("queries", os.devnull)]
+        return [form.command or ("view" if "view" in held else "check"), *first, *self.hexes]
 
     def shown_command(self):
         return " ".join(["wfprov", *map(str, map(self.name, self.command()))])
 
 
+def write_no_items(program, files):
+    """Leaves the label file of an empty run where a call has none, so that the program comes to it."""
+    if files.no_items:
+        with open(files.no_items, "wb") as file:
+            subprocess.run([program, "ingest", files.paths["spec"], os.devnull], stdin=subprocess.DEVNULL, stdout=file, stderr=subprocess.DEVNULL, check=False)
+
+
 def said_by(program, files):
-    """Returns the line that the program writes on standard error, which is empty where it accepts the files, and its status."""
-    ran = subprocess.run([program, *files.command()], stdin=subprocess.DEVNULL, stdout=subprocess.DEVNULL, stderr=subprocess.PIPE, check=False)
-    if ran.returncode == 0:
-        return "", 0
-    return terminal.ended(ran.stderr, ran.returncode), ran.returncode
+    """Returns what the program says of the files."""
+    write_no_items(program, files)
+    answer = subprocess.PIPE if files.form.command == "compare" else subprocess.DEVNULL
+    ran = subprocess.run([program, *files.command()], stdin=subprocess.DEVNULL, stdout=answer, stderr=subprocess.PIPE, check=False)
+    if ran.returncode:
+        return Said(terminal.ended(ran.stderr, ran.returncode), ran.returncode, [])
+    return Said("", 0, (ran.stdout or b"").decode("utf-8", "backslashreplace").splitlines())
 
 
 def program():
@@ -107,74 +128,21 @@ def program():
     return path if os.path.isfile(path) and os.access(path, os.X_OK) else None
 
 
-def items_with(word, names):
-    """Returns the items of a label file that an instance makes, and those at a port, for a word that may be the name of either."""
-    return [item for item in names if item.startswith(f"{word}.")], [item for item in names if item.endswith(f".{word}")]
-
-
-class Finding:
-    """What this package finds in the files of a call: the first fault or None, and what is accepted and surely not meant."""
-
-    def __init__(self, files):
-        self.files, self.fault, self.doubts = files, None, []
-        try:
-            self.read()
-        except Fault as fault:
-            word = fault.where.split(" ")[0]
-            path = {"spec": files.spec, "view": files.view, "queries": files.queries}.get(word, files.third)
-            self.fault = kinds.better(fault, path) if path else fault
-
-    def read(self):
-        text, parts = specs.read_parts(*self.whole("spec", self.files.spec))
-        self.doubts += doubts.of_spec(text, parts)
-        grammar = specs.accepted(text, parts)
-        self.doubts += doubts.of_unused(text, grammar)
-        if self.files.view is None:
-            return
-        text, parts = specs.read_view_parts(*self.whole("view", self.files.view))
-        self.doubts += doubts.of_view(text, parts)
-        assignment = specs.safe(text, parts, grammar)
-        self.doubts += doubts.of_shown(text, assignment)
-        for number, word in enumerate(self.files.hexes, 1):
-            check_word(grammar, number, word)
-        if self.files.third is None:
-            return
-        if self.files.labels:
-            names = read_labels(self.whole("labels", self.files.third)[1], grammar)
-            self.ask(lambda item: doubts.of_entry(names, item), lambda word: items_with(word, names))
-        else:
-            run = self.opened("events", self.files.third, lambda path, file: read_run(path, file, grammar))
-            if not run.instances:
-                empty = "the file of events has no report, so nothing is in the run, and each answer is `unknown`."
-                self.doubts.append(Doubt(f"{empty} If it is to be a label file, what made it has failed: make it again by `ingest`."))
-            self.ask(lambda item: doubts.of_item(run, item), lambda word: (run.items_of(word, doubts.of_item), run.items_with(word, doubts.of_item)))
-
-    def ask(self, why, items):
-        """Reads the queries, if they are given: `why` says of an item why it is none, and `items` lists those of an instance."""
-        if self.files.queries is None:
-            return
-        try:
-            self.doubts += self.opened("queries", self.files.queries, lambda path, file: list(doubts.of_questions(read_questions(path, file), why)))
-        except Fault as fault:
-            raise with_items(fault, items) from None
-
-    def whole(self, where, path):
-        """Returns the name and the bytes of a file."""
-        return self.opened(where, path, lambda name, file: (name, file.read()))
-
-    def opened(self, where, path, use):
-        """Returns what is made of a file that is opened, with its name."""
-        try:
-            with open(path, "rb") as file:
-                return use(self.files.name(path), file)
-        except OSError as error:
-            raise unreadable(where, self.files.name(path), error) from None
+def form_of(words):
+    """Returns the form of a call, and its words."""
+    form = FORMS.get(words[0]) if words else None
+    if form is None:
+        if not words or words[0].startswith("--") or len(words) > len(PLAIN.names):
+            raise terminal.Wrong(f"the words are not {PLAIN.words}; see --help")
+        return PLAIN, words
+    count, digits = len(words) - 1 - form.hexes, ", with two hexadecimal digits for each byte" if form.hexes else ""
+    if not form.least <= count <= len(form.names) or not all(HEX.fullmatch(word) for word in words[1 + count :]):
+        raise terminal.Wrong(f"the words behind {words[0]} are not {form.words}{digits}; see --help")
+    return form, words[1:]
 
 
 def diagnosed(words, use):
-    """Returns what `use` makes of the files of a call. The words of `decide` are a specification, a view and two labels."""
-    hexes = words[3:] if words[0] == DECIDE else []
-    if hexes and (len(hexes) != 2 or not all(HEX.fullmatch(word) for word in hexes)):
-        raise terminal.Wrong(f"the words behind {DECIDE} are not SPEC VIEW HEX HEX, with two hexadecimal digits for each byte; see --help")
+    """Returns what `use` makes of the files of a call."""
+    form, words = form_of(words)
     with tempfile.TemporaryDirectory() as folder:
-        return use(Files(words[1:3] if hexes else words, folder, hexes))
+        return use(Files(form, words, folder))

@@ -32,9 +32,9 @@ def of_deps(text, parts):
         yield from of_members(text, part.node, forms.DEPS, f"part {number} of `deps`")
 
 
-def of_spec(text, parts):
-    """Yields what is to be said of the members of a specification, whether it is accepted or not."""
-    yield from of_members(text, parts.node, forms.SPEC, "the specification")
+def of_spec(text, parts, known=forms.SPEC, owner="the specification"):
+    """Yields what is to be said of the members of a specification, or of a file with one, whether it is accepted or not."""
+    yield from of_members(text, parts.node, known, owner)
     for part in parts.modules:
         missing = [side for side, ports in (("inputs", part.inputs), ("outputs", part.outputs)) if not ports]
         effect = f", and the module has no {' and no '.join(missing)}" if missing else ""
@@ -62,15 +62,22 @@ def of_view(text, parts):
     effect = ", and the view expands every composite module" if parts.expand is None else ""
     members = {key.value: key for key, _ in parts.node.value}
     if "modules" in members and "expand" not in members:
-        what = "this is a specification, and a view belongs here. As a view it expands every composite module. The words are SPEC VIEW, in this order."
+        kind = "a package" if "package" in members else "a specification"
+        what = f"this is {kind}, and a view belongs here. As a view it expands every composite module. The words are SPEC VIEW, in this order."
         yield Doubt(what, members["modules"], text)
         return
     yield from of_members(text, parts.node, forms.VIEW, "the view", effect)
     yield from of_deps(text, parts.deps)
 
 
+def of_package(package):
+    """Yields what is to be said of a package."""
+    yield from of_spec(package.text, package.parts, forms.PACKAGE, "the package")
+    yield from of_unused(package.text, package.grammar)
+
+
 def of_shown(text, assignment):
-    """Yields what is to be said of what a safe view names and gives."""
+    """Yields what is to be said of what a safe view names."""
     view, grammar = assignment.view, assignment.grammar
     named = [(node, "`expand` names") for node in view.parts.expand or []]
     named += [(part.module, f"part {number} of `deps` gives pairs to") for number, part in enumerate(view.parts.deps)]
@@ -79,7 +86,6 @@ def of_shown(text, assignment):
             around = sorted({production.head for production in grammar.productions if node.value in production.body.values()})
             where = f"it stands in bodies of {listed(around)} alone, and the view shows none of these open" if around else "it stands in no body"
             yield Doubt(f"{what} {quoted(node.value)}, which the view never shows: {where}.", node, text)
-    yield from of_pairs(text, view)
 
 
 def default_view(grammar):
@@ -101,6 +107,29 @@ def of_pairs(text, view):
             told = f"the pair{'s' * (len(missing) > 1)} {listed([f'{first}>{second}' for first, second in missing])}"
             what = f"the view does not give {quoted(module.name)} {told}, which {who}."
             yield Doubt(f"{what} Where an answer rests on one of them, it is `no`.", part.module, text)
+
+
+def of_automaton(text, parts):
+    """Yields what is to be said of the members of an automaton, whether it is accepted or not."""
+    yield from of_members(text, parts.node, forms.AUTO, "the automaton")
+
+
+def of_states(text, auto, view):
+    """Yields what is to be said of an automaton of which no state that accepts can be reached under a view, or no other."""
+    passed = view.seen - view.expanded
+    reached = auto.reached(passed)
+    lost = [move for move in auto.parts.moves if move.state in reached and move.after not in reached]
+    names = list(dict.fromkeys(move.name for move in lost))
+    how = "opens" if view.seen >= set(names) else "opens or never shows" if view.seen & set(names) else "never shows"
+    moves = "this move is" if len(lost) == 1 else "these moves are"
+    why = f" No path passes {listed(names)}, which the view {how}, so {moves} never made." if names else ""
+    if not auto.accept:
+        yield Doubt("no state accepts, so no question is answered `yes`. List the states that accept in `accept`.", auto.parts.node, text)
+    elif not auto.accept & reached:
+        node = lost[0].node if lost else auto.parts.accept[0][0]
+        yield Doubt(f"no state of `accept` is ever reached, so no question is answered `yes`.{why}", node, text)
+    elif lost and auto.accept >= reached and not auto.accept >= auto.reached(view.grammar.modules):
+        yield Doubt(f"each state that is ever reached accepts, so `words` answers as `ask` does.{why}", lost[0].node, text)
 
 
 def made_at(run, name, port):

@@ -1,4 +1,4 @@
-"""What JSON values SPEC, VIEW and a line of EVENTS are, as docs/FORMATS.md lists their members.
+"""What JSON values SPEC, VIEW and a line of EVENTS are, as docs/FORMATS.md lists their members, and what other forms take of them.
 
 A part keeps the nodes of its names, so that a rule can say where it is broken. A value of another form is the fault `WrongShape`, with
 the member of the table that it stands in.
@@ -13,6 +13,7 @@ from diagnosis.files import Span
 # The members that a form knows.
 MODULE, PRODUCTION, DEPS = ("name", "in", "out"), ("head", "body", "edges", "in", "out"), ("module", "pairs")
 SPEC, VIEW = ("start", "modules", "productions", "deps", "versions"), ("expand", "deps")
+AUTO, PACKAGE = ("states", "start", "accept", "moves"), ("package", "start", "modules", "productions", "deps", "loops")
 WRITTEN = {"object": "an object", "list": "a list", "text": "a text", "number": "a whole number"}
 # The forms of the lists, by the members that they are, and a member that the objects of such a list have.
 ITEMS = {
@@ -20,10 +21,15 @@ ITEMS = {
     "productions": '[{"head":"MODULE","body":[["POSITION","MODULE"]]},..]',
     "deps": '[{"module":"MODULE","pairs":[["INPUT","OUTPUT"],..]},..]',
     "versions": "[[9,3],..]",
+    "accept": "[0,..]",
+    "moves": '[[0,"MODULE",1],..]',
+    "loops": '[["MODULE",0,1],..]',
     "body": '[["POSITION","MODULE"],..]',
     "edges": '[["POSITION.OUTPUT","POSITION.INPUT"],..]',
     "pairs": '[["INPUT","OUTPUT"],..]',
 }
+# The kinds of the items of a list of three, by the member that is a list of such lists.
+ROWS = {"moves": ("number", "text", "number"), "loops": ("text", "number", "number")}
 OBJECTS = {"modules": "name", "productions": "head", "deps": "module"}
 # The members that an object has which lacks a member, by its name.
 FORMS = {"name": MODULE, "head": PRODUCTION, "body": PRODUCTION, "module": DEPS, "pairs": DEPS, "start": SPEC, "modules": SPEC}
@@ -38,10 +44,11 @@ HOW = {
 
 
 class Shape:
-    """Takes values of the forms that are wanted, in one member of the table, and refuses others by that member."""
+    """Takes values of the forms that are wanted, in one member of the table, and refuses others by that member. `known` has the members of
+    an object whose form is none of those above."""
 
-    def __init__(self, member):
-        self.member = member
+    def __init__(self, member, known=()):
+        self.member, self.known = member, known
 
     def wrong(self, node, what, mend):
         return Fault("WrongShape" if self.member is None else f"WrongShape {self.member}", what, mend, node)
@@ -56,7 +63,7 @@ class Shape:
         """Returns a member that has to be there."""
         found = node.member(name)
         if found is None:
-            owner, like = f"`{place}`" if place else "The file", like_member(node, name)
+            owner, like = f"`{place}`" if place else "The file", like_member(node, name, self.known or FORMS.get(name, ()))
             what = f"{owner} has no member `{name}`, which is {WRITTEN[kind]}.{f' It has a member `{like}`: is that the one?' if like else ''}"
             mend = f"Write `{name}` in the place of `{like}`, or add" if like else "Add"
             raise self.wrong(Span(node.at, node.at + 1), what, f"{mend} a member `{name}`. docs/FORMATS.md has an example of each.")
@@ -66,20 +73,34 @@ class Shape:
         """Returns the items of a member that is a list, with their places; there are none where the member is not there."""
         found, place = node.member(name), f"{place}.{name}" if place else name
         parts = [] if found is None else self.take(found, "list", place).value
-        if kind == "list" and len(parts) == 2 and all(part.kind in ("text", "number") and not TWO_WORDS.fullmatch(part.value) for part in parts):
-            what = f"`{place}` is a list of two {WRITTEN[parts[0].kind].split()[-1]}s, and a list of such lists belongs there."
-            raise self.wrong(parts[0], what, f"Put a list around it: `[{as_pair(parts)}]`.")
+        if kind == "list" and is_row(name, parts):
+            held = "three" if name in ROWS else f"two {WRITTEN[parts[0].kind].split()[-1]}s"
+            what = f"`{place}` is a list of {held}, and a list of such lists belongs there."
+            raise self.wrong(parts[0], what, f"Put a list around it: `[{as_row(parts)}]`.")
         return [(self.take(part, kind, f"{place}[{k}]"), f"{place}[{k}]") for k, part in enumerate(parts)]
 
     def texts(self, node, name, place):
         return [part for part, _ in self.items(node, name, "text", place)]
 
+    def row(self, node, kinds, place):
+        """Returns the items of a list that has one of each of these kinds, in order."""
+        if len(node.value) != len(kinds):
+            number, more = ("two", "pairs") if len(kinds) == 2 else ("three", "ones")
+            what = f"`{place}` is a list of {len(node.value)}, and a list of {number} belongs there."
+            raise self.wrong(node, what, f"Write exactly {number} parts; further {more} are lists of their own, with commas between.")
+        return [self.take(part, kind, f"{place}[{k}]") for k, (part, kind) in enumerate(zip(node.value, kinds))]
+
     def two(self, node, kind, place):
         """Returns the two items of a list of two."""
-        if len(node.value) != 2:
-            what = f"`{place}` is a list of {len(node.value)}, and a list of two belongs there."
-            raise self.wrong(node, what, "Write exactly two parts; further pairs are lists of their own, with commas between.")
-        return [self.take(part, kind, f"{place}[{k}]") for k, part in enumerate(node.value)]
+        return self.row(node, (kind, kind), place)
+
+    def number(self, node, place):
+        """Returns the whole number that a node is."""
+        found = self.take(node, "number", place).whole()
+        if found is None:
+            what = f"`{place}` is `{node.value}`, and a whole number without sign, fraction or exponent belongs there."
+            raise self.wrong(node, what, HOW["number"])
+        return found
 
     def pairs(self, node, name, place):
         """Returns the two texts of each item of a list, each with the item and its place."""
@@ -96,8 +117,15 @@ class Shape:
         return End(node)
 
 
-def as_pair(parts):
-    """Returns the list of two texts or numbers, as it is written."""
+def is_row(member, parts):
+    """Whether the items of a list are those of one list of two or three, which belongs into a list."""
+    if member in ROWS:
+        return tuple(part.kind for part in parts) == ROWS[member]
+    return len(parts) == 2 and all(part.kind in ("text", "number") and not TWO_WORDS.fullmatch(part.value) for part in parts)
+
+
+def as_row(parts):
+    """Returns the list of some texts or numbers, as it is written."""
     return f"[{','.join(part.value if part.kind == 'number' else json.dumps(part.value) for part in parts)}]"
 
 
@@ -118,16 +146,20 @@ def in_its_place(node, kind, place):
         return f"Write a list there, of the form `{as_list(node, member)}`."
     if kind == "text" and node.kind in ("number", "word"):
         return f'Put it between double quotes: `"{node.value}"`.'
+    if kind == "number" and node.kind == "text" and node.value.isdecimal():
+        return f"Write it without quotes: `{node.value}`."
+    if kind == "list" and node.kind == "number" and member == "accept":
+        return f"Put it into a list: `[{node.value}]`."
     return HOW[kind]
 
 
 def text_as_list(value, member, item):
     """Returns what to write in place of a text, where a list belongs: a pair, in a list of pairs, or names."""
     two, names = TWO_WORDS.fullmatch(value), re.split(r"[\s,;]+", value.strip())
-    if item and two:
+    if item and two and member not in ROWS:
         return f"Write a list of two texts there: `{json.dumps(two.groups(), separators=(',', ':'))}`."
     if item and member in ITEMS:
-        return f"Write a list of two there, as in `{ITEMS[member]}`."
+        return f"Write a list of {'three' if member in ROWS else 'two'} there, as in `{ITEMS[member]}`."
     if member in ITEMS:
         return f"Write a list there, of the form `{ITEMS[member]}`."
     return f"Put {'it' if len(names) == 1 else 'them'} into a list: `{json.dumps(names, separators=(',', ':'))}`."
@@ -148,10 +180,10 @@ def as_list(node, member):
     return ITEMS.get(member, '["NAME",..]')
 
 
-def like_member(node, name):
-    """Returns the name of a member that may be meant as one that is missing: one that no form knows there, or a near one; or nothing."""
-    unknown = [key.value[:64] for key, _ in node.value if name in FORMS and key.value not in FORMS[name]]
-    close = difflib.get_close_matches(name, unknown or [key.value[:64] for key, _ in node.value], 1, 0.5)
+def like_member(node, name, known):
+    """Returns the name of a member that may be meant as one that is missing: one that the form does not know, or a near one; or nothing."""
+    unknown = [key.value[:64] for key, _ in node.value if key.value not in known]
+    close = difflib.get_close_matches(name, unknown, 1, 0.5)
     return close[0] if close else unknown[0] if len(unknown) == 1 else ""
 
 
@@ -194,15 +226,7 @@ class DepsPart:
 class VersionPart:
     def __init__(self, shape, node, place):
         self.node = node
-        self.modules, self.productions = (self.number(shape, part, place, k) for k, part in enumerate(shape.two(node, "number", place)))
-
-    @staticmethod
-    def number(shape, node, place, k):
-        found = node.whole()
-        if found is None:
-            what = f"`{place}[{k}]` is `{node.value}`, and a whole number without sign, fraction or exponent belongs there."
-            raise shape.wrong(node, what, HOW["number"])
-        return found
+        self.modules, self.productions = (shape.number(part, f"{place}[{k}]") for k, part in enumerate(shape.two(node, "number", place)))
 
 
 def top(node, what):
@@ -220,11 +244,11 @@ def names_of(nodes):
     return json.dumps([node.value for node in nodes], separators=(",", ":")) if len(nodes) <= 8 else "[..]"
 
 
-class SpecParts:
-    """The parts of a specification."""
+class GrammarParts:
+    """The parts of a specification but for its versions, of which there are none here."""
 
     def __init__(self, node):
-        self.node = top(node, "a specification")
+        self.node, self.versions = node, []
         self.start = Shape("start").member_of(node, "start", "text", "")
         shape = Shape("modules")
         shape.member_of(node, "modules", "list", "")
@@ -232,6 +256,13 @@ class SpecParts:
         shape = Shape("productions")
         self.productions = [ProductionPart(shape, part, at) for part, at in shape.items(node, "productions", "object", "")]
         self.deps = deps_of(node)
+
+
+class SpecParts(GrammarParts):
+    """The parts of a specification."""
+
+    def __init__(self, node):
+        super().__init__(top(node, "a specification"))
         shape = Shape("versions")
         self.versions = [VersionPart(shape, part, at) for part, at in shape.items(node, "versions", "list", "")]
 

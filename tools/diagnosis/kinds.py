@@ -7,8 +7,15 @@ from diagnosis.faults import Fault
 
 # How many bytes of a file are looked at.
 READ = 65536
-CALLED = {"spec": "a specification", "view": "a view", "events": "a file of events", "labels": "a label file", "queries": "a file of queries"}
-CALL = "The words are SPEC VIEW EVENTS QUERIES, in this order, and LABELS may stand in the place of EVENTS."
+CALLED = {
+    "spec": "a specification",
+    "view": "a view",
+    "events": "a file of events",
+    "labels": "a label file",
+    "queries": "a file of queries",
+    "auto": "an automaton",
+    "package": "a package",
+}
 # Beginnings that tell how a file was packed or saved, each with what it is and what mends it.
 BEGINNINGS = (
     (b"\x1f\x8b", "the file is packed by gzip", "Unpack it: `gzip -dc FILE > UNPACKED`. A pipe from `gzip -dc` may stand for the file, too."),
@@ -25,10 +32,12 @@ BEGINNINGS = (
     (b"57464c31", "this is a label file in hexadecimal digits", "Turn it back: `xxd -r -p FILE > LABELS`."),
     (b"00000000  57 46 4c 31", "this is a label file as hexdump shows it to a reader", "Make it again by `ingest`."),
 )
-# How SPEC and VIEW begin, where they are written in another way than JSON.
+# How the files begin that are one object of JSON, where they are written in another way.
 JSON = {
-    "spec": '`{"start":"S","modules":[{"name":"S","in":["a"],"out":["b"]}],"productions":[]}`, as docs/FORMATS.md says',
-    "view": '`{"expand":["A","B"]}`, with the names of the modules to be expanded',
+    "spec": 'Write it as JSON: `{"start":"S","modules":[{"name":"S","in":["a"],"out":["b"]}],"productions":[]}`, as docs/FORMATS.md says.',
+    "view": 'Write it as JSON: `{"expand":["A","B"]}`, with the names of the modules to be expanded.',
+    "auto": 'Write it as JSON: `{"states":2,"start":0,"accept":[1],"moves":[[0,"A",1]]}`. `tools/automaton.py` makes it of an expression.',
+    "package": "Make it by `wfprov package SPEC VIEW`.",
 }
 QUERY = re.compile(rb"[\w-]{1,64}\.[\w-]{1,64} [\w-]{1,64}\.[\w-]{1,64}\r?(\n|$)")
 
@@ -50,7 +59,9 @@ def kind_of(data):
     if re.match(rb'\s*\{\s*"(?:start"\s*:\s*"[^"]*"\s*\}|expand"\s*:\s*"[^"]*"\s*,\s*"(?:production|names)"\s*:)', data):
         return "events"
     if re.match(rb"\s*\{", data) and b'"modules"' in data:
-        return "spec"
+        return "package" if re.search(rb'"package"\s*:', data) else "spec"
+    if re.match(rb"\s*\{", data) and re.search(rb'"states"\s*:', data):
+        return "auto"
     return "view" if is_view(data) else ""
 
 
@@ -64,15 +75,17 @@ def is_view(data):
 
 def concerns(fault):
     """Whether a fault is one that a file of another kind has: it is not read further than its form."""
-    first = fault.where in ("spec", "view", "labels") or fault.where.endswith(" line 1")
-    return first and fault.kind.split(" ")[0] in ("NotJson", "WrongShape", "LineWrong", "NotLabels")
+    first = not fault.where.startswith(("events", "queries")) or fault.where.endswith(" line 1")
+    return first and fault.kind.split(" ")[0] in ("NotJson", "WrongShape", "LineWrong", "NotLabels", "NotPackage")
 
 
-def better(fault, path):
-    """Returns a fault of a file, or the same one in other words where the file is packed, empty, or one of another kind."""
+def better(fault, path, words):
+    """Returns a fault of a file, or the same one in other words where the file is packed, empty, or one of another kind. `words` says which
+    files belong where."""
     if not concerns(fault):
         return fault
     data, where = begins(path), fault.where.split(" ")[0]
+    where = "view" if where == "coarse" else where
     if data is None:
         return fault
     if not data.strip():
@@ -83,17 +96,17 @@ def better(fault, path):
             return said(fault, what, mend)
     kind = kind_of(data)
     if kind and kind != where:
-        return said(fault, f"this is {CALLED[kind]}, and {CALLED[where]} belongs here", f"Give the file that belongs here. {CALL}")
+        return said(fault, f"this is {CALLED[kind]}, and {CALLED[where]} belongs here", f"Give the file that belongs here. {words}")
     return of_bytes(fault, data, where)
 
 
 def of_bytes(fault, data, where):
-    """Returns a fault, or the same one in other words where the file is no text, or SPEC or VIEW in another form than JSON."""
+    """Returns a fault, or the same one in other words where the file is no text, or is written in another form than JSON."""
     if b"\0" in data and where == "events":
         what = "the file is no text, and it does not begin with the letters `WFL1`, as a label file does"
         return said(fault, what, "If it is a label file, its first bytes were changed: make it again by `ingest`, and copy it as bytes.")
-    if where in JSON and fault.kind == "NotJson" and re.match(rb"\s*[A-Za-z_-]+\s*:", data):
-        return said(fault, "the file is no JSON: an object of JSON begins with `{`", f"Write it as JSON: {JSON[where]}.")
+    if where in JSON and fault.kind == "NotJson" and (re.match(rb"\s*[A-Za-z_-]+\s*:", data) or where == "auto" and not re.match(rb"\s*[\[{\"]", data)):
+        return said(fault, "the file is no JSON: an object of JSON begins with `{`", JSON[where])
     return fault
 
 

@@ -1,6 +1,7 @@
 """Which inputs of a module its expansions join to which outputs, and whether a view is safe."""
 from diagnosis.faults import Fault
 from diagnosis.pictures import both_expansions
+from diagnosis.views import node_of, written_expand, written_pairs
 from diagnosis.words import quoted
 
 
@@ -48,7 +49,7 @@ class Assignment:
             self.put(name, joined(self.grammar.chosen[name], self.rows))
 
     def put(self, name, pairs):
-        self.pairs[name], self.rows[name] = pairs, by_input(pairs)
+        self.pairs[name], self.rows[name] = pairs, by_input(self.grammar.modules[name].in_order(pairs))
 
     def disagreement(self):
         """Returns the first production that does not join the pairs of its head, and what it joins, or None."""
@@ -72,40 +73,60 @@ def is_safe(view):
     assignment = Assignment(view)
     found = assignment.disagreement()
     if found:
-        raise unsafe(assignment, *found)
+        raise unsafe(Witness(assignment, *found))
     return assignment
 
 
-def unsafe(assignment, other, found):
-    grammar, view = assignment.grammar, assignment.view
-    module = grammar.modules[other.head]
-    held = assignment.pairs[other.head]
-    pair = next(pair for pair in module.in_order(module.all_pairs()) if (pair in held) != (pair in found))
-    one = grammar.chosen[other.head]
-    opened = [name for name in grammar.modules if name in view.seen and name in view.expanded]
-    choice = "".join(f" {name}={grammar.chosen[name].number}" for name in opened)
-    side = "one" if pair in held else "other"
-    joins, parts_with = (one, other) if pair in held else (other, one)
+class Witness:
+    """Two expansions of a module that disagree about a pair: one as chosen, and another that begins with a production that joins other pairs.
+    `is_joined` says whether the one joins the pair."""
+
+    def __init__(self, assignment, other, found):
+        self.assignment, self.other = assignment, other
+        self.module, held = assignment.grammar.modules[other.head], assignment.pairs[other.head]
+        self.one = assignment.grammar.chosen[other.head]
+        self.pair = next(pair for pair in self.module.in_order(self.module.all_pairs()) if (pair in held) != (pair in found))
+        self.is_joined = self.pair in held
+
+    def kind(self, spelled=str):
+        """Returns what the program prints of the two. `spelled` returns how it spells a port."""
+        grammar, view = self.assignment.grammar, self.assignment.view
+        ports = "input {} output {}".format(*map(spelled, self.pair))
+        opened = [name for name in grammar.modules if name in view.seen and name in view.expanded]
+        choice = "".join(f" {name}={grammar.chosen[name].number}" for name in opened)
+        side = "one" if self.is_joined else "other"
+        return f"Unsafe module {self.module.name} one {self.one.number} other {self.other.number} {ports} joined {side} choice{choice}"
+
+    def ways(self):
+        """Returns the numbers of the production that joins the pair, and of the one that does not."""
+        return (self.one.number, self.other.number) if self.is_joined else (self.other.number, self.one.number)
+
+    def picture(self):
+        return both_expansions(self.assignment, self.one, self.other, self.pair)
+
+
+def unsafe(witness):
+    """Returns the fault of a view that is not safe."""
+    (joins, parts_with), (first, second), name = witness.ways(), map(quoted, witness.pair), witness.module.name
     return Fault(
-        f"Unsafe module {other.head} one {one.number} other {other.number} input {pair[0]} output {pair[1]} joined {side} choice{choice}",
-        f"the view opens {quoted(other.head)}, and two ways to do it disagree: production {joins.number} joins the input {quoted(pair[0])} to the"
-        f" output {quoted(pair[1])}, and production {parts_with.number} does not. So a question about them would have no one answer.",
-        mend(assignment, module, pair),
-        node_of(view, other.head),
-        both_expansions(assignment, one, other, pair),
+        witness.kind(),
+        f"the view opens {quoted(name)}, and two ways to do it disagree: production {joins} joins the input {first} to the output {second}, and"
+        f" production {parts_with} does not. So a question about them would have no one answer.",
+        mend(witness.assignment, witness.module, witness.pair),
+        node_of(witness.assignment.view, name),
+        witness.picture(),
     )
 
 
 def mend(assignment, module, pair):
     """Returns how a view that is not safe is mended."""
     grammar, view = assignment.grammar, assignment.view
-    expand = [f'"{name}"' for name in grammar.modules if name in view.expanded and name != module.name]
-    may = module.in_order(possible_pairs(grammar, view)[module.name])
-    pairs = ",".join(f'["{first}","{second}"]' for first, second in may)
+    expand = written_expand(grammar, view.expanded - {module.name})
+    pairs = written_pairs(module, possible_pairs(grammar, view)[module.name])
     return (
-        f"Leave {quoted(module.name)} closed, and give it the pairs that one or the other of its expansions has: `\"expand\":[{','.join(expand)}]`"
-        f" and, in `deps`, `{{\"module\":\"{module.name}\",\"pairs\":[{pairs}]}}`. Then `yes` says that some expansion joins the two. Or change the"
-        f" pairs of the modules inside, so that both ways agree on {quoted(pair[0])} and {quoted(pair[1])}."
+        f"Leave {quoted(module.name)} closed, and give it the pairs that one or the other of its expansions has: `{expand}` and, in `deps`,"
+        f" `{pairs}`. Then `yes` says that some expansion joins the two. Or change the pairs of the modules inside, so that both ways agree on"
+        f" {quoted(pair[0])} and {quoted(pair[1])}."
     )
 
 
@@ -124,8 +145,3 @@ def possible_pairs(grammar, view):
                 pairs[production.head] = pairs[production.head] | found
                 changed = True
     return pairs
-
-
-def node_of(view, name):
-    """Returns where a view opens a module: its name in `expand`, or the view where it opens all."""
-    return next((node for node in view.parts.expand or [] if node.value == name), view.parts.node)

@@ -1,14 +1,15 @@
 """Two expansions that disagree, as text: each as a tree of steps, with the way that data take through it."""
 from diagnosis.words import quoted
 
-# How many lines of a tree are shown.
-LINES = 40
+# How many lines of a tree are shown, and how many pairs of a module.
+LINES, PAIRS = 40, 24
 
 
 def step_line(assignment, position, name, inner, again):
     """Returns what stands at a position: the module, how it is done, and its pairs."""
     module = assignment.grammar.modules[name]
-    pairs = " ".join(f"{first}>{second}" for first, second in module.in_order(assignment.pairs[name])) or "no pairs"
+    held = [f"{first}>{second}" for first, second in module.in_order(assignment.pairs[name])]
+    pairs = " ".join([*held[:PAIRS], *([f"and {len(held) - PAIRS} more"] if len(held) > PAIRS else [])]) or "no pairs"
     how = f" by production {inner.number}" if inner else ""
     return f"{position}: {name}{how} ({pairs}{', its inside as above' if again else ''})"
 

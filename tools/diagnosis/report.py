@@ -2,14 +2,23 @@
 import textwrap
 
 import terminal
+import two_views
+from diagnosis.words import quoted
+from two_views import sentence
 
 WIDTH = 110
-WHERE = {"spec": "specification", "view": "view", "labels": "label file", "label": "label", "events": "events", "queries": "queries"}
-
-
-def sentence(text):
-    """Returns a sentence with a great first letter."""
-    return text[:1].upper() + text[1:]
+WHERE = {
+    "spec": "specification",
+    "view": "view",
+    "coarse": "second view",
+    "auto": "automaton",
+    "package": "package",
+    "labels": "label file",
+    "label": "label",
+    "events": "events",
+    "queries": "queries",
+}
+VIEWS = two_views.Called("the second view", "under the second view", "the first view", "under the first view")
 
 
 def place(text, node):
@@ -63,8 +72,21 @@ def of_doubts(doubts, refused):
     return lines
 
 
-def of_difference(fault, said):
-    """Returns the lines where the program and this tool find different faults."""
-    own = fault.message() if fault else "that nothing is wrong"
+def of_views(beside, answer):
+    """Returns the lines on what `compare` answers of two views, without or with a run that shows it."""
+    meaning = " ".join(two_views.meaning(answer, VIEWS, quoted)).rstrip()
+    if not two_views.denies(answer):
+        return ["", *wrapped(meaning)]
+    _, module, _, _, *instance = answer[0].split(" ")
+    node = beside.node(module)
+    lines = ["", *wrapped(f"{place(beside.text, node)}: {meaning}" if node else meaning), *(excerpt(beside.text, node)[:-1] if node else [])]
+    if instance:
+        shows = f"The lines behind the first that `compare` writes are the events of a run in which {quoted(instance[0])} is a step of {quoted(module)}."
+        lines += ["", *wrapped(shows)]
+    return [*lines, "", *wrapped(f"To mend it: {beside.mend()}")]
+
+
+def of_difference(own, said):
+    """Returns the lines where the program says something, or nothing, and this tool finds something else, or nothing."""
     end = "The program decides; please report that this tool differs."
-    return wrapped(f"The program says: {said or 'nothing, and accepts the files'}. This tool finds: {own}. {end}")
+    return wrapped(f"The program says: {said or 'nothing, and accepts the files'}. This tool finds: {own or 'that nothing is wrong'}. {end}")

@@ -1,4 +1,6 @@
-"""The rules on a view, and what it opens and gives."""
+"""The rules on a view, what it opens and gives, and how that is written."""
+import json
+
 from diagnosis.faults import Fault
 from diagnosis.links import pairs_are_known
 from diagnosis.words import listed, near, quoted
@@ -94,3 +96,19 @@ def view_of(grammar, parts):
     for rule in RULES:
         rule(grammar, parts)
     return View(grammar, parts)
+
+
+def node_of(view, name):
+    """Returns where a view opens a module: its name in `expand`, or the view where it opens all."""
+    return next((node for node in view.parts.expand or [] if node.value == name), view.parts.node)
+
+
+def written_expand(grammar, names):
+    """Returns the member by which a view opens modules, as it is written."""
+    opened = json.dumps([name for name in grammar.modules if name in names], separators=(",", ":"))
+    return f'"expand":{opened}'
+
+
+def written_pairs(module, pairs):
+    """Returns the part of `deps` that gives a module pairs, as it is written."""
+    return json.dumps({"module": module.name, "pairs": module.in_order(pairs)}, separators=(",", ":"))

@@ -260,6 +260,141 @@ DECIDE_CASES = {
     "malformed": ({"spec": LINE, "view": b"{}", "hexes": ("20", "b1")}, "refused: label 2: Malformed"),
     "malformed-empty": ({"spec": LINE, "view": b"{}", "hexes": ("", "b0")}, "refused: label 1: Malformed"),
 }
+
+
+def beside(fine, coarse, of="phylogeny"):
+    return {"spec": example(of, "spec"), "view": fine.encode(), "coarse": coarse.encode()}
+
+
+MAIN, FEWER = '{"expand":["Main"]}', '{"expand":["Main"],"deps":[{"module":"Refine","pairs":[["m","r"],["m","q"]]}]}'
+# Of two views that are accepted the message is the answer of `compare`, without the instance and the events of a run.
+COARSE_CASES = {
+    "coarse-no-json": (beside("{}", '{"expand":["Main"}'), "refused: coarse: NotJson"),
+    "coarse-expand": (beside("{}", '{"expand":"Main"}'), "refused: coarse: WrongShape expand"),
+    "coarse-unknown-module": (beside("{}", '{"expand":["Main","Refined"]}'), "refused: coarse: UnknownModule expand 1"),
+    "coarse-unsafe": (
+        beside('{"expand":["S"]}', "{}", "skewed"),
+        "refused: coarse: Unsafe module L one 2 other 1 input x1 output y1 joined one choice S=0 L=2",
+    ),
+    "coarse-absent": ({"spec": LINE, "view": b"{}", "coarse": None}, "fault: reading coarse"),
+    "coarse-events": ({"spec": LINE, "view": b"{}", "coarse": EVENTS}, "refused: coarse: NotJson"),
+    "not-coarser": (beside(MAIN, "{}"), "refused: coarse: NotCoarser Refine"),
+    "not-coarser-apart": (beside('{"expand":["Main","Build"]}', '{"expand":["Main","Refine"]}'), "refused: coarse: NotCoarser Refine"),
+    "not-coarser-unseen": (beside('{"expand":[]}', '{"expand":["Build","Refine"]}'), "refused: coarse: NotCoarser Refine"),
+    "denied": (beside("{}", FEWER), "no Refine c q"),
+    "denied-atomic": (beside("{}", '{"deps":[{"module":"P","pairs":[]}]}', "line"), "no P x y"),
+    "denied-by-specification": (
+        {**made(deps=lambda _: [{"module": "P", "pairs": []}]), "view": b'{"deps":[{"module":"P","pairs":[["x","y"]]}]}', "coarse": b"{}"},
+        "no P x y",
+    ),
+    "extra": (beside("{}", MAIN), "yes extra Refine c r"),
+    "exact": (beside("{}", "{}"), "yes exact"),
+}
+
+
+def crossed(head, modules):
+    """Returns a production of modules with two inputs and two outputs each, one behind the other."""
+    steps = [f"p{k}" for k in range(len(modules))]
+    edges = [[f"{a}.o{k}", f"{b}.i{k}"] for a, b in zip(steps, steps[1:]) for k in (0, 1)]
+    ends = [[f"i{k}", f"p0.i{k}"] for k in (0, 1)], [[f"{steps[-1]}.o{k}", f"o{k}"] for k in (0, 1)]
+    return production(head, zip(steps, modules), edges, *ends)
+
+
+def packed(hexes=("20", "60"), **changes):
+    """Returns the package of examples/twisting and its default view, with other members."""
+    value = {
+        "package": 1,
+        "start": "m0",
+        "modules": [module(f"m{k}", "i0 i1", "o0 o1") for k in range(4)],
+        "productions": [crossed("m0", ["m1"]), crossed("m1", ["m2", "m1", "m2"]), crossed("m1", ["m3"])],
+        "deps": [{"module": "m2", "pairs": [["i0", "o1"], ["i1", "o0"]]}, {"module": "m3", "pairs": [["i0", "o0"], ["i1", "o1"]]}],
+        "loops": [["m1", 1, 1]],
+    }
+    value.update(changes)
+    data = json.dumps({name: part for name, part in value.items() if part is not None}, separators=(",", ":"))
+    return {"package": data.encode() + b"\n", "hexes": hexes}
+
+
+SKEWED = [crossed("m0", ["m1"]), crossed("m1", ["m2", "m1"]), crossed("m1", ["m3"])]
+PACKAGE_CASES = {
+    "package-too-long": ({"package": 134217729, "hexes": ("20", "60")}, "refused: package: TooLong"),
+    "package-no-json": ({"package": packed()["package"][:100], "hexes": ("20", "60")}, "refused: package: NotJson"),
+    "package-top": ({"package": b"[]", "hexes": ("20", "60")}, "refused: package: NotPackage"),
+    "package-specification": ({"package": LINE, "hexes": ("20", "60")}, "refused: package: NotPackage"),
+    "package-mark": (packed(package=2), "refused: package: NotPackage"),
+    "package-start": (packed(start=0), "refused: package: NotPackage"),
+    "package-deps": (packed(deps=None), "refused: package: NotPackage"),
+    "package-modules": (packed(modules=[{"name": "m0", "in": "i0"}]), "refused: package: NotPackage"),
+    "package-loops": (packed(loops=["m1", 1, 1]), "refused: package: NotPackage"),
+    "package-loop": (packed(loops=[["m1", 1]]), "refused: package: NotPackage"),
+    "package-loop-number": (packed(loops=[["m1", 1, -1]]), "refused: package: NotPackage"),
+    "bad-package-grammar": (packed(start="m9"), "refused: package: BadPackage"),
+    "bad-package-unsafe": (packed(productions=SKEWED), "refused: package: BadPackage"),
+    "bad-package-no-module": (packed(loops=[["m1", 1, 1], ["m7", 0, 0]]), "refused: package: BadPackage"),
+    "bad-package-atomic": (packed(loops=[["m1", 1, 1], ["m2", 0, 0]]), "refused: package: BadPackage"),
+    "bad-package-twice": (packed(loops=[["m1", 1, 1], ["m1", 1, 1]]), "refused: package: BadPackage"),
+    "bad-package-production": (packed(loops=[["m1", 0, 0]]), "refused: package: BadPackage"),
+    "bad-package-position": (packed(loops=[["m1", 1, 3]]), "refused: package: BadPackage"),
+    "bad-package-no-step": (packed(loops=[["m0", 0, 0]]), "refused: package: BadPackage"),
+    "bad-package-no-loop": (packed(loops=[]), "refused: package: BadPackage"),
+    "bad-package-other-loop": (packed(loops=[["m1", 1, 0]]), "refused: package: BadPackage"),
+    "bad-package-endless": (packed(loops=[["m0", 0, 0], ["m1", 1, 1]]), "refused: package: BadPackage"),
+    "package-malformed": (packed(("fb", "f0")), "refused: label 2: Malformed"),
+    "package-malformed-first": (packed(("b0", "")), "refused: label 1: Malformed"),
+    "package-absent": ({"package": None, "hexes": ("20", "60")}, "fault: reading package"),
+    "package-versions": (packed(versions=7), ""),
+    "package-outside": (packed(("20", "ff")), ""),
+}
+
+
+def auto(text, of="phylogeny", **more):
+    return {"spec": example(of, "spec"), "view": example(of, "view"), "auto": text.encode(), **more}
+
+
+def moved(*moves, states=2, accept=(1,), **more):
+    """Returns an automaton with moves."""
+    return json.dumps({"states": states, "start": 0, "accept": accept, "moves": moves, **more}, separators=(",", ":"))
+
+
+LOOP = grammar([module("S"), module("L"), module("P")], chain("S", 1, "L"), chain("L", ["P", "L"]), chain("L", 1))
+PASSES = moved((0, "Score", 1))
+AUTO_CASES = {
+    "auto-too-long": ({**auto(""), "auto": 16777217}, "refused: auto: TooLong"),
+    "auto-no-json": (auto(PASSES[:-1]), "refused: auto: NotJson"),
+    "auto-expression": (auto(".* Score .*"), "refused: auto: NotJson"),
+    "auto-top": (auto("[[0,1]]"), "refused: auto: WrongShape top"),
+    "auto-view": (auto(MAIN), "refused: auto: WrongShape states"),
+    "auto-states": (auto('{"start":0}'), "refused: auto: WrongShape states"),
+    "auto-start": (auto('{"states":1,"start":"0"}'), "refused: auto: WrongShape start"),
+    "auto-accept": (auto('{"states":1,"start":0,"accept":0}'), "refused: auto: WrongShape accept"),
+    "auto-moves": (auto('{"states":2,"start":0,"moves":[0,"Score",1]}'), "refused: auto: WrongShape moves"),
+    "auto-move": (auto('{"states":2,"start":0,"moves":[[0,"Score"]]}'), "refused: auto: WrongShape moves"),
+    "states-bad-none": (auto(moved((0, "Score", 1), states=0)), "refused: auto: StatesBad"),
+    "states-bad-many": (auto(moved((0, "Score", 64), states=65)), "refused: auto: StatesBad"),
+    "state-bad-start": (auto('{"states":1,"start":1}'), "refused: auto: StateBad start"),
+    "state-bad-accept": (auto(moved(accept=[0, 2])), "refused: auto: StateBad accept"),
+    "state-bad-moves": (auto(moved((0, "Score", 1), (1, "Score", 64))), "refused: auto: StateBad moves"),
+    "move-unknown-module": (auto(moved((0, "Align", 1), (1, "Scores", 0))), "refused: auto: UnknownModule move 1"),
+    "move-position": (auto(moved((0, "sc", 1))), "refused: auto: UnknownModule move 0"),
+    "move-twice": (auto(moved((0, "Score", 1), (1, "Score", 0), (0, "Score", 0))), "refused: auto: MoveTwice move 2"),
+    "move-twice-same": (auto(moved((0, "Score", 1), (0, "Score", 1))), "refused: auto: MoveTwice move 1"),
+    "too-many-states": (auto(moved((0, "Score", 1), states=22)), "refused: auto: TooManyStates"),
+    "auto-unsafe": (
+        auto(moved((0, "Realign", 1))),
+        "refused: auto: Unsafe module Refine one 2 other 1 input m state 0 output r state 0 joined one choice Main=0 Refine=2",
+    ),
+    "auto-unsafe-other": (
+        {**LOOP, "view": b"{}", "auto": moved((0, "P", 1), (1, "P", 0)).encode()},
+        "refused: auto: Unsafe module L one 2 other 1 input x state 0 output y state 0 joined other choice S=0 L=2",
+    ),
+    "auto-absent": ({**auto(""), "auto": None}, "fault: reading auto"),
+    "auto-labels": (auto(PASSES, labels=EVENTS), "refused: labels: NotLabels"),
+    "auto-queries": (auto(PASSES, labels=example("phylogeny", "labels"), queries=b"run.cfg run\n"), "refused: queries line 1: LineWrong"),
+    "auto-no-accept": (auto('{"states":2,"start":0,"accepts":[1],"moves":[[0,"Score",1]]}'), ""),
+    "auto-never": (auto(moved((0, "Refine", 1))), ""),
+    "auto-always": (auto(moved((0, "Split", 1), accept=[0])), ""),
+    "auto-nothing": (auto(PASSES, labels=example("phylogeny", "labels"), queries=b"run.cfg run.tree\n"), ""),
+}
 CLOSED = {"expand": ["Main", "Refine"], "deps": [{"module": "Build", "pairs": [["m", "t"]]}]}
 WITH_WARNINGS = {
     "misspelt-edges": (spec('"edges":[["u.y"', '"edge":[["u.y"'), "refused: spec: PortUnlinked production 0"),
@@ -284,17 +419,23 @@ WARNINGS = {
     "module-for-instance": (asked(b"S.a r.b\n"), ""),
     "no-reports": ({"spec": LINE, "view": b"{}", "events": b""}, ""),
 }
-CASES = {**SPEC_CASES, **VIEW_CASES, **RUN_CASES, **LABEL_CASES, **QUERY_CASES, **DECIDE_CASES, **WITH_WARNINGS, **WARNINGS}
+# The cases of which nothing is refused, and nothing is to be said.
+RIGHT = ("nothing", "extra", "exact", "package-outside", "auto-nothing")
+CASES = {
+    **{**SPEC_CASES, **VIEW_CASES, **RUN_CASES, **LABEL_CASES, **QUERY_CASES, **DECIDE_CASES},
+    **{**COARSE_CASES, **PACKAGE_CASES, **AUTO_CASES, **WITH_WARNINGS, **WARNINGS},
+}
 
 
 def write(folder):
-    """Writes the files of each case into a folder of its own. A file that is None is not there, and the words of labels are no file."""
+    """Writes the files of each case into a folder of its own. A file that is None is not there, one that is a number has so many bytes, which
+    are 0, and the words of labels are no file."""
     for name, (files, _) in CASES.items():
         os.makedirs(os.path.join(folder, name), exist_ok=True)
         for file, data in files.items():
-            if isinstance(data, bytes):
+            if isinstance(data, (bytes, int)):
                 with open(os.path.join(folder, name, file), "wb") as held:
-                    held.write(data)
+                    held.truncate(data) if isinstance(data, int) else held.write(data)
 
 
 if __name__ == "__main__":
