@@ -27,10 +27,10 @@ WORKERS = 6
 
 
 class Size:
-    """How many instances stand side by side in the bodies of S, A and B, and how many productions C has."""
+    """How many instances stand side by side in the bodies of S, A and B, or of more levels, and how many productions the last level has."""
 
-    def __init__(self, small):
-        self.widths = [4, 4, 4] if small else [60, 40, 40]
+    def __init__(self, small, widths=None):
+        self.widths = widths or ([4, 4, 4] if small else [60, 40, 40])
         self.productions = 10 if small else 900
 
 
@@ -55,7 +55,7 @@ def wide_body(head, worker, count, split, join, order):
 
 def make_spec(size, draw):
     """The specification. Each body has modules that stand behind its head in the list."""
-    heads = ["S", "A", "B", "C"]
+    heads = ["S", *"ABCDEF"[: len(size.widths)]]
     modules = [{"name": h, "in": ["x"], "out": ["y"]} for h in heads]
     modules.append({"name": "W", "in": ["x"], "out": ["y"]})
     productions = []
@@ -64,7 +64,7 @@ def make_spec(size, draw):
         modules.append(wide_module(split, count, 1))
         modules.append(wide_module(join, count, count))
         worker = heads[level + 1] if level + 1 < len(heads) else "W"
-        for _ in range(1 if level < 3 else size.productions):
+        for _ in range(1 if level < len(size.widths) else size.productions):
             order = list(range(count))
             draw.shuffle(order)
             productions.append(wide_body(heads[level], worker, count, split, join, order))
@@ -86,7 +86,7 @@ def make_events(size, draw, path):
             for name in level_names:
                 names = [f"n{made + k}" for k in range(count + 2)]
                 made += count + 2
-                production = level if level < 3 else 3 + draw.randrange(size.productions)
+                production = level if level < len(size.widths) else level + draw.randrange(size.productions)
                 event = {"expand": name, "production": production, "names": names}
                 out.write(json.dumps(event, separators=(",", ":")) + "\n")
                 lines += 1
