@@ -1,8 +1,8 @@
 -- The items of a list, read one by one.
-use Rattle.std.proofs.Common.{◌≡◌, ◌≤◌, ◌-◌, List, [], ◌∷◌, ◌++◌, length, take, drop, get_or, ap, refl, sym, ◌∙◌, append_assoc, true, nat_eq, arith}
+use Rattle.std.proofs.Common.{◌≡◌, ◌≤◌, ◌-◌, List, [], ◌∷◌, ◌++◌, length, take, drop, get_or, ap, refl, sym, ◌∙◌, append_assoc, append-nil, true, nat_eq, arith}
 use Rattle.std.proofs.lemmas.Bool.Decides.{nat_tests}
 use Rattle.std.specs.Prelude.{Option, Some, None, option_map, option_and_then}
-use Rattle.std.proofs.lemmas.List.{take_all}
+use Rattle.std.proofs.lemmas.List.{take_all, nil_from_length}
 use Rattle.serde_json.specs.Data.{Data}
 use Rattle.serde_json.specs.View.{view, items_view}
 use Rattle.serde_json.specs.declared.value.Value.{Value}
@@ -23,6 +23,37 @@ read_more form all old new x (w ∷ ws) v o so_far inside is of some_x more =
     ∙ item_more old x (items_form form (items_view ws))
     ∙ ap (λ n. option_map (λ ss. n ++ ss) (items_form form (items_view ws))) (sym more)
     ∙ ap (λ l. option_map (λ ss. new ++ ss) (items_form form (items_view l))) (sym (take_all (length (w ∷ ws) - 1) ws (omega arith)))
+
+-- before any item is read
+pub read_none : {A : Type 0} (form : Data → Option A) (all left : List Value) (found : List A) → left ≡ all → found ≡ [] → items_form form (items_view all) ≡ option_map (λ ss. found ++ ss) (items_form form (items_view left))
+read_none form all left found same none =
+    sym (ap (λ l. option_map (λ ss. found ++ ss) (items_form form (items_view l))) same ∙ (ap (λ f. option_map (λ ss. f ++ ss) (items_form form (items_view all))) none ∙ nothing_more (items_form form (items_view all))))
+  where
+    nothing_more : {A : Type 0} (o : Option (List A)) → option_map (λ ss. [] ++ ss) o ≡ o
+    nothing_more None = refl
+    nothing_more (Some xs) = refl
+
+-- one item is read, and then those behind it
+pub read_next : {A : Type 0} (form : Data → Option A) (all : Option (List A)) (old new : List A) (x : A) (left rest : List Value) (v : Value) (o : Option A) → all ≡ option_map (λ ss. old ++ ss) (items_form form (items_view left))
+    → left ≡ v ∷ rest → o ≡ form (view v) → o ≡ Some x → new ≡ old ++ x ∷ [] → all ≡ option_map (λ ss. new ++ ss) (items_form form (items_view rest))
+read_next form all old new x left rest v o so_far is of some_x more =
+    so_far
+    ∙ ap (λ l. option_map (λ ss. old ++ ss) (items_form form (items_view l))) is
+    ∙ ap (λ p. option_map (λ ss. old ++ ss) (option_and_then (λ y. option_map (λ ys. y ∷ ys) (items_form form (items_view rest))) p)) (sym of ∙ some_x)
+    ∙ item_more old x (items_form form (items_view rest))
+    ∙ ap (λ n. option_map (λ ss. n ++ ss) (items_form form (items_view rest))) (sym more)
+
+-- the next item has not the form
+pub not_next : {A : Type 0} (form : Data → Option A) (all : Option (List A)) (old : List A) (left rest : List Value) (v : Value) (o : Option A) → all ≡ option_map (λ ss. old ++ ss) (items_form form (items_view left))
+    → left ≡ v ∷ rest → o ≡ form (view v) → o ≡ None → None ≡ all
+not_next form all old left rest v o so_far is of none =
+    sym (so_far
+    ∙ ap (λ l. option_map (λ ss. old ++ ss) (items_form form (items_view l))) is
+    ∙ ap (λ p. option_map (λ ss. old ++ ss) (option_and_then (λ y. option_map (λ ys. y ∷ ys) (items_form form (items_view rest))) p)) (sym of ∙ none))
+
+-- all items are read
+pub read_all : {A : Type 0} (form : Data → Option A) (all : Option (List A)) (found : List A) (left : List Value) → all ≡ option_map (λ ss. found ++ ss) (items_form form (items_view left)) → length left ≡ 0 → Some found ≡ all
+read_all form all found left so_far none = sym (so_far ∙ ap (λ l. option_map (λ ss. found ++ ss) (items_form form (items_view l))) (nil_from_length left none) ∙ ap Some (append-nil found))
 
 -- what follows the first item
 rest_is : (left rest : List Value) (w : Value) → rest ≡ take (length (w ∷ left) - 1) (drop 1 (w ∷ left)) → rest ≡ left

@@ -7,3 +7,4 @@ pub mod Seen
 pub mod Readings
 pub mod Told
 pub mod Items
+pub mod Others

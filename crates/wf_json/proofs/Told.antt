@@ -1,9 +1,10 @@
 -- What is told of a specification, member by member, and what a production is, part by part.
-use Rattle.std.proofs.Common.{◌≡◌, Bool, true, false, ℕ, List, ap, refl, sym, ◌∙◌, codes, true≢false}
-use Rattle.std.specs.Prelude.{Option, Some, None, is_some, option_map, option_and_then}
+use Rattle.std.proofs.Common.{◌≡◌, Bool, true, false, ℕ, List, [], ap, refl, sym, ◌∙◌, codes, true≢false}
+use Rattle.std.specs.Prelude.{Option, Some, None, is_some, option_map, option_and_then, unwrap_or}
 use Rattle.std.specs.declared.result.Result.{Result}
 use Rattle.std.specs.declared.result.Result.TheVariants.{Ok, Err}
 use Rattle.serde_json.specs.Data.{Data}
+use Rattle.serde_json.specs.Find.{get}
 use Rattle.wf_model.specs.declared.parts.Parts.{Parts}
 use Rattle.wf_model.specs.declared.parts.ModulePart.{ModulePart}
 use Rattle.wf_model.specs.declared.parts.ProdPart.{ProdPart}
@@ -14,9 +15,9 @@ use Rattle.wf_model.specs.declared.parts.ExitPart.{ExitPart}
 use Rattle.wf_json.specs.declared.fault.JsonFault.{JsonFault}
 use Rattle.wf_json.specs.declared.fault.JsonFault.TheVariants.{NotJson, WrongShape, NoMemory}
 use Rattle.wf_json.specs.declared.fault.Member.{Member}
-use Rattle.wf_json.specs.declared.fault.Member.TheVariants.{Start, Modules, Productions}
+use Rattle.wf_json.specs.declared.fault.Member.TheVariants.{Start, Modules, Productions, DepsList, Versions}
 use Rattle.wf_json.specs.Forms.{both, text_form, list_form, member_form, list_member}
-use Rattle.wf_json.specs.SpecForm.{module_form, position_form, edge_form, entry_form, exit_form, production_form}
+use Rattle.wf_json.specs.SpecForm.{module_form, position_form, edge_form, entry_form, exit_form, production_form, deps_form, version_form}
 use Rattle.wf_json.specs.SpecRest.{spec_from_deps}
 use Rattle.wf_json.specs.Telling.{require, IsSaidBy}
 
@@ -38,12 +39,12 @@ pub not_tested : {A B : Type 0} (m : Member) (o : Option A) (r : Result B Member
 not_tested m None r b of is = refl
 not_tested m (Some x) r b of is = absurd (true≢false (sym of ∙ is))
 
--- a result says what is told, where the same is told otherwise
-pub said_by : {A : Type 0} (f h : Data → Result A Member) (d : Data) (r : Result A JsonFault) → f d ≡ h d → IsSaidBy h d r → IsSaidBy f d r
-said_by f h d (Ok x) same said = same ∙ said
-said_by f h d (Err NotJson) same said = said
-said_by f h d (Err (WrongShape m)) same said = same ∙ said
-said_by f h d (Err NoMemory) same said = said
+-- a result says what is told, where the same is told otherwise of another value
+pub said_by : {A : Type 0} (f h : Data → Result A Member) (d e : Data) (r : Result A JsonFault) → f d ≡ h e → IsSaidBy h e r → IsSaidBy f d r
+said_by f h d e (Ok x) same said = same ∙ said
+said_by f h d e (Err NotJson) same said = said
+said_by f h d e (Err (WrongShape m)) same said = same ∙ said
+said_by f h d e (Err NoMemory) same said = said
 
 -- what is told from each member on, of what those before it say
 abbrev pub from_productions : Data → List ℕ → List ModulePart → Result Parts Member
@@ -51,6 +52,17 @@ from_productions d s ms = require Productions (list_member (codes "productions")
 
 abbrev pub from_modules : Data → List ℕ → Result Parts Member
 from_modules d s = require Modules (member_form (codes "modules") (list_form module_form) d) (from_productions d s)
+
+-- of a value in which the members of these names are the same
+pub same_list : {A : Type 0} (key : List ℕ) (form : Data → Option A) (d e : Data) → get key e ≡ get key d → list_member key form e ≡ list_member key form d
+same_list key form d e same = ap (λ o. unwrap_or (option_map (list_form form) o) (Some [])) same
+
+pub same_from_deps : (s : List ℕ) (ms : List ModulePart) (ps : List ProdPart) (d e : Data) → get (codes "deps") e ≡ get (codes "deps") d → get (codes "versions") e ≡ get (codes "versions") d
+    → spec_from_deps s ms ps e ≡ spec_from_deps s ms ps d
+same_from_deps s ms ps d e deps versions =
+    let ds = same_list (codes "deps") deps_form d e deps in
+    let vs = same_list (codes "versions") version_form d e versions in
+    λ z. require DepsList (ds z) (λ l. require Versions (vs z) (λ v. Ok (record { start = s; modules = ms; productions = ps; deps = l; versions = v })))
 
 abbrev pub from_start : Data → Result Parts Member
 from_start d = require Start (member_form (codes "start") text_form d) (from_modules d)

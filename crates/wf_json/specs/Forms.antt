@@ -1,5 +1,5 @@
 -- Forms of JSON values: a form gives what a value of the form says, and none for any other value.
-use Rattle.std.specs.Prelude.{ℕ, ◌+◌, ◌==◌, List, [], ◌∷◌, take, drop, position, Option, Some, None, option_map, option_and_then, unwrap_or}
+use Rattle.std.specs.Prelude.{◌≡◌, ℕ, ◌+◌, ◌==◌, List, [], ◌∷◌, take, drop, position, Option, Some, None, option_map, option_and_then, unwrap_or}
 use Rattle.serde_json.specs.Data.{Data, Items, no_items, item}
 use Rattle.serde_json.specs.Find.{as_str, as_array, as_number, as_u64, get}
 use Rattle.wf_model.specs.declared.parts.PortPart.{PortPart}
@@ -64,3 +64,7 @@ list_member key form d = unwrap_or (option_map (list_form form) (get key d)) (So
 -- a member that has the form, if it is there; one that is not there is none
 abbrev pub optional_member : {A : Type 0} → List ℕ → (Data → Option A) → Data → Option (Option A)
 optional_member key form d = unwrap_or (option_map (λ v. option_map (λ x. Some x) (form v)) (get key d)) (Some None)
+
+-- a value has the members of another value but that of a key
+abbrev pub KeepsOthers : List ℕ → Data → Data → Type 0
+KeepsOthers key old new = (k : List ℕ) → (k ≡ key → ⊥) → get k new ≡ get k old

@@ -1,8 +1,9 @@
 // Values of one form.
-ghost use Rattle.std.specs.Prelude.{◌≡◌, Option, IfOk};
+ghost use Rattle.std.specs.Prelude.{◌≡◌, Option, option_map, IfOk};
+ghost use Rattle.serde_json.specs.Find.{get};
 ghost use Rattle.serde_json.specs.Data.{Data};
 ghost use Rattle.serde_json.specs.View.{view, items_view};
-ghost use Rattle.wf_json.specs.Forms.{text_form, whole_form, items_form, list_form, two_items, pair_form, three_items, triple_form, member_form, list_member, optional_member};
+ghost use Rattle.wf_json.specs.Forms.{text_form, whole_form, items_form, list_form, two_items, pair_form, three_items, triple_form, member_form, list_member, optional_member, KeepsOthers};
 
 use serde_json::Value;
 use std::alloc::{AllocError, Global};
@@ -63,6 +64,43 @@ fn items<T: FromJson + Drop>(alloc: Global, list: &[Value]) -> Result<Option<Seq
         left = rest;
     }
     Ok(Some(Seq::from_vec(found)))
+}
+
+/// Reads a value and lets it go.
+fn from_value<T: FromJson + Drop>(alloc: Global, value: Value) -> Result<Option<T>, AllocError>
+    ensures { IfOk result (λ o. o ≡ T.form (view value)) }
+{
+    T::from_json(alloc, &value)
+}
+
+/// Reads items as `items` does. Each of them is let go as soon as it is read.
+fn items_by_value<T: FromJson + Drop>(
+    alloc: Global,
+    list: Vec<Value>,
+) -> Result<Option<Seq<T>>, AllocError>
+    ensures { IfOk result (λ o. o ≡ items_form T.form (items_view list.items)) }
+{
+    let mut found = Vec::new(alloc);
+    for value in list {
+        let Some(one) = from_value::<T>(alloc, value)? else {
+            return Ok(None);
+        };
+        found.push(one)?;
+    }
+    Ok(Some(Seq::from_vec(found)))
+}
+
+/// Reads a list; None where the value is none, or an item has not the form, and an error where memory was refused. Each item is let go as soon as it is read.
+fn list_by_value<T: FromJson + Drop>(
+    alloc: Global,
+    value: Value,
+) -> Result<Option<Seq<T>>, AllocError>
+    ensures { IfOk result (λ o. o ≡ list_form T.form (view value)) }
+{
+    match value {
+        Value::Array(list) => items_by_value(alloc, list),
+        _ => Ok(None),
+    }
 }
 
 fn two<A: FromJson + Drop, B: FromJson + Drop>(
@@ -157,6 +195,47 @@ pub fn member_list<T: FromJson + Drop>(
 {
     match value.get(key) {
         Some(one) => <Seq<T>>::from_json(alloc, one),
+        None => Ok(Some(Seq::from_vec(Vec::new(alloc)))),
+    }
+}
+
+/// Takes the member of this key out of a value, if it is there. The others stay.
+fn take_member(value: &mut Value, key: &str) -> Option<Value>
+    ensures taken { option_map view result ≡ get key.now (view value.old) }
+    ensures others { KeepsOthers key.now (view value.old) (view value.new) }
+{
+    match value.as_object_mut() {
+        Some(members) => members.remove(key),
+        None => None,
+    }
+}
+
+/// Takes the member of this key out of a value and reads it as a list, as `member` does, but lets each item go as soon as it is read: so the list is not held twice.
+pub fn take_list<T: FromJson + Drop>(
+    alloc: Global,
+    value: &mut Value,
+    key: &str,
+) -> Result<Option<Seq<T>>, AllocError>
+    ensures list { IfOk result (λ o. o ≡ member_form key.now (list_form T.form) (view value.old)) }
+    ensures others { KeepsOthers key.now (view value.old) (view value.new) }
+{
+    match take_member(value, key) {
+        Some(one) => list_by_value(alloc, one),
+        None => Ok(None),
+    }
+}
+
+/// Takes the member of this key out of a value and reads it as `member_list` does, but lets each item go as soon as it is read: so the list is not held twice.
+pub fn take_member_list<T: FromJson + Drop>(
+    alloc: Global,
+    value: &mut Value,
+    key: &str,
+) -> Result<Option<Seq<T>>, AllocError>
+    ensures list { IfOk result (λ o. o ≡ list_member key.now T.form (view value.old)) }
+    ensures others { KeepsOthers key.now (view value.old) (view value.new) }
+{
+    match take_member(value, key) {
+        Some(one) => list_by_value(alloc, one),
         None => Ok(Some(Seq::from_vec(Vec::new(alloc)))),
     }
 }

@@ -8,7 +8,7 @@ ghost use Rattle.wf_json.specs.SpecRest.{spec_from_deps};
 ghost use Rattle.wf_json.specs.Telling.{IsSaidBy};
 
 use crate::fault::{JsonFault, Member};
-use crate::form::{member, member_list};
+use crate::form::{member, member_list, take_list, take_member_list};
 use crate::reading::{TextFault, read_value};
 use serde_json::Value;
 use std::alloc::Global;
@@ -20,21 +20,21 @@ use wf_model::{DepsPart, ModulePart, Name, Parts, ProdPart, Seq, VersionPart};
 ///
 /// Errors: NotJson where the bytes are not UTF-8 or no JSON value of at most 127 levels; WrongShape with the first of top, `start`, `modules`, `productions`, `deps` and `versions` that has not its form; NoMemory where memory was refused.
 ///
-/// Cost: one reading of the text by `serde_json`, and one pass over the value.
+/// Cost: one reading of the text by `serde_json`, and one pass over the value. Each module, production and list of pairs is let go in the value as soon as it is read.
 pub fn read_spec(alloc: Global, bytes: &[u8]) -> Result<Parts, JsonFault>
     ensures ok { IfOk result (λ p. (d : Data) × IsReading bytes.now d × (spec_of d ≡ Ok p)) }
     ensures refused { IfErr result (λ f. IsRefusal bytes.now f) }
 {
     match read_value(alloc, bytes) {
-        Ok(value) => spec_in(alloc, &value),
+        Ok(mut value) => spec_in(alloc, &mut value),
         Err(TextFault::NotJson) => Err(JsonFault::NotJson),
         Err(TextFault::NoMemory) => Err(JsonFault::NoMemory),
     }
 }
 
-/// Reads a specification from a value.
-fn spec_in(alloc: Global, value: &Value) -> Result<Parts, JsonFault>
-    ensures { IsToldBy (view value.now) result }
+/// Reads a specification from a value, and takes its long lists out.
+fn spec_in(alloc: Global, value: &mut Value) -> Result<Parts, JsonFault>
+    ensures { IsToldBy (view value.old) result }
 {
     if !value.is_object() {
         return Err(JsonFault::WrongShape {
@@ -46,12 +46,12 @@ fn spec_in(alloc: Global, value: &Value) -> Result<Parts, JsonFault>
             member: Member::Start,
         });
     };
-    let Some(modules) = member::<Seq<ModulePart>>(alloc, value, "modules")? else {
+    let Some(modules) = take_list::<ModulePart>(alloc, value, "modules")? else {
         return Err(JsonFault::WrongShape {
             member: Member::Modules,
         });
     };
-    let Some(productions) = member_list::<ProdPart>(alloc, value, "productions")? else {
+    let Some(productions) = take_member_list::<ProdPart>(alloc, value, "productions")? else {
         return Err(JsonFault::WrongShape {
             member: Member::Productions,
         });
@@ -62,14 +62,14 @@ fn spec_in(alloc: Global, value: &Value) -> Result<Parts, JsonFault>
 /// Reads the other members of a specification with this start module, these modules and these productions.
 fn spec_with(
     alloc: Global,
-    value: &Value,
+    value: &mut Value,
     start: Name,
     modules: Seq<ModulePart>,
     productions: Seq<ProdPart>,
 ) -> Result<Parts, JsonFault>
-    ensures { IsSaidBy (spec_from_deps start modules productions) (view value.now) result }
+    ensures { IsSaidBy (spec_from_deps start modules productions) (view value.old) result }
 {
-    let Some(deps) = member_list::<DepsPart>(alloc, value, "deps")? else {
+    let Some(deps) = take_member_list::<DepsPart>(alloc, value, "deps")? else {
         return Err(JsonFault::WrongShape {
             member: Member::DepsList,
         });

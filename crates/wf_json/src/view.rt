@@ -6,7 +6,7 @@ ghost use Rattle.wf_json.specs.Reading.{IsReading};
 ghost use Rattle.wf_json.specs.ViewForm.{view_of, IsRefusal, IsToldBy};
 
 use crate::fault::{JsonFault, Member};
-use crate::form::{member_list, optional};
+use crate::form::{optional, take_member_list};
 use crate::reading::{TextFault, read_value};
 use serde_json::Value;
 use std::alloc::Global;
@@ -18,21 +18,21 @@ use wf_model::{DepsPart, Name, Seq, ViewParts};
 ///
 /// Errors: NotJson where the bytes are not UTF-8 or no JSON value of at most 127 levels; WrongShape with the first of top, `expand` and `deps` that has not its form; NoMemory where memory was refused.
 ///
-/// Cost: one reading of the text by `serde_json`, and one pass over the value.
+/// Cost: one reading of the text by `serde_json`, and one pass over the value. Each list of pairs is let go in the value as soon as it is read.
 pub fn read_view(alloc: Global, bytes: &[u8]) -> Result<ViewParts, JsonFault>
     ensures ok { IfOk result (λ p. (d : Data) × IsReading bytes.now d × (view_of d ≡ Ok p)) }
     ensures refused { IfErr result (λ f. IsRefusal bytes.now f) }
 {
     match read_value(alloc, bytes) {
-        Ok(value) => view_in(alloc, &value),
+        Ok(mut value) => view_in(alloc, &mut value),
         Err(TextFault::NotJson) => Err(JsonFault::NotJson),
         Err(TextFault::NoMemory) => Err(JsonFault::NoMemory),
     }
 }
 
-/// Reads a view from a value.
-fn view_in(alloc: Global, value: &Value) -> Result<ViewParts, JsonFault>
-    ensures { IsToldBy (view value.now) result }
+/// Reads a view from a value, and takes its given pairs out.
+fn view_in(alloc: Global, value: &mut Value) -> Result<ViewParts, JsonFault>
+    ensures { IsToldBy (view value.old) result }
 {
     if !value.is_object() {
         return Err(JsonFault::WrongShape {
@@ -44,7 +44,7 @@ fn view_in(alloc: Global, value: &Value) -> Result<ViewParts, JsonFault>
             member: Member::Expand,
         });
     };
-    let Some(deps) = member_list::<DepsPart>(alloc, value, "deps")? else {
+    let Some(deps) = take_member_list::<DepsPart>(alloc, value, "deps")? else {
         return Err(JsonFault::WrongShape {
             member: Member::DepsList,
         });
