@@ -11,6 +11,7 @@ pub mod Stepping
 pub mod ChainSteps
 pub mod ReadLists
 pub mod MadeItems
+pub mod Counts
 pub mod SameHeld
 pub mod EachItem
 pub mod MadeSteps

@@ -36,6 +36,10 @@ edge_held o e = record {
 abbrev pub opened_held : Grammar → Opened → List ItemHeld
 opened_held g o = map (edge_held o) (production_at g o.production.0).edges
 
+-- the items of the root and those of all edges, in order of making
+abbrev pub all_held : Grammar → Table → List ItemHeld
+all_held g t = root_held g t ++ flat_map (opened_held g) t.order
+
 -- held items are those of the run in a table, in order of making
 pub record AreItemsOf (g : Grammar) (t : Table) (is : List ItemHeld) : Type 0 where
   pub all : map (item_of g t) is ≡ items g g.start (events_of t)

@@ -4,7 +4,7 @@ ghost use Rattle.wf_model.specs.declared.body.Edge.{Edge as EdgeHeld};
 ghost use Rattle.wf_model.specs.Lists.{IsIn, numbers_from};
 ghost use Rattle.wf_model.specs.Meaning.{edge_of};
 ghost use Rattle.wf_flat.specs.Table.{IsTableOf};
-ghost use Rattle.wf_chain.specs.ItemLists.{input_held, output_held, root_held, edge_held, AreItemsOf};
+ghost use Rattle.wf_chain.specs.ItemLists.{input_held, output_held, root_held, edge_held, all_held, AreItemsOf};
 
 use std::alloc::{AllocError, Global};
 use wf_flat::{Item, Opened, PlainRun, Port};
@@ -82,9 +82,39 @@ fn add_edges(items: &mut Vec<Item>, opened: Opened, edges: &[Edge]) -> Result<()
     Ok(())
 }
 
+/// How many items the ports of the root are, if the run is started.
+fn count_root(g: &Grammar, run: &PlainRun) -> usize
+    ensures count { result ≡ length (root_held g.now.core run.now) }
+    ensures few { result < 2 ^ 9 }
+{
+    if run.instances().is_empty() {
+        return 0;
+    }
+    g.input_count(g.start()) as usize + g.output_count(g.start()) as usize
+}
+
+/// How many items a run has. 2^32 of them count as want of memory.
+fn count_of(g: &Grammar, run: &PlainRun) -> Result<usize, AllocError>
+    requires { IsTableOf g.now.core run.now }
+    ensures count { IfOk result (λ count. count ≡ length (all_held g.now.core run.now)) }
+    ensures few { IfOk result (λ count. count < 2 ^ 32) }
+{
+    // A grammar is well-formed, and the instances of an expansion are those of the run.
+    let _formed = g.start();
+    let _instances = run.instances();
+    let mut count = count_root(g, run);
+    for opened in run.order() {
+        count += g.production(opened.production).edges().len();
+        if count > u32::MAX as usize {
+            return Err(AllocError);
+        }
+    }
+    Ok(count)
+}
+
 /// The items of a run, in order of making: the inputs and outputs of the root, and for each expansion the edges of its body.
 ///
-/// Cost: linear in them, 32 bytes for each. Fails only for want of memory; 2^32 items count as such.
+/// They are counted first, so that room for them is taken once. Cost: linear in them, 32 bytes for each. Fails only for want of memory; 2^32 items count as such.
 pub fn items_of(alloc: Global, g: &Grammar, run: &PlainRun) -> Result<Vec<Item>, AllocError>
     requires { IsTableOf g.now.core run.now }
     ensures items { IfOk result (λ items. AreItemsOf g.now.core run.now items.items) }
@@ -93,13 +123,11 @@ pub fn items_of(alloc: Global, g: &Grammar, run: &PlainRun) -> Result<Vec<Item>,
     // A grammar is well-formed, and the instances of an expansion are those of the run.
     let _formed = g.start();
     let _instances = run.instances();
-    let mut items = Vec::new(alloc);
+    let count = count_of(g, run)?;
+    let mut items = Vec::with_capacity(alloc, count)?;
     add_root(&mut items, g, run)?;
     for opened in run.order() {
         add_edges(&mut items, *opened, g.production(opened.production).edges())?;
-    }
-    if items.len() > u32::MAX as usize {
-        return Err(AllocError);
     }
     Ok(items)
 }
