@@ -12,6 +12,7 @@ The files ROWS are read one behind the other. Each has lines of these forms; emp
   > TEXT             a line that the call writes to the standard output, behind those before it
   = TEXT             the same without an end of the line
   ! TEXT             a line that it writes to the standard error
+  * TEXT             the bytes of the file * that the call names; of several such lines behind a call each is a row
 
 In TEXT stand \n, \r, \\ and \x with two hexadecimal digits for a byte. With the NAME of a file before it,
   <<NAME>>           is all bytes of the file,
@@ -30,9 +31,10 @@ import sys
 import tempfile
 
 SECONDS = 60
+GIVEN = "*"
 BYTE = re.compile(rb"\\(?:(n)|(r)|(\\)|x([0-9a-f]{2}))")
 PART = re.compile(rb"<<(?:(\d+) (times|listed) )?([a-z0-9-]+)(?: (-?\d*):(-?\d*))?>>")
-LINE = re.compile(r"(file|call) (\S+)(?: (.*))?|([+>=!])(?: (.*))?")
+LINE = re.compile(r"(file|call) (\S+)(?: (.*))?|([+>=!*])(?: (.*))?")
 
 
 class Wrong(ValueError):
@@ -46,10 +48,14 @@ class Row:
     status: int
     out: bytes = b""
     err: bytes = b""
+    given: bytes | None = None
 
     def differences(self, program, folder):
         """Yields what is otherwise of the call in a folder, with what was wanted."""
         words = [word.encode() for word in self.words]
+        if self.given is not None:
+            with open(os.path.join(folder, GIVEN), "wb") as file:
+                file.write(self.given)
         done = subprocess.run([program, *words], cwd=folder, stdin=subprocess.DEVNULL, capture_output=True, timeout=SECONDS, check=False)
         for what, found, wanted in (("status", done.returncode, self.status), ("out", done.stdout, self.out), ("err", done.stderr, self.err)):
             if found != wanted:
@@ -99,11 +105,22 @@ class Rows:
         else:
             raise Wrong(f"{word} is no status")
 
-    def add(self, sign, text):
-        """Adds bytes to the last file, or what the last row ends with."""
+    def give(self, place, data):
+        """Gives the last row the bytes of its file, or makes another row like it with these."""
+        if GIVEN not in self.last.words:
+            raise Wrong(f"the call before names no file {GIVEN}")
+        if self.last.given is not None:
+            self.last = dataclasses.replace(self.last)
+            self.rows.append(self.last)
+        self.last.place, self.last.given = place, data
+
+    def add(self, place, sign, text):
+        """Adds bytes to the last file, or what the last row ends with, or the bytes of its own file."""
         if sign == "+" and isinstance(self.last, str):
             self.files[self.last] += self.data(text)
-        elif sign in ">=!" and isinstance(self.last, Row):
+        elif sign == GIVEN and isinstance(self.last, Row):
+            self.give(place, self.data(text))
+        elif sign in ">=!" and isinstance(self.last, Row) and self.last.given is None:
             if sign == "!":
                 self.last.err += self.data(text) + b"\n"
             else:
@@ -122,11 +139,14 @@ class Rows:
                 if found and found[1]:
                     self.begin(place, *found.group(1, 2, 3))
                 elif found:
-                    self.add(*found.group(4, 5))
+                    self.add(place, *found.group(4, 5))
                 elif line and not line.startswith("#"):
                     raise Wrong("this is no line of rows")
             except ValueError as error:
                 raise Wrong(f"{place}: {error}") from None
+        for row in self.rows:
+            if GIVEN in row.words and row.given is None:
+                raise Wrong(f"{row.place}: the file {GIVEN} has no bytes")
 
     def write(self, folder):
         """Leaves the files in a folder."""

@@ -18,12 +18,12 @@ holds() {
 
 all=0
 for path in checks/rows/*.rows; do
-    rows=$(grep -c '^call ' "$path")
+    rows=$(grep -cE '^(call [^*]*$|\*)' "$path")
     all=$((all + rows))
     topic=${path##*/}
     check "each of the $rows rows of ${topic%.rows} ends as it says" holds "$path"
 done
-check "there are 300 rows or more" test "$all" -ge 300
+check "there are 600 rows or more" test "$all" -ge 600
 
 # Whether this is told at the end of the rows of a topic that are changed so.
 finds() {
@@ -42,10 +42,14 @@ check "it is found that a row has a line more on its output" finds views 's/^> S
 check "it is found that a row has another end of its output" finds views 's/^> S shown$/= S shown/' '6 rows, 1 differ' 1
 check "it is found that a row has another message" finds views 's/^! refused: view: NotComposite expand 0$/! refused: view: NotComposite expand 1/' '6 rows, 1 differ' 1
 check "it is found that a row has no message" finds views '/^! refused: view: Unsafe/d' '6 rows, 1 differ' 1
+check "it is found that a row has another text in its own file" finds seen 's/^\* {"expand":\["B","S"\]}$/* {"expand":["S"]}/' '30 rows, 1 differ' 1
 check "a file without rows is told" finds views '/^call /d; /^[>!]/d' '0 rows, 0 differ' 1
 check "a line that is none of rows is told" finds views 's/^call 2 view line/calls 2 view line/' 'changed line 24: this is no line of rows' 2
 check "a status that is none is told" finds views 's/^call 2 view line/call 6 view line/' 'changed line 24: 6 is no status' 2
 check "a name that stands twice is told" finds views 's/^file view-6/file view-5/' 'changed line 23: view-5 is no new name' 2
+check "a text for a call without a file of its own is told" finds views 's/^call 2 view line view-6/&\n* {}/' 'changed line 25: the call before names no file *' 2
+check "a call without the text of its own file is told" finds seen '/^\* {"expand":\["B","S"\]}$/d' 'changed line 22: the file * has no bytes' 2
+check "a line behind such a text is told" finds seen 's/^\* {}$/&\n> S shown/' 'changed line 14: > has nothing before it to stand behind' 2
 check "a file that is not there is told" finds views 's/^file view-6/& <<view-7>>/' 'changed line 23: there is no file view-7 before' 2
 
 finish

@@ -1,19 +1,13 @@
-//! Tests of the crates that read, test and view grammars, by their public calls.
+//! Tests of what the crates that read, test and view grammars offer beside the commands, by their public calls. What a command shows is tried by the rows of checks/rows.
 #![tactic(auto)]
 
 #[cfg(test)]
-mod cycle_tests;
-#[cfg(test)]
 mod event_tests;
-#[cfg(test)]
-mod form_tests;
 #[cfg(test)]
 mod generated_tests;
 #[cfg(test)]
-mod json_tests;
+mod rank_tests;
 #[cfg(test)]
-mod proper_tests;
-#[cfg(test)]
-mod version_tests;
+mod text_tests;
 #[cfg(test)]
 mod view_tests;

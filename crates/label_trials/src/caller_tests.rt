@@ -106,7 +106,7 @@ fn fault(alloc: Global, spec: &str, bytes: &[u8]) -> Result<Option<StoreFault>, 
 
 #[test]
 fn pairs_are_decided_from_a_label_file(rt: HostRuntime) -> Result<(), Fail> {
-    for (spec, text, bytes, pairs) in ANSWERED {
+    for &(spec, text, bytes, pairs) in &ANSWERED {
         assert!(rt; answers(rt.alloc(), spec, text, bytes, pairs)?, "at {spec}");
     }
     Ok(())

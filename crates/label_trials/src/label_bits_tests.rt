@@ -72,7 +72,7 @@ fn is_edge_written(
 fn labels_are_written(rt: HostRuntime) -> Result<(), Fail> {
     assert!(rt; is_written(rt.alloc(), &Label::Input(PortNo(0)), &[0x20])?);
     assert!(rt; is_written(rt.alloc(), &Label::Output(PortNo(0)), &[0x60])?);
-    for (step, chain, alternative, bytes) in EDGES {
+    for &(step, chain, alternative, bytes) in &EDGES {
         assert!(rt;
             is_edge_written(rt.alloc(), step, chain, alternative, bytes)?,
             "{chain:?} {alternative}"

@@ -1,4 +1,4 @@
-// Bytes that are tried as labels of two grammars.
+// Labels of two grammars, told mark by mark.
 
 use std::alloc::Global;
 use std::test::Fail;
@@ -6,20 +6,6 @@ use wf_accept::Accepted;
 use wf_label::{LabelRef, Mark};
 use wf_samples::{LINE, TWISTING, sample};
 use wf_spec::{EdgeNo, PortNo, PosNo, ProdNo, Step};
-
-/// Each line: a grammar, and bytes that are no label of it.
-const REFUSED: [(&str, &[u8]); 9] = [
-    (LINE, b""),
-    (LINE, &[0x00]),
-    (LINE, &[0x10]),
-    (LINE, &[0x28]),
-    (LINE, &[0x30]),
-    (LINE, &[0xb1]),
-    (LINE, &[0xb0, 0x00]),
-    // A step along the continuing step, and a chain number of 2^24.
-    (TWISTING, &[0xfe, 0xac]),
-    (TWISTING, &[0xf0, 0x00, 0x00, 0x08, 0x00, 0x00, 0x0b]),
-];
 
 const INPUT: Option<Mark> = Some(Mark::Input(PortNo(0)));
 
@@ -71,20 +57,19 @@ fn is_told(
     alloc: Global,
     text: &str,
     bytes: &[u8],
-    wanted: Option<(u32, [Option<Mark>; 4])>,
+    wanted: (u32, [Option<Mark>; 4]),
 ) -> Result<bool, Fail> {
     let s = sample(alloc, text)?;
-    Ok(told_by(&s, bytes) == wanted)
+    Ok(told_by(&s, bytes) == Some(wanted))
 }
 
 #[test]
-fn labels_are_told_mark_by_mark_or_refused(rt: HostRuntime) -> Result<(), Fail> {
-    for (text, bytes, length, marks) in TOLD {
-        let wanted = Some((length, marks));
-        assert!(rt; is_told(rt.alloc(), text, bytes, wanted)?, "at {bytes:?}");
-    }
-    for (text, bytes) in REFUSED {
-        assert!(rt; is_told(rt.alloc(), text, bytes, None)?, "at {bytes:?}");
+fn labels_are_told_mark_by_mark(rt: HostRuntime) -> Result<(), Fail> {
+    for &(text, bytes, length, marks) in &TOLD {
+        assert!(rt;
+            is_told(rt.alloc(), text, bytes, (length, marks))?,
+            "at {bytes:?}"
+        );
     }
     Ok(())
 }

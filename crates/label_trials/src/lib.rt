@@ -1,4 +1,4 @@
-//! Tests of the crates that compute with bodies, safe views, labels and runs, by their public calls.
+//! Tests of what the crates that compute with bodies, safe views, labels and runs offer beside the commands, by their public calls. What a command shows is tried by the rows of checks/rows.
 #![tactic(auto)]
 
 #[cfg(test)]
@@ -19,8 +19,6 @@ mod label_tests;
 mod query_tests;
 #[cfg(test)]
 mod run_table_tests;
-#[cfg(test)]
-mod safe_tests;
 #[cfg(test)]
 mod store_tests;
 #[cfg(test)]

@@ -9,7 +9,7 @@ use bumpalo::Bump;
 use std::alloc::{AllocError, Global};
 use std::test::Fail;
 use wf_accept::Accepted;
-use wf_flat::{Flat, Item, Link, PlainRun, Port, RunView, add_links, find_item};
+use wf_flat::{Flat, Item, PlainRun, Port, find_item};
 use wf_samples::{LINE, LOOP, safe, sample};
 use wf_spec::RunFault::{
     AlreadyExpanded, NameBad, NameTwice, NotStarted, PositionsWrong, StartedTwice,
@@ -17,106 +17,49 @@ use wf_spec::RunFault::{
 };
 use wf_spec::{Event, PortNo, RunFault, Side};
 
-/// A root, and its expansion in the loop grammar.
-const BEGUN: &[Given] = &[Start("r"), Expand("r", 0, &["l0"])];
-
 /// The whole run of the line grammar: instance 1 is the P, and instance 2 the Q.
-const WHOLE: &[Given] = &[Start("r"), Expand("r", 0, &["i1", "i2"])];
+const WHOLE: &[Given] = &[Start("r"), OF_ROOT];
 
-/// Why an event is refused, if it is, and how many instances and how many expansions there are then.
-type Outcome = (Option<RunFault>, usize, usize);
+/// A grammar, and events of a run of it.
+type Before = (&'static str, &'static [Given<'static>]);
 
-/// Each line: a grammar, how many instances a run may have, the events before, the event, and what comes of it. An event that is refused breaks as many of the later rules as it can.
-const EVENTS: [(&str, u8, &[Given], Given, Outcome); 17] = [
-    (
-        LINE,
-        2,
-        &[Start("r")],
-        Expand("r", 0, &["i1", "i2"]),
-        (Some(TooManyInstances), 1, 0),
-    ),
-    (
-        LINE,
-        3,
-        &[Start("r")],
-        Expand("r", 0, &["i1", "i2"]),
-        (None, 3, 1),
-    ),
-    (
-        LOOP,
-        0,
-        &[],
-        Expand("q", 3, &["?", "?", "q"]),
-        (Some(NotStarted), 0, 0),
-    ),
-    (LOOP, 2, BEGUN, Start("?"), (Some(StartedTwice), 2, 1)),
-    (LOOP, 0, &[], Start("?"), (Some(NameBad), 0, 0)),
-    (LOOP, 0, &[], Start("r"), (Some(TooManyInstances), 0, 0)),
-    (
-        LOOP,
-        2,
-        BEGUN,
-        Expand("q", 3, &["?", "?", "r"]),
-        (Some(UnknownInstance), 2, 1),
-    ),
-    (
-        LOOP,
-        2,
-        BEGUN,
-        Expand("r", 3, &["?", "?", "r"]),
-        (Some(UnknownProduction), 2, 1),
-    ),
-    (
-        LOOP,
-        2,
-        BEGUN,
-        Expand("r", 1, &["?", "?", "r"]),
-        (Some(WrongHead), 2, 1),
-    ),
-    (
-        LOOP,
-        2,
-        BEGUN,
-        Expand("r", 0, &["?", "?", "r"]),
-        (Some(AlreadyExpanded), 2, 1),
-    ),
-    (
-        LOOP,
-        2,
-        BEGUN,
-        Expand("l0", 1, &["?", "?", "r"]),
-        (Some(PositionsWrong), 2, 1),
-    ),
-    (
-        LOOP,
-        2,
-        BEGUN,
-        Expand("l0", 1, &["?", "r"]),
-        (Some(NameBad), 2, 1),
-    ),
-    (
-        LOOP,
-        2,
-        BEGUN,
-        Expand("l0", 1, &["w0", "r"]),
-        (Some(NameTwice), 2, 1),
-    ),
-    (
-        LOOP,
-        2,
-        BEGUN,
-        Expand("l0", 1, &["w0", "w0"]),
-        (Some(NameTwice), 2, 1),
-    ),
-    (
-        LOOP,
-        3,
-        BEGUN,
-        Expand("l0", 1, &["w0", "l1"]),
-        (Some(TooManyInstances), 2, 1),
-    ),
-    (LOOP, 4, BEGUN, Expand("l0", 1, &["w0", "l1"]), (None, 4, 2)),
-    (LOOP, 3, BEGUN, Expand("l0", 2, &["w0"]), (None, 3, 2)),
+const NONE: Before = (LOOP, &[]);
+
+const ROOT: Before = (LINE, &[Start("r")]);
+
+const BEGUN: Before = (LOOP, &[Start("r"), Expand("r", 0, &["l0"])]);
+
+/// Each line: how many instances a run may have, an event behind `BEGUN`, and why it is refused. It breaks as many of the later rules as it can.
+const REFUSED: [(u8, Given, RunFault); 10] = [
+    (2, Start("?"), StartedTwice),
+    (2, Expand("q", 3, &["?", "?", "r"]), UnknownInstance),
+    (2, Expand("r", 3, &["?", "?", "r"]), UnknownProduction),
+    (2, Expand("r", 1, &["?", "?", "r"]), WrongHead),
+    (2, Expand("r", 0, &["?", "?", "r"]), AlreadyExpanded),
+    (2, Expand("l0", 1, &["?", "?", "r"]), PositionsWrong),
+    (2, Expand("l0", 1, &["?", "r"]), NameBad),
+    (2, Expand("l0", 1, &["w0", "r"]), NameTwice),
+    (2, Expand("l0", 1, &["w0", "w0"]), NameTwice),
+    (3, Expand("l0", 1, &["w0", "l1"]), TooManyInstances),
+];
+
+/// The expansion of the root of the line grammar, and one that breaks all rules.
+const OF_ROOT: Given = Expand("r", 0, &["i1", "i2"]);
+
+const BAD: Given = Expand("q", 3, &["?", "?", "q"]);
+
+/// How many instances and how many expansions there are.
+type Counts = (usize, usize);
+
+/// Each line: the events before, how many instances a run may have, the event, why it is refused, if it is, and the counts then.
+const EVENTS: [(Before, u8, Given, Option<RunFault>, Counts); 7] = [
+    (NONE, 0, BAD, Some(NotStarted), (0, 0)),
+    (NONE, 0, Start("?"), Some(NameBad), (0, 0)),
+    (NONE, 0, Start("r"), Some(TooManyInstances), (0, 0)),
+    (ROOT, 2, OF_ROOT, Some(TooManyInstances), (1, 0)),
+    (ROOT, 3, OF_ROOT, None, (3, 1)),
+    (BEGUN, 4, Expand("l0", 1, &["w0", "l1"]), None, (4, 2)),
+    (BEGUN, 3, Expand("l0", 2, &["w0"]), None, (3, 2)),
 ];
 
 /// The input of the root.
@@ -147,29 +90,6 @@ const EDGE_TO: Port = Port {
     port: PortNo(0),
 };
 
-/// The input of the P.
-const INTO_FIRST: Port = Port {
-    instance: 1,
-    side: Side::Input,
-    port: PortNo(0),
-};
-
-/// The output of the Q.
-const OUT_OF_LAST: Port = Port {
-    instance: 2,
-    side: Side::Output,
-    port: PortNo(0),
-};
-
-/// The links of the whole run where all is shown: the edge, the entry and the exit of the root's production, and the pairs of the P and of the Q.
-const LINKS: [(Port, Port); 5] = [
-    (EDGE_FROM, EDGE_TO),
-    (ROOT_INPUT, INTO_FIRST),
-    (OUT_OF_LAST, ROOT_OUTPUT),
-    (INTO_FIRST, EDGE_FROM),
-    (EDGE_TO, OUT_OF_LAST),
-];
-
 /// The item of the edge.
 const INNER: Item = Item {
     maker: Some(0),
@@ -178,7 +98,7 @@ const INNER: Item = Item {
 };
 
 /// Each line: a name, and the item of the whole run that has it, if one has.
-const ITEMS: [(&str, Option<Item>); 10] = [
+const ITEMS: [(&str, Option<Item>); 6] = [
     (
         "r.a",
         Some(Item {
@@ -196,11 +116,7 @@ const ITEMS: [(&str, Option<Item>); 10] = [
         }),
     ),
     ("i1.y", Some(INNER)),
-    // An output that leaves its body by an exit, an input below the root, no port, no instance, and no dot or a second one.
-    ("i2.y", None),
-    ("i1.x", None),
-    ("r.y", None),
-    ("i3.y", None),
+    // Names that no query has.
     (".a", None),
     ("r", None),
     ("r.a.", None),
@@ -217,43 +133,42 @@ const VIEWS: [(&str, bool, [bool; 5]); 3] = [
     ),
 ];
 
-/// What comes of an event in a table that took others before.
+/// Why a table that took events refuses another, if it does, and its counts then.
 fn told_by_table(
     alloc: Global,
     s: &Accepted,
     most: u8,
     before: &[Given],
     event: &Event,
-) -> Result<Outcome, Fail> {
+) -> Result<(Option<RunFault>, Counts), Fail> {
     let mut run = table(alloc, s.grammar(), most, before)?;
     let fault = run.take(s.grammar(), event).err();
     let all = run.instances();
     let expanded = all.iter().filter(|x| x.production.is_some()).count();
-    Ok((fault, all.len(), expanded))
+    Ok((fault, (all.len(), expanded)))
 }
 
-/// What comes of an event in a run in an arena that took others before.
+/// The same of a run in an arena.
 fn told_by_run(
     alloc: Global,
     s: &Accepted,
     most: u8,
     before: &[Given],
     event: &Event,
-) -> Result<Outcome, Fail> {
+) -> Result<(Option<RunFault>, Counts), Fail> {
     let arena = Bump::new(alloc);
     let mut run = placed(alloc, &arena, s, most, before)?;
     let fault = take(&mut run, event).err();
-    Ok((fault, run.instances() as usize, run.expands() as usize))
+    Ok((fault, (run.instances() as usize, run.expands() as usize)))
 }
 
-/// Whether this comes of an event in a table, and in a run in an arena, of the grammar of a text that took others before.
+/// Whether this comes of an event behind others, in a table and in a run in an arena.
 fn is_told(
     alloc: Global,
-    text: &str,
+    (text, before): Before,
     most: u8,
-    before: &[Given],
     given: Given,
-    outcome: Outcome,
+    outcome: (Option<RunFault>, Counts),
 ) -> Result<bool, Fail> {
     let s = sample(alloc, text)?;
     let event = event(alloc, given)?;
@@ -264,9 +179,15 @@ fn is_told(
 
 #[test]
 fn both_kinds_of_run_take_and_refuse_events(rt: HostRuntime) -> Result<(), Fail> {
-    for (text, most, before, given, outcome) in EVENTS {
+    for &(most, given, fault) in &REFUSED {
         assert!(rt;
-            is_told(rt.alloc(), text, most, before, given, outcome)?,
+            is_told(rt.alloc(), BEGUN, most, given, (Some(fault), (2, 1)))?,
+            "at {given:?}"
+        );
+    }
+    for &(before, most, given, fault, counts) in &EVENTS {
+        assert!(rt;
+            is_told(rt.alloc(), before, most, given, (fault, counts))?,
             "at {given:?}"
         );
     }
@@ -282,7 +203,7 @@ fn is_item(alloc: Global, name: &str, wanted: Option<Item>) -> Result<bool, Fail
 
 #[test]
 fn items_are_found_by_name(rt: HostRuntime) -> Result<(), Fail> {
-    for (name, wanted) in ITEMS {
+    for &(name, wanted) in &ITEMS {
         assert!(rt; is_item(rt.alloc(), name, wanted)?, "at {name}");
     }
     Ok(())
@@ -328,48 +249,8 @@ fn shows(alloc: Global, text: &str, is_shown: bool, joined: [bool; 5]) -> Result
 
 #[test]
 fn views_show_items_and_join_ports(rt: HostRuntime) -> Result<(), Fail> {
-    for (text, is_shown, joined) in VIEWS {
+    for &(text, is_shown, joined) in &VIEWS {
         assert!(rt; shows(rt.alloc(), text, is_shown, joined)?, "at {text}");
     }
-    Ok(())
-}
-
-/// Whether the links are these, in this order.
-fn are_links(links: &[Link], wanted: &[(Port, Port)]) -> bool {
-    if links.len() != wanted.len() {
-        return false;
-    }
-    for (link, &(from, to)) in links.iter().zip(wanted) {
-        if link.from != from || link.to != to {
-            return false;
-        }
-    }
-    true
-}
-
-/// Whether these are the links of the whole run of the line grammar where all is shown.
-fn is_linked(alloc: Global, wanted: &[(Port, Port)]) -> Result<bool, Fail> {
-    let s = sample(alloc, LINE)?;
-    let run = table(alloc, s.grammar(), 3, WHOLE)?;
-    let safe = safe(alloc, &s, "{}")?;
-    let marks = safe.view().marks();
-    let shown = RunView::of(alloc, safe.grammar(), &run, marks)?;
-    let mut links = Vec::new(alloc);
-    for k in shown.seen() {
-        add_links(
-            &mut links,
-            safe.grammar(),
-            &run,
-            *k,
-            marks,
-            safe.full().deps(),
-        )?;
-    }
-    Ok(are_links(&links, wanted))
-}
-
-#[test]
-fn links_are_listed_in_order(rt: HostRuntime) -> Result<(), Fail> {
-    assert!(rt; is_linked(rt.alloc(), &LINKS)?);
     Ok(())
 }

@@ -24,55 +24,62 @@ const ONE: &[u64] = &[1];
 /// What is told of a matrix that a view does not show.
 const HIDDEN: &[u64] = &[];
 
-/// The pair grammar under this view shows the body of A and not that of B.
-const FIRST_ALONE: &str = r#"{"expand":["A"]}"#;
+/// What the label of a view tells: the rows of the pairs of a module; those of the way in and of the way out of a step, by its production and its position; those of the matrix from a step to another position of its body; or how many continuing steps lead from a place of the first cycle to the first module that is not expanded.
+enum Told {
+    Full(&'static str, &'static [u64]),
+    Ways((u16, u8), &'static [u64], &'static [u64]),
+    Between((u16, u8), u8, &'static [u64]),
+    Cut(u16, Option<u32>),
+}
 
-/// The specification, the view and a module, and the rows of the pairs of the module.
-const FULL: [(&str, &str, &str, &[u64]); 8] = [
-    (TWISTING, "{}", "S", KEPT),
-    (TWISTING, "{}", "L", KEPT),
-    (TWISTING, "{}", "W", EXCHANGED),
-    (TWISTING, "{}", "T", KEPT),
-    (PAIR, FIRST_ALONE, "A", ONE),
-    (PAIR, FIRST_ALONE, "B", ONE),
-    (PAIR, FIRST_ALONE, "P", ONE),
-    (PAIR, FIRST_ALONE, "Q", HIDDEN),
-];
-
-/// A specification, a view, a step by its production and its position, and the rows of its way in and of its way out.
-const WAYS: [(&str, &str, (u16, u8), &[u64], &[u64]); 8] = [
-    (TWISTING, "{}", (0, 0), KEPT, KEPT),
-    (TWISTING, "{}", (1, 0), KEPT, EXCHANGED),
-    (TWISTING, "{}", (1, 1), EXCHANGED, EXCHANGED),
-    (TWISTING, "{}", (1, 2), EXCHANGED, KEPT),
-    (TWISTING, "{}", (2, 0), KEPT, KEPT),
-    (PAIR, FIRST_ALONE, (0, 0), ONE, ONE),
-    (PAIR, FIRST_ALONE, (0, 1), ONE, ONE),
-    (PAIR, FIRST_ALONE, (2, 1), HIDDEN, HIDDEN),
-];
-
-/// A specification, a view, a step, another position of its body, and the rows of the matrix from the one to the other.
-const BETWEEN: [(&str, &str, (u16, u8), u8, &[u64]); 7] = [
-    (TWISTING, "{}", (1, 0), 1, KEPT),
-    (TWISTING, "{}", (1, 1), 2, KEPT),
-    (TWISTING, "{}", (1, 0), 2, KEPT),
-    (TWISTING, "{}", (1, 1), 0, UNJOINED),
-    (TWISTING, "{}", (1, 1), 1, UNJOINED),
-    (PAIR, FIRST_ALONE, (0, 0), 1, ONE),
-    (PAIR, FIRST_ALONE, (2, 0), 1, HIDDEN),
-];
-
-/// A specification, a view, a place of the first cycle, and how many continuing steps lead from there to the first module that is not expanded.
-const CUTS: [(&str, &str, u16, Option<u32>); 9] = [
-    (TWISTING, "{}", 0, None),
-    (TWISTING, r#"{"expand":["S"]}"#, 0, Some(0)),
-    (PAIR, "{}", 0, None),
-    (PAIR, "{}", 1, None),
-    (PAIR, FIRST_ALONE, 0, Some(1)),
-    (PAIR, FIRST_ALONE, 1, Some(0)),
-    (PAIR, r#"{"expand":["B"]}"#, 0, Some(0)),
-    (PAIR, r#"{"expand":["B"]}"#, 1, Some(1)),
-    (PAIR, r#"{"expand":[]}"#, 1, Some(0)),
+/// Each line: a specification, a view, and what its label tells.
+const LABELS: [(&str, &str, &[Told]); 6] = [
+    (
+        TWISTING,
+        "{}",
+        &[
+            Told::Full("S", KEPT),
+            Told::Full("L", KEPT),
+            Told::Full("W", EXCHANGED),
+            Told::Full("T", KEPT),
+            Told::Ways((0, 0), KEPT, KEPT),
+            Told::Ways((1, 0), KEPT, EXCHANGED),
+            Told::Ways((1, 1), EXCHANGED, EXCHANGED),
+            Told::Ways((1, 2), EXCHANGED, KEPT),
+            Told::Ways((2, 0), KEPT, KEPT),
+            Told::Between((1, 0), 1, KEPT),
+            Told::Between((1, 1), 2, KEPT),
+            Told::Between((1, 0), 2, KEPT),
+            Told::Between((1, 1), 0, UNJOINED),
+            Told::Between((1, 1), 1, UNJOINED),
+            Told::Cut(0, None),
+        ],
+    ),
+    (TWISTING, r#"{"expand":["S"]}"#, &[Told::Cut(0, Some(0))]),
+    (PAIR, "{}", &[Told::Cut(0, None), Told::Cut(1, None)]),
+    (
+        PAIR,
+        r#"{"expand":["A"]}"#,
+        &[
+            Told::Full("A", ONE),
+            Told::Full("B", ONE),
+            Told::Full("P", ONE),
+            Told::Full("Q", HIDDEN),
+            Told::Ways((0, 0), ONE, ONE),
+            Told::Ways((0, 1), ONE, ONE),
+            Told::Ways((2, 1), HIDDEN, HIDDEN),
+            Told::Between((0, 0), 1, ONE),
+            Told::Between((2, 0), 1, HIDDEN),
+            Told::Cut(0, Some(1)),
+            Told::Cut(1, Some(0)),
+        ],
+    ),
+    (
+        PAIR,
+        r#"{"expand":["B"]}"#,
+        &[Told::Cut(0, Some(0)), Told::Cut(1, Some(1))],
+    ),
+    (PAIR, r#"{"expand":[]}"#, &[Told::Cut(1, Some(0))]),
 ];
 
 /// A step by a production to a position.
@@ -138,115 +145,51 @@ fn between_rows<'v>(view: &View, label: &'v ViewLabel<'_>, s: Step, to: PosNo) -
     label.between(s, to).rows
 }
 
-/// How many continuing steps lead from a place of the first cycle to the first module that is not expanded.
-fn cut_at(label: &ViewLabel<'_>, place: u16) -> Result<Option<u32>, Fail> {
+/// Whether so many continuing steps lead from a place of the first cycle to the first module that is not expanded.
+fn is_cut(label: &ViewLabel<'_>, place: u16, wanted: Option<u32>) -> bool {
     let cycles = label.cycles();
     if cycles.count() == 0 || place >= cycles.length(CycleNo(0)) {
-        return Err(Fail::new("a place of a cycle"));
+        return false;
     }
-    Ok(label.cut(CycleNo(0), place))
+    label.cut(CycleNo(0), place) == wanted
 }
 
-/// Whether these are the rows of the pairs of a module.
-fn has_full(
-    alloc: Global,
-    spec: &str,
-    view: &str,
-    module: &str,
-    want: &[u64],
-) -> Result<bool, Fail> {
+/// Whether the label of a view tells this.
+fn tells(view: &View, label: &ViewLabel<'_>, told: &Told) -> bool
+    requires held { IsHeldFor label.now.grammar view.now }
+    requires label { IsLabelOfView label.now view.now.core }
+{
+    match *told {
+        Told::Full(name, wanted) => full_rows(view, label, name.as_bytes()) == wanted,
+        Told::Ways(at, into, out) => {
+            let ways = way_rows(view, label, step(at));
+            ways.0 == into && ways.1 == out
+        }
+        Told::Between(at, to, wanted) => {
+            between_rows(view, label, step(at), PosNo(to)) == wanted
+        }
+        Told::Cut(place, wanted) => is_cut(label, place, wanted),
+    }
+}
+
+/// The number of the first of these that the label of a view of a grammar does not tell.
+fn first_wrong(alloc: Global, spec: &str, view: &str, all: &[Told]) -> Result<Option<usize>, Fail> {
     let s = sample(alloc, spec)?;
     let safe = safe(alloc, &s, view)?;
     let label = ViewLabel::build(alloc, &safe)?;
-    Ok(full_rows(safe.view(), &label, module.as_bytes()) == want)
-}
-
-/// Whether these are the rows of the way in and of the way out of a step.
-fn has_ways(
-    alloc: Global,
-    spec: &str,
-    view: &str,
-    s: Step,
-    into: &[u64],
-    out: &[u64],
-) -> Result<bool, Fail> {
-    let sample = sample(alloc, spec)?;
-    let safe = safe(alloc, &sample, view)?;
-    let label = ViewLabel::build(alloc, &safe)?;
-    let ways = way_rows(safe.view(), &label, s);
-    Ok(ways.0 == into && ways.1 == out)
-}
-
-/// Whether these are the rows of the matrix from a position to another.
-fn has_between(
-    alloc: Global,
-    spec: &str,
-    view: &str,
-    s: Step,
-    to: PosNo,
-    want: &[u64],
-) -> Result<bool, Fail> {
-    let sample = sample(alloc, spec)?;
-    let safe = safe(alloc, &sample, view)?;
-    let label = ViewLabel::build(alloc, &safe)?;
-    Ok(between_rows(safe.view(), &label, s, to) == want)
-}
-
-/// Whether so many continuing steps lead from a place of the first cycle of a grammar to the first module that a view does not expand.
-fn is_cut(
-    alloc: Global,
-    spec: &str,
-    view: &str,
-    place: u16,
-    want: Option<u32>,
-) -> Result<bool, Fail> {
-    let s = sample(alloc, spec)?;
-    let safe = safe(alloc, &s, view)?;
-    let label = ViewLabel::build(alloc, &safe)?;
-    Ok(cut_at(&label, place)? == want)
-}
-
-#[test]
-fn modules_have_their_pairs(rt: HostRuntime) -> Result<(), Fail> {
-    let alloc = rt.alloc();
-    for (spec, view, module, want) in FULL {
-        assert!(rt; has_full(alloc, spec, view, module, want)?, "of {module}");
+    for k in 0..all.len() {
+        if !tells(safe.view(), &label, &all[k]) {
+            return Ok(Some(k));
+        }
     }
-    Ok(())
+    Ok(None)
 }
 
 #[test]
-fn bodies_have_their_ways_in_and_out(rt: HostRuntime) -> Result<(), Fail> {
-    let alloc = rt.alloc();
-    for (spec, view, at, into, out) in WAYS {
-        assert!(rt;
-            has_ways(alloc, spec, view, step(at), into, out)?,
-            "at {at:?}"
-        );
-    }
-    Ok(())
-}
-
-#[test]
-fn bodies_have_their_ways_across(rt: HostRuntime) -> Result<(), Fail> {
-    let alloc = rt.alloc();
-    for (spec, view, at, to, want) in BETWEEN {
-        assert!(rt;
-            has_between(alloc, spec, view, step(at), PosNo(to), want)?,
-            "from {at:?} to {to}"
-        );
-    }
-    Ok(())
-}
-
-#[test]
-fn chains_are_cut(rt: HostRuntime) -> Result<(), Fail> {
-    let alloc = rt.alloc();
-    for (spec, view, place, want) in CUTS {
-        assert!(rt;
-            is_cut(alloc, spec, view, place, want)?,
-            "at {place} under {view}"
-        );
+fn labels_of_views_have_their_matrices(rt: HostRuntime) -> Result<(), Fail> {
+    for (spec, view, all) in &LABELS {
+        let wrong = first_wrong(rt.alloc(), spec, view, all)?;
+        assert!(rt; wrong.is_none(), "{wrong:?} under {view} of {spec}");
     }
     Ok(())
 }

@@ -1,11 +1,15 @@
 // Witnesses, true ones and false ones, whose truth was worked out by hand.
-use crate::safe_tests::{S_AND_L, SKEWED, witness};
+ghost use Rattle.wf_model.specs.Proper.{IsProper};
+ghost use Rattle.wf_check.specs.Proper.{IsRankingOf};
+ghost use Rattle.wf_view.specs.Held.{IsHeldFor};
+
 use std::alloc::{AllocError, Global};
 use std::test::Fail;
-use wf_safe::{Choice, Witness, check_witness};
+use wf_accept::Accepted;
+use wf_safe::{Choice, SafeFault, Witness, check_witness, full_deps};
 use wf_samples::{grammar, sample, view};
 use wf_spec::{ModNo, PortNo, ProdNo, Seq};
-use wf_view::GrammarView;
+use wf_view::{GrammarView, View};
 
 /// An S is done by an L, an L by a W and an L behind it, or by a W, and a W by a T or by a U. T keeps its two ports. U does too, and also leads its second input to its first output.
 const CIRCLING: &str =
@@ -87,13 +91,34 @@ fn is_true(
 
 #[test]
 fn made_witnesses_are_checked(rt: HostRuntime) -> Result<(), Fail> {
-    for (choice, productions, pair, wanted) in MADE {
+    for &(choice, productions, pair, wanted) in &MADE {
         assert!(rt;
             is_true(rt.alloc(), choice, productions, pair)? == wanted,
             "{choice:?} {productions:?} {pair:?}"
         );
     }
     Ok(())
+}
+
+/// An S is done by an L, and an L by a W and an L behind it, or by a T. W exchanges its two ports, T keeps them.
+const SKEWED: &str =
+    r#"{"start":"S","modules":[{"name":"S","in":["a1","a2"],"out":["b1","b2"]},{"name":"L","in":["x1","x2"],"out":["y1","y2"]},{"name":"W","in":["x1","x2"],"out":["y1","y2"]},{"name":"T","in":["x1","x2"],"out":["y1","y2"]}],"productions":[{"head":"S","body":[["u","L"]],"edges":[],"in":[["a1","u.x1"],["a2","u.x2"]],"out":[["u.y1","b1"],["u.y2","b2"]]},{"head":"L","body":[["w","W"],["l","L"]],"edges":[["w.y1","l.x1"],["w.y2","l.x2"]],"in":[["x1","w.x1"],["x2","w.x2"]],"out":[["l.y1","y1"],["l.y2","y2"]]},{"head":"L","body":[["t","T"]],"edges":[],"in":[["x1","t.x1"],["x2","t.x2"]],"out":[["t.y1","y1"],["t.y2","y2"]]}],"deps":[{"module":"W","pairs":[["x1","y2"],["x2","y1"]]},{"module":"T","pairs":[["x1","y1"],["x2","y2"]]}]}"#;
+
+/// The view that expands S and L.
+const S_AND_L: &str = r#"{"expand":["S","L"]}"#;
+
+/// The witness that a view is not safe.
+fn witness(alloc: Global, s: &Accepted, view: &View) -> Result<Witness, Fail>
+    requires view { IsHeldFor s.now.grammar.core view.now }
+{
+    let sight = GrammarView {
+        grammar: s.grammar(),
+        view,
+    };
+    match full_deps(alloc, sight, s.ranking()) {
+        Err(SafeFault::Unsafe { witness }) => Ok(witness),
+        _ => Err(Fail::new("a view that is not safe")),
+    }
 }
 
 /// Whether a witness that is told is true, and whether it still is once it tells the other expansion.

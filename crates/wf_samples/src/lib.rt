@@ -5,4 +5,4 @@ mod reading;
 mod texts;
 
 pub use reading::{grammar, safe, sample, view};
-pub use texts::{CLOSED, FORKING, GROWN, LINE, LOOP, PAIR, TWISTING};
+pub use texts::{FORKING, LINE, LOOP, PAIR, TWISTING};

@@ -4,14 +4,6 @@
 pub const LINE: &str =
     r#"{"start":"S","modules":[{"name":"S","in":["a"],"out":["b"]},{"name":"P","in":["x"],"out":["y"]},{"name":"Q","in":["x"],"out":["y"]}],"productions":[{"head":"S","body":[["u","P"],["v","Q"]],"edges":[["u.y","v.x"]],"in":[["a","u.x"]],"out":[["v.y","b"]]}]}"#;
 
-/// The same grown: a Q is done by an R.
-pub const GROWN: &str =
-    r#"{"start":"S","modules":[{"name":"S","in":["a"],"out":["b"]},{"name":"P","in":["x"],"out":["y"]},{"name":"Q","in":["x"],"out":["y"]},{"name":"R","in":["x"],"out":["y"]}],"productions":[{"head":"S","body":[["u","P"],["v","Q"]],"edges":[["u.y","v.x"]],"in":[["a","u.x"]],"out":[["v.y","b"]]},{"head":"Q","body":[["z","R"]],"edges":[],"in":[["x","z.x"]],"out":[["z.y","y"]]}]}"#;
-
-/// The same grown otherwise: a Q is done by an S, which closes a cycle, or by an R.
-pub const CLOSED: &str =
-    r#"{"start":"S","modules":[{"name":"S","in":["a"],"out":["b"]},{"name":"P","in":["x"],"out":["y"]},{"name":"Q","in":["x"],"out":["y"]},{"name":"R","in":["x"],"out":["y"]}],"productions":[{"head":"S","body":[["u","P"],["v","Q"]],"edges":[["u.y","v.x"]],"in":[["a","u.x"]],"out":[["v.y","b"]]},{"head":"Q","body":[["s","S"]],"edges":[],"in":[["x","s.a"]],"out":[["s.b","y"]]},{"head":"Q","body":[["z","R"]],"edges":[],"in":[["x","z.x"]],"out":[["z.y","y"]]}]}"#;
-
 /// An L is done by a P and an L behind it, or by a P.
 pub const LOOP: &str =
     r#"{"start":"S","modules":[{"name":"S","in":["a"],"out":["b"]},{"name":"L","in":["x"],"out":["y"]},{"name":"P","in":["x"],"out":["y"]}],"productions":[{"head":"S","body":[["u","L"]],"edges":[],"in":[["a","u.x"]],"out":[["u.y","b"]]},{"head":"L","body":[["w","P"],["l","L"]],"edges":[["w.y","l.x"]],"in":[["x","w.x"]],"out":[["l.y","y"]]},{"head":"L","body":[["w","P"]],"edges":[],"in":[["x","w.x"]],"out":[["w.y","y"]]}]}"#;
