@@ -12,7 +12,7 @@ use label_file::Store;
 use std::alloc::Global;
 use wf_asking::queries_end;
 use wf_decode::Scratch;
-use wf_inputs::{LABELS, spec_stage, store_of, view_stage};
+use wf_inputs::{LABELS, UnderView, store_of, under_view};
 use wf_io::{Shelf, Sink};
 use wf_message::Stop;
 use wf_query::batch;
@@ -54,23 +54,25 @@ fn answer_queries<H: Shelf, O: Sink>(
     queries_end(batch(alloc, shelf, name, store, &label, &mut scratch, out))
 }
 
-/// Takes LABELS and QUERIES under a view.
-fn answer_labels<H: Shelf, O: Sink>(
-    alloc: Global,
-    v: &SafeView<'_>,
-    words: &AskWords<'_>,
-    shelf: &mut H,
-    out: &mut O,
-) -> Result<(), Stop>
-    ensures obeys { Obeys H.files H.readings H.faults H.at_last O.put_bytes O.faults O.at_last (words.now.labels.now ∷ words.now.queries.now ∷ []) []
-        (λ f. AnswersLabels v.now.accepted.grammar v.now.view.core (f words.now.labels.now) (f words.now.queries.now))
-        shelf.old shelf.new out.old out.new (end_after result) }
-    ensures untouched { end_after result ≡ NoMemory → (O.put_bytes out.new ≡ O.put_bytes out.old) × (O.faults out.new ≡ O.faults out.old) }
-{
-    let bytes = read_file(alloc, shelf, words.labels, LABELS)?;
-    let key = shelf.hash_key();
-    let store = store_of(alloc, key, v.accepted(), &bytes)?;
-    answer_queries(alloc, v, &store, words.queries, shelf, out)
+impl UnderView for AskWords<'_> {
+    ghost names = { λ w. w.labels.now ∷ w.queries.now ∷ [] };
+
+    ghost does = { λ w f h u. AnswersLabels h u (f w.labels.now) (f w.queries.now) };
+
+    ghost holds_back = { λ w. Unit {0} };
+
+    fn obey_under<H: Shelf, O: Sink>(
+        &self,
+        alloc: Global,
+        v: &SafeView<'_>,
+        shelf: &mut H,
+        out: &mut O,
+    ) -> Result<(), Stop> {
+        let bytes = read_file(alloc, shelf, self.labels, LABELS)?;
+        let key = shelf.hash_key();
+        let store = store_of(alloc, key, v.accepted(), &bytes)?;
+        answer_queries(alloc, v, &store, self.queries, shelf, out)
+    }
 }
 
 /// Answers the queries on the items of a label file, from the labels of the two items and a safe view alone.
@@ -88,7 +90,5 @@ pub fn ask<H: Shelf, O: Sink>(
         shelf.old shelf.new out.old out.new (end_after result) }
     ensures untouched { end_after result ≡ NoMemory → (O.put_bytes out.new ≡ O.put_bytes out.old) × (O.faults out.new ≡ O.faults out.old) }
 {
-    let accepted = spec_stage(alloc, shelf, words.spec)?;
-    let safe = view_stage(alloc, shelf, words.view, &accepted)?;
-    answer_labels(alloc, &safe, words, shelf, out)
+    under_view(alloc, words.spec, words.view, words, shelf, out)
 }

@@ -12,7 +12,7 @@ use crate::prepared::Prepared;
 use std::alloc::{AllocError, Global};
 use wf_asking::queries_stage;
 use wf_flat::{Flat, PlainRun};
-use wf_inputs::{events_stage, spec_stage, view_stage};
+use wf_inputs::{UnderView, events_stage, under_view};
 use wf_io::{Shelf, Sink};
 use wf_message::Stop;
 use wf_safe::SafeView;
@@ -81,20 +81,23 @@ fn answer_run<H: Shelf, O: Sink>(
     answer_prepared(alloc, &mut p, name, shelf, out)
 }
 
-/// Takes EVENTS and QUERIES under a view.
-fn answer_events<H: Shelf, O: Sink>(
-    alloc: Global,
-    v: &SafeView<'_>,
-    words: &TraceWords<'_>,
-    shelf: &mut H,
-    out: &mut O,
-) -> Result<(), Stop>
-    ensures obeys { Obeys H.files H.readings H.faults H.at_last O.put_bytes O.faults O.at_last (words.now.events.now ∷ words.now.queries.now ∷ []) []
-        (λ f. AnswersRun v.now.accepted.grammar.core v.now.view.core (f words.now.events.now) (f words.now.queries.now))
-        shelf.old shelf.new out.old out.new (end_after result) }
-{
-    let run = events_stage(alloc, shelf, words.events, v.grammar())?;
-    answer_run(alloc, v, &run, words.queries, shelf, out)
+impl UnderView for TraceWords<'_> {
+    ghost names = { λ w. w.events.now ∷ w.queries.now ∷ [] };
+
+    ghost does = { λ w f h u. AnswersRun h.core u (f w.events.now) (f w.queries.now) };
+
+    ghost holds_back = { λ w. ⊥ };
+
+    fn obey_under<H: Shelf, O: Sink>(
+        &self,
+        alloc: Global,
+        v: &SafeView<'_>,
+        shelf: &mut H,
+        out: &mut O,
+    ) -> Result<(), Stop> {
+        let run = events_stage(alloc, shelf, self.events, v.grammar())?;
+        answer_run(alloc, v, &run, self.queries, shelf, out)
+    }
 }
 
 /// Answers the queries on a run of a grammar, however it is finished under a safe view, by the search in its graph: pending instances have the pairs that each of their expansions joins.
@@ -109,7 +112,5 @@ pub fn trace<H: Shelf, O: Sink>(
         (λ f. Traces (f words.now.spec.now) (f words.now.view.now) (f words.now.events.now) (f words.now.queries.now))
         shelf.old shelf.new out.old out.new (end_after result) }
 {
-    let accepted = spec_stage(alloc, shelf, words.spec)?;
-    let safe = view_stage(alloc, shelf, words.view, &accepted)?;
-    answer_events(alloc, &safe, words, shelf, out)
+    under_view(alloc, words.spec, words.view, words, shelf, out)
 }

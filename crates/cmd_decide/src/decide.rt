@@ -13,7 +13,7 @@ ghost use Rattle.cmd_decide.specs.Does.{Decides};
 use crate::words::DecideWords;
 use label_words::{HexWord, verdict_line};
 use std::alloc::Global;
-use wf_inputs::{named, spec_stage, view_stage};
+use wf_inputs::{UnderView, named, under_view};
 use wf_io::{Shelf, Sink};
 use wf_label::LabelRef;
 use wf_message::{Place, Stop, refused_whole};
@@ -70,6 +70,24 @@ fn put_verdict<O: Sink>(
     put_text(out, verdict_line(verdict))
 }
 
+impl UnderView for DecideWords<'_> {
+    ghost names = { λ w. [] };
+
+    ghost does = { λ w f h u. DecidesLabels h.core u (bytes_in (decode_of w.first.word.now)) (bytes_in (decode_of w.second.word.now)) };
+
+    ghost holds_back = { λ w. ⊥ };
+
+    fn obey_under<H: Shelf, O: Sink>(
+        &self,
+        alloc: Global,
+        v: &SafeView<'_>,
+        shelf: &mut H,
+        out: &mut O,
+    ) -> Result<(), Stop> {
+        put_verdict(alloc, v, self, out)
+    }
+}
+
 /// Writes what two labels tell under a safe view.
 pub fn decide<H: Shelf, O: Sink>(
     alloc: Global,
@@ -81,7 +99,5 @@ pub fn decide<H: Shelf, O: Sink>(
         (λ f. Decides (f words.now.spec.now) (f words.now.view.now) (bytes_in (decode_of words.now.first.word.now)) (bytes_in (decode_of words.now.second.word.now)))
         shelf.old shelf.new out.old out.new (end_after result) }
 {
-    let accepted = spec_stage(alloc, shelf, words.spec)?;
-    let safe = view_stage(alloc, shelf, words.view, &accepted)?;
-    put_verdict(alloc, &safe, words, out)
+    under_view(alloc, words.spec, words.view, words, shelf, out)
 }

@@ -9,7 +9,7 @@ ghost use Rattle.cmd_describe.specs.ViewText.{module_line};
 
 use crate::view_text::add_module_line;
 use std::alloc::Global;
-use wf_inputs::{spec_stage, view_stage};
+use wf_inputs::{UnderView, under_view};
 use wf_io::{Shelf, Sink};
 use wf_message::Stop;
 use wf_safe::SafeView;
@@ -51,6 +51,27 @@ fn put_lines<O: Sink>(alloc: Global, v: &SafeView<'_>, out: &mut O) -> Result<()
     Ok(())
 }
 
+/// What `view` does once SPEC and VIEW are taken.
+struct Viewing;
+
+impl UnderView for Viewing {
+    ghost names = { λ v. [] };
+
+    ghost does = { λ v f h u. IsViewWritten h.core u };
+
+    ghost holds_back = { λ v. ⊥ };
+
+    fn obey_under<H: Shelf, O: Sink>(
+        &self,
+        alloc: Global,
+        v: &SafeView<'_>,
+        shelf: &mut H,
+        out: &mut O,
+    ) -> Result<(), Stop> {
+        put_lines(alloc, v, out)
+    }
+}
+
 /// Writes a line for each module that is seen under a safe view.
 pub fn describe_view<H: Shelf, O: Sink>(
     alloc: Global,
@@ -62,7 +83,5 @@ pub fn describe_view<H: Shelf, O: Sink>(
     ensures obeys { Obeys H.files H.readings H.faults H.at_last O.put_bytes O.faults O.at_last (spec_name.now ∷ view_name.now ∷ []) []
         (λ f. Views (f spec_name.now) (f view_name.now)) shelf.old shelf.new out.old out.new (end_after result) }
 {
-    let accepted = spec_stage(alloc, shelf, spec_name)?;
-    let safe = view_stage(alloc, shelf, view_name, &accepted)?;
-    put_lines(alloc, &safe, out)
+    under_view(alloc, spec_name, view_name, &Viewing, shelf, out)
 }

@@ -7,11 +7,10 @@ ghost use Rattle.cmd_explain.specs.Reasons.{IsReason};
 ghost use Rattle.cmd_explain.specs.Does.{ExplainsRun, Explains};
 
 use crate::reason::put_reason;
-use crate::under_view::{UnderView, under_spec};
 use std::alloc::Global;
 use wf_chain::ViewedRun;
 use wf_flat::PlainRun;
-use wf_inputs::events_stage;
+use wf_inputs::{UnderView, events_stage, under_view};
 use wf_io::{Shelf, Sink};
 use wf_message::Stop;
 use wf_safe::SafeView;
@@ -72,6 +71,8 @@ impl UnderView for ExplainWords<'_> {
 
     ghost does = { λ w f h u. ExplainsRun h.core u (f w.events.now) w.first.now w.second.now };
 
+    ghost holds_back = { λ w. ⊥ };
+
     fn obey_under<H: Shelf, O: Sink>(
         &self,
         alloc: Global,
@@ -97,5 +98,5 @@ pub(crate) fn explain<H: Shelf, O: Sink>(
         (λ f. Explains (f words.now.spec.now) (f words.now.view.now) (f words.now.events.now) words.now.first.now words.now.second.now)
         shelf.old shelf.new out.old out.new (end_after result) }
 {
-    under_spec(alloc, words.spec, words.view, words, shelf, out)
+    under_view(alloc, words.spec, words.view, words, shelf, out)
 }

@@ -8,7 +8,6 @@ mod item;
 mod listing;
 mod put;
 mod reason;
-mod under_view;
 mod verify;
 
 pub use family::Family;

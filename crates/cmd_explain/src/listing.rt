@@ -5,9 +5,8 @@ ghost use Rattle.wf_stage.specs.Promises.{Obeys};
 ghost use Rattle.cmd_explain.specs.Does.{ListsLabels, Lists};
 
 use crate::put::put_listing;
-use crate::under_view::{UnderView, under_spec};
 use std::alloc::Global;
-use wf_inputs::{LABELS, store_of};
+use wf_inputs::{LABELS, UnderView, store_of, under_view};
 use wf_io::{Shelf, Sink};
 use wf_lineage::Direction;
 use wf_message::Stop;
@@ -54,6 +53,8 @@ impl UnderView for Listed<'_> {
 
     ghost does = { λ l f h u. ListsLabels h u l.direction l.words.item.now (f l.words.labels.now) };
 
+    ghost holds_back = { λ l. ⊥ };
+
     fn obey_under<H: Shelf, O: Sink>(
         &self,
         alloc: Global,
@@ -84,5 +85,5 @@ pub(crate) fn list_items<H: Shelf, O: Sink>(
         words: *words,
         direction,
     };
-    under_spec(alloc, words.spec, words.view, &listed, shelf, out)
+    under_view(alloc, words.spec, words.view, &listed, shelf, out)
 }

@@ -8,11 +8,10 @@ ghost use Rattle.wf_reason.specs.HandedIn.{ChainStage};
 ghost use Rattle.wf_reason.specs.Checked.{IsSaidOf};
 ghost use Rattle.cmd_explain.specs.Verifying.{VerifiesRun, Verifies};
 
-use crate::under_view::{UnderView, under_spec};
 use std::alloc::Global;
 use wf_chain::ViewedRun;
 use wf_flat::PlainRun;
-use wf_inputs::events_stage;
+use wf_inputs::{UnderView, events_stage, under_view};
 use wf_io::{Shelf, Sink};
 use wf_message::Stop;
 use wf_reason::verify_chain;
@@ -68,6 +67,8 @@ impl UnderView for VerifyWords<'_> {
 
     ghost does = { λ w f h u. VerifiesRun h.core u (f w.events.now) (f w.chain.now) };
 
+    ghost holds_back = { λ w. ⊥ };
+
     fn obey_under<H: Shelf, O: Sink>(
         &self,
         alloc: Global,
@@ -95,5 +96,5 @@ pub(crate) fn verify<H: Shelf, O: Sink>(
         (λ f. Verifies (f words.now.spec.now) (f words.now.view.now) (f words.now.events.now) (f words.now.chain.now))
         shelf.old shelf.new out.old out.new (end_after result) }
 {
-    under_spec(alloc, words.spec, words.view, words, shelf, out)
+    under_view(alloc, words.spec, words.view, words, shelf, out)
 }

@@ -4,13 +4,13 @@ ghost use Rattle.std.specs.Cmp.Lexicographic.{pointwise};
 ghost use Rattle.wf_model.specs.declared.event.Event.{Event};
 ghost use Rattle.wf_model.specs.Lists.{numbers_from};
 ghost use Rattle.wf_model.specs.Run.{Expanded, made, names_of, expanded_by};
-ghost use Rattle.wf_io.specs.Lines.{lines_in};
 ghost use Rattle.wf_run.specs.Runs.{IsRunOf, name_at, names_at};
 ghost use Rattle.wf_message.specs.Endings.{end_after};
 ghost use Rattle.wf_stage.specs.Promises.{Obeys};
-ghost use Rattle.wf_inputs.specs.Inputs.{instance_most};
-ghost use Rattle.wf_inputs.specs.RunTold.{EventsStage};
-ghost use Rattle.cmd_ingest.specs.Ingested.{file_head, file_of, WritesFile};
+ghost use Rattle.wf_inputs.specs.RunTaking.{none_taken_of};
+ghost use Rattle.wf_inputs.specs.Reporting.{IsTakenAs};
+ghost use Rattle.cmd_ingest.specs.Ingested.{file_head, file_of};
+ghost use Rattle.cmd_ingest.specs.Does.{IngestsOver};
 
 use bumpalo::Bump;
 use std::alloc::Global;
@@ -137,6 +137,32 @@ impl Grows for Labelling<'_> {
     }
 }
 
+/// Takes the lines of EVENTS by a labelled run that no line was taken by, and puts the entries of the items that each event makes.
+fn label_lines<H: Shelf, O: Sink>(
+    alloc: Global,
+    reporting: &mut Reporting<'_, Labelling<'_>>,
+    name: &str,
+    shelf: &mut H,
+    out: &mut O,
+) -> Result<(), Stop>
+    requires none { IsTakenAs reporting.old.run.labeller.grammar.core reporting.old.run.labeller.most reporting.old.inbox.kept reporting.old.reported
+        (IsRunOf reporting.old.run.labeller) (none_taken_of reporting.old.run.labeller.grammar.core) }
+    ensures obeys { Obeys H.files H.readings H.faults H.at_last O.put_bytes O.faults O.at_last (name.now ∷ [])
+        (file_head reporting.old.run.labeller.grammar.core) (λ f. IngestsOver reporting.old.run.labeller.grammar.core (f name.now))
+        shelf.old shelf.new out.old out.new (end_after result) }
+{
+    let Ok(mut lines) = Lines::open(alloc, name) else {
+        return Err(Stop::NoMemory);
+    };
+    let Ok(mut due) = Due::new(alloc) else {
+        return Err(Stop::NoMemory);
+    };
+    match take_lines(reporting, &mut lines, &mut due, shelf, out) {
+        Ok(_) => Ok(()),
+        Err(fault) => Err(events_stop(fault)),
+    }
+}
+
 /// Labels the items that the events of the lines of EVENTS make, and puts their entries behind the head. Lines are taken as reports, in any order; the entries of each event are due as soon as it is applied, also where one line sets many free, and what is due is put in pieces. The first line that is refused ends it, with its number and the fault, behind the entries of the events that were applied before. So does want of memory.
 ///
 /// Cost: linear in the bytes of the lines and of the entries. Takes memory for the run, for the reports, for one line, for the entries of one event, and for one piece.
@@ -148,15 +174,9 @@ pub fn label_events<H: Shelf, O: Sink>(
     out: &mut O,
 ) -> Result<(), Stop>
     ensures obeys { Obeys H.files H.readings H.faults H.at_last O.put_bytes O.faults O.at_last (name.now ∷ [])
-        (file_head spec.now.grammar.core) (λ f. EventsStage spec.now.grammar.core instance_most
-        (lines_in (f name.now)) (file_of spec.now.grammar.core) (WritesFile spec.now.grammar.core)) shelf.old shelf.new out.old out.new (end_after result) }
+        (file_head spec.now.grammar.core) (λ f. IngestsOver spec.now.grammar.core (f name.now))
+        shelf.old shelf.new out.old out.new (end_after result) }
 {
-    let Ok(mut lines) = Lines::open(alloc, name) else {
-        return Err(Stop::NoMemory);
-    };
-    let Ok(mut due) = Due::new(alloc) else {
-        return Err(Stop::NoMemory);
-    };
     let key = shelf.hash_key();
     let arena = Bump::new(alloc);
     let run = Run::with_key(alloc, key, &arena, spec.linear(), INSTANCES);
@@ -166,8 +186,5 @@ pub fn label_events<H: Shelf, O: Sink>(
     };
     let names = Bump::new(alloc);
     let mut reporting = Reporting::new(alloc, key, &names, labelling);
-    match take_lines(&mut reporting, &mut lines, &mut due, shelf, out) {
-        Ok(_) => Ok(()),
-        Err(fault) => Err(events_stop(fault)),
-    }
+    label_lines(alloc, &mut reporting, name, shelf, out)
 }

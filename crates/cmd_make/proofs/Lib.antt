@@ -12,4 +12,3 @@ pub mod Drilled
 pub mod SomeMaking
 pub mod OneMaking
 pub mod GoodMaking
-pub mod OpenedSpec

@@ -44,7 +44,7 @@ Drills spec view n seed = SpecStage spec (λ h. ViewStage h.core view (λ u. IsD
 -- the command that a value is
 abbrev pub meant : CommandHeld → Command
 meant (ExportsHeld w) = Export w.spec.now w.view.now w.events.now
-meant (GensHeld spec n seed) = Gen spec.now n seed
+meant (GensHeld w) = Gen w.spec.now w.n w.seed
 meant (DrillsHeld w) = Drill w.spec.now w.view.now w.n w.seed
 
 -- what a command does over files

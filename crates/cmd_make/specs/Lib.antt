@@ -5,5 +5,4 @@ pub mod DrillText
 pub mod DrillLaws
 pub mod HeldLabels
 pub mod Does
-pub mod BehindSpec
 pub mod Family

@@ -4,15 +4,12 @@ ghost use Rattle.wf_message.specs.Endings.{end_after};
 ghost use Rattle.wf_stage.specs.Promises.{Obeys};
 ghost use Rattle.cmd_make.specs.Words.{command_of, files_of, most_expansions, greatest_seed, number_in, gen_of, drill_of};
 ghost use Rattle.cmd_make.specs.Does.{Does, meant};
-ghost use Rattle.cmd_make.specs.BehindSpec.{spec_of, behind_spec, DoesBy};
 
 use crate::drill::{DrillWords, drill};
 use crate::export::{ExportWords, export};
-use crate::generate::generate;
+use crate::generate::{GenWords, generate};
 use crate::number::{count_in, seed_in};
 use std::alloc::Global;
-use wf_accept::Accepted;
-use wf_inputs::spec_stage;
 use wf_io::{Shelf, Sink};
 use wf_message::Stop;
 
@@ -20,7 +17,7 @@ use wf_message::Stop;
 #[derive(Clone, Copy)]
 pub enum Command<'w> {
     Export { words: ExportWords<'w> },
-    Gen { spec: &'w str, n: u32, seed: u64 },
+    Gen { words: GenWords<'w> },
     Drill { words: DrillWords<'w> },
 }
 
@@ -31,7 +28,9 @@ fn gen_of<'w>(spec: &'w str, n: &str, seed: &str) -> Option<Command<'w>>
 {
     let n = count_in(n)?;
     let seed = seed_in(seed)?;
-    Some(Command::Gen { spec, n, seed })
+    Some(Command::Gen {
+        words: GenWords { spec, n, seed },
+    })
 }
 
 /// `drill` of two files and two words, if both are numbers.
@@ -102,35 +101,6 @@ impl<'w> Command<'w> {
         None
     }
 
-    /// The name of SPEC, which each command reads first.
-    fn spec(&self) -> &'w str
-        ensures { result.now ≡ spec_of (meant self.now) }
-    {
-        match self {
-            Command::Export { words } => words.spec,
-            Command::Gen { spec, .. } => spec,
-            Command::Drill { words } => words.spec,
-        }
-    }
-
-    /// Does the command over the files behind SPEC, by its grammar, and puts its text to `out`.
-    fn obey_by<H: Shelf, O: Sink>(
-        &self,
-        alloc: Global,
-        accepted: &Accepted,
-        shelf: &mut H,
-        out: &mut O,
-    ) -> Result<(), Stop>
-        ensures obeys { Obeys H.files H.readings H.faults H.at_last O.put_bytes O.faults O.at_last (behind_spec (meant self.now)) []
-            (λ f. DoesBy accepted.now.grammar.core f (meant self.now)) shelf.old shelf.new out.old out.new (end_after result) }
-    {
-        match self {
-            Command::Export { words } => export(alloc, accepted, words, shelf, out),
-            Command::Gen { n, seed, .. } => generate(alloc, accepted, *n, *seed, out),
-            Command::Drill { words } => drill(alloc, accepted, words, shelf, out),
-        }
-    }
-
     /// Does the command over the files of a shelf, and puts its text to `out`.
     pub fn obey<H: Shelf, O: Sink>(
         &self,
@@ -141,9 +111,10 @@ impl<'w> Command<'w> {
         ensures obeys { Obeys H.files H.readings H.faults H.at_last O.put_bytes O.faults O.at_last (files_of (meant self.now)) []
             (λ f. Does f (meant self.now)) shelf.old shelf.new out.old out.new (end_after result) }
     {
-        match spec_stage(alloc, shelf, self.spec()) {
-            Ok(accepted) => self.obey_by(alloc, &accepted, shelf, out),
-            Err(stop) => Err(stop),
+        match self {
+            Command::Export { words } => export(alloc, words, shelf, out),
+            Command::Gen { words } => generate(alloc, words, shelf, out),
+            Command::Drill { words } => drill(alloc, words, shelf, out),
         }
     }
 }

@@ -1,16 +1,14 @@
-// `export`: VIEW and EVENTS over an accepted grammar, and then what the run shows under the view.
+// `export`: SPEC, VIEW and EVENTS, and then what the run shows under the view.
 ghost use Rattle.std.specs.Prelude.{◌∷◌, []};
 ghost use Rattle.wf_flat.specs.Table.{IsTableOf, events_of};
 ghost use Rattle.wf_message.specs.Endings.{end_after};
 ghost use Rattle.wf_stage.specs.Promises.{Writes, Obeys};
-ghost use Rattle.wf_inputs.specs.Inputs.{ViewStage};
-ghost use Rattle.cmd_make.specs.Does.{ExportsRun, ExportsView};
+ghost use Rattle.cmd_make.specs.Does.{ExportsRun, ExportsView, Exports};
 
 use std::alloc::Global;
-use wf_accept::Accepted;
 use wf_export::{ExportFault, write_export};
 use wf_flat::PlainRun;
-use wf_inputs::{events_stage, view_stage};
+use wf_inputs::{UnderView, events_stage, under_view};
 use wf_io::{Shelf, Sink};
 use wf_message::Stop;
 use wf_safe::SafeView;
@@ -41,19 +39,23 @@ fn put_export<O: Sink>(
     }
 }
 
-/// Takes EVENTS under a view.
-fn export_events<H: Shelf, O: Sink>(
-    alloc: Global,
-    v: &SafeView<'_>,
-    name: &str,
-    shelf: &mut H,
-    out: &mut O,
-) -> Result<(), Stop>
-    ensures obeys { Obeys H.files H.readings H.faults H.at_last O.put_bytes O.faults O.at_last (name.now ∷ []) []
-        (λ f. ExportsView v.now.accepted.grammar.core v.now.view.core (f name.now)) shelf.old shelf.new out.old out.new (end_after result) }
-{
-    let run = events_stage(alloc, shelf, name, v.grammar())?;
-    put_export(alloc, v, &run, out)
+impl UnderView for ExportWords<'_> {
+    ghost names = { λ w. w.events.now ∷ [] };
+
+    ghost does = { λ w f h u. ExportsView h.core u (f w.events.now) };
+
+    ghost holds_back = { λ w. ⊥ };
+
+    fn obey_under<H: Shelf, O: Sink>(
+        &self,
+        alloc: Global,
+        v: &SafeView<'_>,
+        shelf: &mut H,
+        out: &mut O,
+    ) -> Result<(), Stop> {
+        let run = events_stage(alloc, shelf, self.events, v.grammar())?;
+        put_export(alloc, v, &run, out)
+    }
 }
 
 /// Writes what a run shows under a safe view: the instances that are not open, the visible items, and the links.
@@ -61,17 +63,14 @@ fn export_events<H: Shelf, O: Sink>(
 /// Cost: linear in EVENTS and in the text.
 pub(crate) fn export<H: Shelf, O: Sink>(
     alloc: Global,
-    accepted: &Accepted,
     words: &ExportWords<'_>,
     shelf: &mut H,
     out: &mut O,
 ) -> Result<(), Stop>
-    ensures obeys { Obeys H.files H.readings H.faults H.at_last O.put_bytes O.faults O.at_last (words.now.view.now ∷ words.now.events.now ∷ []) []
-        (λ f. ViewStage accepted.now.grammar.core (f words.now.view.now) (λ u. ExportsView accepted.now.grammar.core u (f words.now.events.now)))
+    ensures obeys { Obeys H.files H.readings H.faults H.at_last O.put_bytes O.faults O.at_last
+        (words.now.spec.now ∷ words.now.view.now ∷ words.now.events.now ∷ []) []
+        (λ f. Exports (f words.now.spec.now) (f words.now.view.now) (f words.now.events.now))
         shelf.old shelf.new out.old out.new (end_after result) }
 {
-    match view_stage(alloc, shelf, words.view, accepted) {
-        Ok(safe) => export_events(alloc, &safe, words.events, shelf, out),
-        Err(stop) => Err(stop),
-    }
+    under_view(alloc, words.spec, words.view, words, shelf, out)
 }

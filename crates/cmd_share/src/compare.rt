@@ -5,12 +5,11 @@ ghost use Rattle.wf_stage.specs.Promises.{Writes, Obeys};
 ghost use Rattle.wf_compare.specs.FaultText.{compare_text};
 ghost use Rattle.cmd_share.specs.Told.{ComparesViews};
 ghost use Rattle.cmd_share.specs.Stops.{AreNotCompared};
-ghost use Rattle.cmd_share.specs.Does.{Compares, ComparesIn, ComparesWith};
+ghost use Rattle.cmd_share.specs.Does.{Compares, ComparesWith};
 
 use std::alloc::Global;
-use wf_accept::Accepted;
 use wf_compare::{CompareFault, add_text, compare};
-use wf_inputs::{COARSE, spec_stage, view_file_stage, view_stage};
+use wf_inputs::{COARSE, UnderView, under_view, view_file_stage};
 use wf_io::{Shelf, Sink};
 use wf_message::{Refusal, Stop, empty_text, refused_whole};
 use wf_safe::SafeView;
@@ -77,40 +76,23 @@ fn put_comparison<O: Sink>(
     put_text(out, &text)
 }
 
-/// Takes the coarser view beside the other of the same grammar.
-fn compare_with<H: Shelf, O: Sink>(
-    alloc: Global,
-    accepted: &Accepted,
-    fine: &SafeView<'_>,
-    name: &str,
-    shelf: &mut H,
-    out: &mut O,
-) -> Result<(), Stop>
-    requires same { fine.now.accepted ≡ accepted.now }
-    ensures obeys { Obeys H.files H.readings H.faults H.at_last O.put_bytes O.faults O.at_last (name.now ∷ []) []
-        (λ f. ComparesWith accepted.now.grammar.core fine.now.view.core (f name.now))
-        shelf.old shelf.new out.old out.new (end_after result) }
-    ensures untouched { end_after result ≡ NoMemory → (O.put_bytes out.new ≡ O.put_bytes out.old) × (O.faults out.new ≡ O.faults out.old) }
-{
-    let coarse = view_file_stage(alloc, shelf, name, COARSE, accepted)?;
-    put_comparison(alloc, fine, &coarse, out)
-}
+impl UnderView for CompareWords<'_> {
+    ghost names = { λ w. w.coarse.now ∷ [] };
 
-/// Takes the two views of an accepted grammar.
-fn compare_in<H: Shelf, O: Sink>(
-    alloc: Global,
-    accepted: &Accepted,
-    words: &CompareWords<'_>,
-    shelf: &mut H,
-    out: &mut O,
-) -> Result<(), Stop>
-    ensures obeys { Obeys H.files H.readings H.faults H.at_last O.put_bytes O.faults O.at_last (words.now.view.now ∷ words.now.coarse.now ∷ []) []
-        (λ f. ComparesIn accepted.now.grammar.core (f words.now.view.now) (f words.now.coarse.now))
-        shelf.old shelf.new out.old out.new (end_after result) }
-    ensures untouched { end_after result ≡ NoMemory → (O.put_bytes out.new ≡ O.put_bytes out.old) × (O.faults out.new ≡ O.faults out.old) }
-{
-    let fine = view_stage(alloc, shelf, words.view, accepted)?;
-    compare_with(alloc, accepted, &fine, words.coarse, shelf, out)
+    ghost does = { λ w f h u. ComparesWith h.core u (f w.coarse.now) };
+
+    ghost holds_back = { λ w. Unit {0} };
+
+    fn obey_under<H: Shelf, O: Sink>(
+        &self,
+        alloc: Global,
+        v: &SafeView<'_>,
+        shelf: &mut H,
+        out: &mut O,
+    ) -> Result<(), Stop> {
+        let coarse = view_file_stage(alloc, shelf, self.coarse, COARSE, v.accepted())?;
+        put_comparison(alloc, v, &coarse, out)
+    }
 }
 
 /// Tells whether the second of two safe views, which is coarser, ever denies what the first affirms.
@@ -128,6 +110,5 @@ pub fn compare_views<H: Shelf, O: Sink>(
         shelf.old shelf.new out.old out.new (end_after result) }
     ensures untouched { end_after result ≡ NoMemory → (O.put_bytes out.new ≡ O.put_bytes out.old) × (O.faults out.new ≡ O.faults out.old) }
 {
-    let accepted = spec_stage(alloc, shelf, words.spec)?;
-    compare_in(alloc, &accepted, words, shelf, out)
+    under_view(alloc, words.spec, words.view, words, shelf, out)
 }

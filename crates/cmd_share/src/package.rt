@@ -2,12 +2,10 @@
 ghost use Rattle.std.specs.Prelude.{◌∷◌, ◌≡◌, []};
 ghost use Rattle.wf_message.specs.Endings.{end_after, NoMemory};
 ghost use Rattle.wf_stage.specs.Promises.{Writes, Obeys};
-ghost use Rattle.wf_inputs.specs.Inputs.{ViewStage};
 ghost use Rattle.cmd_share.specs.Does.{IsPackaged, Packages};
 
 use std::alloc::Global;
-use wf_accept::Accepted;
-use wf_inputs::{spec_stage, view_stage};
+use wf_inputs::{UnderView, under_view};
 use wf_io::{Shelf, Sink};
 use wf_message::Stop;
 use wf_package::write_package;
@@ -32,20 +30,22 @@ fn put_package<O: Sink>(alloc: Global, v: &SafeView<'_>, out: &mut O) -> Result<
     put_text(out, &text)
 }
 
-/// Takes the view of an accepted grammar.
-fn package_over<H: Shelf, O: Sink>(
-    alloc: Global,
-    accepted: &Accepted,
-    name: &str,
-    shelf: &mut H,
-    out: &mut O,
-) -> Result<(), Stop>
-    ensures obeys { Obeys H.files H.readings H.faults H.at_last O.put_bytes O.faults O.at_last (name.now ∷ []) []
-        (λ f. ViewStage accepted.now.grammar.core (f name.now) (IsPackaged accepted.now.grammar.core)) shelf.old shelf.new out.old out.new (end_after result) }
-    ensures untouched { end_after result ≡ NoMemory → (O.put_bytes out.new ≡ O.put_bytes out.old) × (O.faults out.new ≡ O.faults out.old) }
-{
-    let safe = view_stage(alloc, shelf, name, accepted)?;
-    put_package(alloc, &safe, out)
+impl UnderView for PackageWords<'_> {
+    ghost names = { λ w. [] };
+
+    ghost does = { λ w f h u. IsPackaged h.core u };
+
+    ghost holds_back = { λ w. Unit {0} };
+
+    fn obey_under<H: Shelf, O: Sink>(
+        &self,
+        alloc: Global,
+        v: &SafeView<'_>,
+        shelf: &mut H,
+        out: &mut O,
+    ) -> Result<(), Stop> {
+        put_package(alloc, v, out)
+    }
 }
 
 /// Writes the package of a safe view: what it shows, on one line that answers without the specification.
@@ -61,6 +61,5 @@ pub fn package_view<H: Shelf, O: Sink>(
         (λ f. Packages (f words.now.spec.now) (f words.now.view.now)) shelf.old shelf.new out.old out.new (end_after result) }
     ensures untouched { end_after result ≡ NoMemory → (O.put_bytes out.new ≡ O.put_bytes out.old) × (O.faults out.new ≡ O.faults out.old) }
 {
-    let accepted = spec_stage(alloc, shelf, words.spec)?;
-    package_over(alloc, &accepted, words.view, shelf, out)
+    under_view(alloc, words.spec, words.view, words, shelf, out)
 }

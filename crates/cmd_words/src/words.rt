@@ -7,7 +7,7 @@ ghost use Rattle.wf_message.specs.Endings.{end_after, NoMemory};
 ghost use Rattle.wf_stage.specs.Stages.{Holds};
 ghost use Rattle.wf_stage.specs.Promises.{HasRead, Obeys};
 ghost use Rattle.cmd_words.specs.AutoTold.{auto_kind};
-ghost use Rattle.cmd_words.specs.Does.{AnswersAuto, AnswersView, AnswersByWords};
+ghost use Rattle.cmd_words.specs.Does.{AnswersAuto, AnswersByWords};
 
 use crate::auto_input::{AUTO, automaton_of};
 use crate::labels::answer_labels;
@@ -15,7 +15,7 @@ use crate::lifted::{lifted_grammar, lifted_view};
 use std::alloc::Global;
 use wf_accept::Accepted;
 use wf_automaton::Automaton;
-use wf_inputs::{spec_stage, view_stage};
+use wf_inputs::{UnderView, under_view};
 use wf_io::{Shelf, Sink};
 use wf_message::Stop;
 use wf_safe::SafeView;
@@ -88,43 +88,25 @@ fn answer_read<H: Shelf, O: Sink>(
     }
 }
 
-/// Takes AUTO, LABELS and QUERIES under a view.
-///
-/// AUTO is refused with the first that there is of: TooLong; the fault of the automaton; and Unsafe where the lifted view is not safe.
-fn answer_auto<H: Shelf, O: Sink>(
-    alloc: Global,
-    v: &SafeView<'_>,
-    files: &WordsFiles<'_>,
-    shelf: &mut H,
-    out: &mut O,
-) -> Result<(), Stop>
-    ensures obeys { Obeys H.files H.readings H.faults H.at_last O.put_bytes O.faults O.at_last
-        (files.now.automaton.now ∷ files.now.labels.now ∷ files.now.queries.now ∷ []) []
-        (λ f. AnswersAuto v.now.accepted.grammar v.now.view.core (f files.now.automaton.now) (f files.now.labels.now) (f files.now.queries.now))
-        shelf.old shelf.new out.old out.new (end_after result) }
-    ensures untouched { end_after result ≡ NoMemory → (O.put_bytes out.new ≡ O.put_bytes out.old) × (O.faults out.new ≡ O.faults out.old) }
-{
-    let bytes = read_file(alloc, shelf, files.automaton, AUTO)?;
-    let automaton = automaton_of(alloc, v.grammar(), &bytes)?;
-    answer_read(alloc, v, &automaton, files, shelf, out)
-}
+impl UnderView for WordsFiles<'_> {
+    ghost names = { λ w. w.automaton.now ∷ w.labels.now ∷ w.queries.now ∷ [] };
 
-/// Takes VIEW, AUTO, LABELS and QUERIES of a grammar.
-fn answer_view<H: Shelf, O: Sink>(
-    alloc: Global,
-    accepted: &Accepted,
-    files: &WordsFiles<'_>,
-    shelf: &mut H,
-    out: &mut O,
-) -> Result<(), Stop>
-    ensures obeys { Obeys H.files H.readings H.faults H.at_last O.put_bytes O.faults O.at_last
-        (files.now.view.now ∷ files.now.automaton.now ∷ files.now.labels.now ∷ files.now.queries.now ∷ []) []
-        (λ f. AnswersView accepted.now.grammar (f files.now.view.now) (f files.now.automaton.now) (f files.now.labels.now) (f files.now.queries.now))
-        shelf.old shelf.new out.old out.new (end_after result) }
-    ensures untouched { end_after result ≡ NoMemory → (O.put_bytes out.new ≡ O.put_bytes out.old) × (O.faults out.new ≡ O.faults out.old) }
-{
-    let safe = view_stage(alloc, shelf, files.view, accepted)?;
-    answer_auto(alloc, &safe, files, shelf, out)
+    ghost does = { λ w f h u. AnswersAuto h u (f w.automaton.now) (f w.labels.now) (f w.queries.now) };
+
+    ghost holds_back = { λ w. Unit {0} };
+
+    /// AUTO is refused with the first that there is of: TooLong; the fault of the automaton; and Unsafe where the lifted view is not safe.
+    fn obey_under<H: Shelf, O: Sink>(
+        &self,
+        alloc: Global,
+        v: &SafeView<'_>,
+        shelf: &mut H,
+        out: &mut O,
+    ) -> Result<(), Stop> {
+        let bytes = read_file(alloc, shelf, self.automaton, AUTO)?;
+        let automaton = automaton_of(alloc, v.grammar(), &bytes)?;
+        answer_read(alloc, v, &automaton, self, shelf, out)
+    }
 }
 
 /// Answers the queries on the items of a label file: whether a path leads from the first item to the second that passes modules in an order that an automaton accepts. It answers from the labels of the two items, a safe view and the lifted view alone, so that the answer holds however a run that has both is finished.
@@ -142,8 +124,5 @@ pub fn words<H: Shelf, O: Sink>(
         shelf.old shelf.new out.old out.new (end_after result) }
     ensures untouched { end_after result ≡ NoMemory → (O.put_bytes out.new ≡ O.put_bytes out.old) × (O.faults out.new ≡ O.faults out.old) }
 {
-    match spec_stage(alloc, shelf, files.spec) {
-        Ok(accepted) => answer_view(alloc, &accepted, files, shelf, out),
-        Err(stop) => Err(stop),
-    }
+    under_view(alloc, files.spec, files.view, files, shelf, out)
 }

@@ -1,0 +1,5 @@
+use Rattle.wf_stage.proofs.Obeying.{obeys_writing}
+use Rattle.cmd_describe.proofs.check.CheckingOverSpec.obey_over.Goals as goal
+
+pub returns-clause-obeys : goal.returns-clause-obeys
+returns-clause-obeys g c = obeys_writing _ _ _ _ _ _ c.put_grammar.ensures.writes

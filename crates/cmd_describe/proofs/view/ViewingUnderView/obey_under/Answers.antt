@@ -1,0 +1,5 @@
+use Rattle.wf_stage.proofs.Obeying.{obeys_writing}
+use Rattle.cmd_describe.proofs.view.ViewingUnderView.obey_under.Goals as goal
+
+pub returns-clause-obeys : goal.returns-clause-obeys
+returns-clause-obeys g c = obeys_writing _ _ _ _ _ _ c.put_lines.ensures.writes

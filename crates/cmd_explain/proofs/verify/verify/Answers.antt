@@ -1,4 +1,0 @@
-use Rattle.cmd_explain.proofs.verify.verify.Goals as goal
-
-pub returns : goal.returns
-returns g c = record { obeys = c.under_spec.ensures.obeys }
