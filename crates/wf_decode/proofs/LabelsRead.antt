@@ -1,19 +1,21 @@
 -- Labels that are read, mark by mark.
-use Rattle.std.proofs.Common.{◌≡◌, ℕ, ◌^◌, ◌<◌, true, false, List, [], ◌∷◌, ◌++◌, length, take, sym, ap, ◌∙◌, subst, arith, length-append}
+use Rattle.std.proofs.Common.{◌≡◌, ℕ, ◌^◌, ◌<◌, Bool, true, false, List, [], ◌∷◌, ◌++◌, length, take, sym, ap, ◌∙◌, subst, arith, length-append}
 use Rattle.wf_model.specs.declared.body.Step.{Step as StepHeld}
 use Rattle.wf_model.specs.Grammar.{head_of}
 use Rattle.wf_model.specs.View.{View}
-use Rattle.wf_model.specs.Reach.{Step, target_of}
+use Rattle.wf_model.specs.Reach.{target_of}
+use Rattle.label_model.specs.Continuing.{after}
 use Rattle.label_model.specs.Labels.{Label, Input, Output, OfEdge}
 use Rattle.wf_recur.specs.Cycles.{step_of}
-use Rattle.wf_label.specs.Marks.{Mark, AtInput, AtOutput, Chain, Into, End}
+use Rattle.wf_label.specs.declared.place.Part.{Part}
+use Rattle.wf_label.specs.Marks.{Mark, AtInput, AtOutput, Chain, Into, End, AreMarksAt, IsPartRead, AreBehind, mark_of_part}
 use Rattle.verdict_model.specs.Verdicts.{IsHidden}
 use Rattle.verdict_model.proofs.LabelsTold.{input_untold, output_untold}
 use Rattle.wf_vlabel.specs.Seen.{ViewLabelSeen, IsViewLabel, IsLabelOfView, is_expanded}
 use Rattle.wf_decode.specs.declared.leg.Leg.{Leg as LegHeld}
-use Rattle.wf_decode.specs.declared.leg.Leg.TheVariants.{Into as IntoHeld}
+use Rattle.wf_decode.specs.declared.leg.Leg.TheVariants.{Into as IntoHeld, Chain as ChainHeld}
 use Rattle.wf_decode.specs.Reading.{IsEdgeTold}
-use Rattle.wf_decode.specs.Marking.{IsReadTo, AreLeftOf, IsReading, IsCutWithin, IsChainHeld, MayTake}
+use Rattle.wf_decode.specs.Marking.{IsReadTo, AreLeftOf, IsReading, IsReadAt, IsCutWithin, IsChainHeld}
 use Rattle.wf_decode.proofs.MarksTaken.{hidden_here, hidden_within, chain_taken, step_taken, end_taken}
 
 -- a mark of a place
@@ -23,6 +25,16 @@ IsOfPlace (AtOutput p) = ⊥
 IsOfPlace (Chain c) = Unit {0}
 IsOfPlace (Into s) = Unit {0}
 IsOfPlace (End p e) = Unit {0}
+
+-- the leg of continuing steps leads where they lead
+pub chain_leads : (l : ViewLabelSeen) (m c k : ℕ) (leg : LegHeld) → IsChainHeld l m c leg k → k ≡ after l.grammar c m
+chain_leads l m c k (IntoHeld s) h = absurd h
+chain_leads l m c k (ChainHeld o j n) h = h.2.to
+
+-- the part that is read of a place is the first mark that was left of it
+pub part_left : (l : ViewLabelSeen) (u : View) (x : Label) (legs : List LegHeld) (m : ℕ) (bits left : List Bool) (part : Part) → IsPartRead l.grammar m bits part left → IsReadAt l u x legs m true bits →
+    (rest : List Mark) × IsReading l u x legs m (mark_of_part part ∷ rest) × AreBehind l.grammar part left rest
+part_left l u x legs m bits left part read r = let n = read r.0 r.1 in (n.0, subst (IsReading l u x legs m) n.1 r.2, n.2)
 
 module _ (l : ViewLabelSeen) (u : View) (label : IsViewLabel l) (of_view : IsLabelOfView l u) where
   module _ (legs : List LegHeld) (m : ℕ) where
@@ -48,11 +60,6 @@ module _ (l : ViewLabelSeen) (u : View) (label : IsViewLabel l) (of_view : IsLab
     output_left (Output q) p marks e = let h : q ≡ p = cc in ap Output h
     output_left (OfEdge q) p marks r = absurd r.ahead
 
-    none_left : (x : Label) → AreLeftOf l u x legs m [] → ⊥
-    none_left (Input q) e = absurd (cc)
-    none_left (Output q) e = absurd (cc)
-    none_left (OfEdge q) r = r.ahead
-
   module _ (x : Label) (legs : List LegHeld) (m : ℕ) (marks : List Mark) where
     -- one leg more, and one mark less
     one_more : (k : Mark) (leg : LegHeld) (to : ℕ) → IsReading l u x legs m (k ∷ marks) → IsReadTo l u x (legs ++ leg ∷ []) to marks → IsReading l u x (legs ++ leg ∷ []) to marks
@@ -64,22 +71,17 @@ module _ (l : ViewLabelSeen) (u : View) (label : IsViewLabel l) (of_view : IsLab
     pub chain_goes : (c : ℕ) (leg : LegHeld) (to : ℕ) → c < 2 ^ 24 → IsReading l u x legs m (Chain c ∷ marks) → IsChainHeld l m c leg to → IsReading l u x (legs ++ leg ∷ []) to marks
     chain_goes c leg to low h held = one_more (Chain c) leg to h (chain_taken l u label of_view x legs m c marks leg to low (of_edge legs m x (Chain c) marks tt h.left) held)
 
-    pub step_hides : (s : Step) → IsReading l u x legs m (Into s ∷ marks) → is_expanded l (head_of l.grammar s.production) ≡ false → IsHidden l.grammar u x
-    step_hides s h e = let r = of_edge legs m x (Into s) marks tt h.left in hidden_here l u label of_view x legs m (Into s ∷ marks) r (ap (is_expanded l) (sym r.ahead.1.head) ∙ e)
-
-    pub step_goes : (s : StepHeld) (to : ℕ) → to ≡ target_of l.grammar (step_of s) → IsReading l u x legs m (Into (step_of s) ∷ marks) → is_expanded l (head_of l.grammar s.production.0) ≡ true → IsReading l u x (legs ++ IntoHeld s ∷ []) to marks
+    pub step_goes : (s : StepHeld) (to : ℕ) → to ≡ target_of l.grammar (step_of s) → IsReading l u x legs m (Into (step_of s) ∷ marks) → is_expanded l m ≡ true → IsReading l u x (legs ++ IntoHeld s ∷ []) to marks
     step_goes s to is h e =
         let t = Into (step_of s) in
+        let r = of_edge legs m x t marks tt h.left in
         subst (λ z. IsReading l u x (legs ++ IntoHeld s ∷ []) z marks) (sym is)
-        (one_more t (IntoHeld s) (target_of l.grammar (step_of s)) h (step_taken l u label of_view x legs m s marks (of_edge legs m x t marks tt h.left) e))
+        (one_more t (IntoHeld s) (target_of l.grammar (step_of s)) h (step_taken l u label of_view x legs m s marks r (ap (is_expanded l) r.ahead.1.head ∙ e)))
 
-    pub end_hides : (p e : ℕ) → IsReading l u x legs m (End p e ∷ marks) → is_expanded l (head_of l.grammar p) ≡ false → IsHidden l.grammar u x
-    end_hides p e h f =
+    pub end_tells : (p e : ℕ) (all : List LegHeld) (n : ℕ) → take n all ≡ legs → n < length all → IsReading l u x legs m (End p e ∷ marks) → is_expanded l m ≡ true → IsEdgeTold l u x n p e all
+    end_tells p e all n are low h f =
         let r = of_edge legs m x (End p e) marks tt h.left in
-        hidden_here l u label of_view x legs m (End p e ∷ marks) r (ap (is_expanded l) (sym r.ahead.1.1 ∙ ap (head_of l.grammar) (sym r.ahead.3)) ∙ f)
-
-    pub end_tells : (p e : ℕ) (all : List LegHeld) (n : ℕ) → take n all ≡ legs → n < length all → IsReading l u x legs m (End p e ∷ marks) → is_expanded l (head_of l.grammar p) ≡ true → IsEdgeTold l u x n p e all
-    end_tells p e all n are low h f = end_taken l u label of_view x legs m p e marks all n are low (of_edge legs m x (End p e) marks tt h.left) f
+        end_taken l u label of_view x legs m p e marks all n are low r (ap (is_expanded l) (ap (head_of l.grammar) r.ahead.3 ∙ r.ahead.1.1) ∙ f)
 
     pub input_told : (p : ℕ) → IsReading l u x legs m (AtInput p ∷ marks) → x ≡ Input p
     input_told p h = input_left legs m x p marks h.left
@@ -87,14 +89,11 @@ module _ (l : ViewLabelSeen) (u : View) (label : IsViewLabel l) (of_view : IsLab
     pub output_told : (p : ℕ) → IsReading l u x legs m (AtOutput p ∷ marks) → x ≡ Output p
     output_told p h = output_left legs m x p marks h.left
 
-  -- a number of continuing steps is left at a module on a cycle
-  pub may_take : (x : Label) (legs : List LegHeld) (m : ℕ) (k : Mark) (marks : List Mark) → IsReading l u x legs m (k ∷ marks) → MayTake l m k
-  may_take x legs m (AtInput p) marks h = tt
-  may_take x legs m (AtOutput p) marks h = tt
-  may_take x legs m (Chain c) marks h = (of_edge legs m x (Chain c) marks tt h.left).ahead.1
-  may_take x legs m (Into s) marks h = tt
-  may_take x legs m (End p e) marks h = tt
-
-  -- some mark is left
-  pub reading_some : (x : Label) (legs : List LegHeld) (m : ℕ) → IsReading l u x legs m [] → ⊥
-  reading_some x legs m h = none_left legs m x h.left
+  -- a label is hidden where a part of its place is left at a module that the view does not expand
+  pub place_hides : (x : Label) (legs : List LegHeld) (m : ℕ) (told : Bool) (marks : List Mark) → AreMarksAt l.grammar m told marks → IsReading l u x legs m marks → is_expanded l m ≡ false → IsHidden l.grammar u x
+  place_hides x legs m told [] a h e = absurd a
+  place_hides x legs m told (AtInput p ∷ marks) a h e = absurd a
+  place_hides x legs m told (AtOutput p ∷ marks) a h e = absurd a
+  place_hides x legs m told (Chain c ∷ marks) a h e = hidden_here l u label of_view x legs m (Chain c ∷ marks) (of_edge legs m x (Chain c) marks tt h.left) e
+  place_hides x legs m told (Into s ∷ marks) a h e = hidden_here l u label of_view x legs m (Into s ∷ marks) (of_edge legs m x (Into s) marks tt h.left) e
+  place_hides x legs m told (End p f ∷ marks) a h e = hidden_here l u label of_view x legs m (End p f ∷ marks) (of_edge legs m x (End p f) marks tt h.left) e

@@ -1,21 +1,22 @@
 -- How a label is read mark by mark under a view.
-use Rattle.std.specs.Prelude.{◌≡◌, ◌≢◌, ℕ, ◌+◌, ◌≤◌, IsTrue, Bool, true, false, Some, None, List, [], ◌∷◌, ◌++◌, length}
+use Rattle.std.specs.Prelude.{◌≡◌, ◌≢◌, ℕ, ◌+◌, ◌≤◌, IsTrue, Bool, true, false, Option, Some, None, List, [], ◌∷◌, ◌++◌, length, take}
 use Rattle.wf_model.specs.Grammar.{Grammar, IsProductionOf}
 use Rattle.wf_model.specs.View.{View}
 use Rattle.wf_model.specs.Reach.{Step, target_of, module_along}
 use Rattle.wf_model.specs.Linear.{IsStepOf}
 use Rattle.label_model.specs.Continuing.{continuing, after}
 use Rattle.label_model.specs.Labels.{Label, Input, Output, OfEdge}
-use Rattle.wf_label.specs.Marks.{Mark, AtInput, AtOutput, Chain, Into, End, CursorSeen, AreLeft}
+use Rattle.wf_label.specs.Marks.{Mark, AtInput, AtOutput, Chain, Into, End, BeginMarks}
 use Rattle.decode_model.specs.Rounds.{AreContinuing}
 use Rattle.wf_model.specs.OpenRoutes.{IsOpenRoute}
 use Rattle.verdict_model.specs.Telling.{Tells}
-use Rattle.wf_vlabel.specs.Seen.{ViewLabelSeen, is_expanded}
+use Rattle.verdict_model.specs.Verdicts.{IsHidden}
+use Rattle.wf_vlabel.specs.Seen.{ViewLabelSeen, IsLabelOfView, is_expanded}
 use Rattle.wf_decode.specs.declared.leg.Leg.{Leg as LegHeld}
 use Rattle.wf_decode.specs.declared.leg.Leg.TheVariants.{Into as IntoHeld, Chain as ChainHeld}
-use Rattle.wf_decode.specs.declared.read.Taken.{Taken}
-use Rattle.wf_decode.specs.declared.read.Taken.TheVariants.{Ends, Goes}
+use Rattle.wf_decode.specs.declared.read.Reached.{Reached}
 use Rattle.wf_decode.specs.HeldLegs.{AreHeld, StandsOn, held_steps}
+use Rattle.wf_decode.specs.declared.read.Told.{Told}
 use Rattle.wf_decode.specs.Reading.{IsTold, most_legs}
 
 -- The marks of an address from the module m, after a chain was told or not, and of an ending by the production p and the edge e: continuing steps as one number, each other step, and the end
@@ -57,11 +58,27 @@ pub record IsReading (l : ViewLabelSeen) (u : View) (x : Label) (legs : List Leg
   pub left : AreLeftOf l u x legs m marks
   pub room : length legs + length marks ≤ most_legs l.grammar
 
--- the marks that a cursor has before it are those that are left of the label
-pub record IsReadBy (l : ViewLabelSeen) (u : View) (x : Label) (legs : List LegHeld) (m : ℕ) (cursor : CursorSeen) : Type 0 where
-  pub marks : List Mark
-  pub ahead : AreLeft cursor marks
-  pub reading : IsReading l u x legs m marks
+-- A place of the label is being read at the module m: the bits begin with the marks that are left, after the chain number or before it
+abbrev pub IsReadAt : ViewLabelSeen → View → Label → List LegHeld → ℕ → Bool → List Bool → Type 0
+IsReadAt l u x legs m told bits = (marks : List Mark) × BeginMarks l.grammar m told bits marks × IsReading l u x legs m marks
+
+-- so it is of some label, under a view that the label of a view is of
+abbrev pub HasReadAt : ViewLabelSeen → List LegHeld → ℕ → Bool → List Bool → Type 0
+HasReadAt l legs m told bits = (u : View) × (x : Label) × IsLabelOfView l u × IsReadAt l u x legs m told bits
+
+-- behind the chain number, if there is one, a part is left at the module that was reached; or the label is hidden
+abbrev pub IsPastChain : ViewLabelSeen → View → Label → List LegHeld → Option Reached → List Bool → Type 0
+IsPastChain l u x legs None bits = IsHidden l.grammar u x
+IsPastChain l u x legs (Some r) bits = IsReadAt l u x (take r.held legs) r.module.0 true bits
+
+-- so whatever the label is, under whatever view, of which a place was left before
+abbrev pub PassesChain : ViewLabelSeen → List LegHeld → Reached → List Bool → List LegHeld → Option Reached → List Bool → Type 0
+PassesChain l legs from bits new to left =
+    (u : View) (x : Label) → IsLabelOfView l u → IsReadAt l u x (take from.held legs) from.module.0 false bits → IsPastChain l u x new to left
+
+-- what was read of a label of whose place nothing was read before
+abbrev pub TellsPlace : ViewLabelSeen → List Bool → Told → List LegHeld → Type 0
+TellsPlace l bits told legs = (u : View) (x : Label) → IsLabelOfView l u → IsReadAt l u x [] l.grammar.start false bits → IsTold l u x told legs
 
 -- at most so many continuing steps lead from the module m to a module that the view does not expand
 abbrev pub IsCutWithin : ViewLabelSeen → ℕ → ℕ → Type 0
@@ -76,21 +93,3 @@ pub record GoOpen (l : ViewLabelSeen) (m c k : ℕ) : Type 0 where
 abbrev pub IsChainHeld : ViewLabelSeen → ℕ → ℕ → LegHeld → ℕ → Type 0
 IsChainHeld l m c (IntoHeld s) k = ⊥
 IsChainHeld l m c (ChainHeld o j n) k = StandsOn l m o.0 j × (n ≡ c) × GoOpen l m c k
-
--- a mark is taken: it tells what the label tells, or it leads on by one leg
-abbrev pub IsTaken : ViewLabelSeen → View → Label → List LegHeld → List LegHeld → List Mark → Taken → Type 0
-IsTaken l u x all legs marks (Ends told) = IsTold l u x told all
-IsTaken l u x all legs marks (Goes leg at) = IsReading l u x (legs ++ leg ∷ []) at.0 marks
-
--- where it leads on, so it is with the module to which it leads
-abbrev pub IfGoes : Taken → (ℕ → Type 0) → Type 0
-IfGoes (Ends told) P = Unit {0}
-IfGoes (Goes leg at) P = P at.0
-
--- a number of continuing steps is told at a module on a cycle only
-abbrev pub MayTake : ViewLabelSeen → ℕ → Mark → Type 0
-MayTake l m (AtInput p) = Unit {0}
-MayTake l m (AtOutput p) = Unit {0}
-MayTake l m (Chain c) = continuing l.grammar m ≢ None
-MayTake l m (Into s) = Unit {0}
-MayTake l m (End p e) = Unit {0}

@@ -1,15 +1,15 @@
 -- What is read of a label under a view.
-use Rattle.std.specs.Prelude.{◌≡◌, ℕ, ◌*◌, ◌<◌, false, List, [], ◌∷◌, ◌++◌, length, take}
+use Rattle.std.specs.Prelude.{◌≡◌, ℕ, ◌*◌, ◌<◌, Bool, false, List, [], ◌∷◌, ◌++◌, length, take}
 use Rattle.wf_model.specs.Grammar.{Grammar, body_of}
 use Rattle.wf_model.specs.declared.body.Step.{Step as StepHeld}
 use Rattle.wf_model.specs.View.{View}
 use Rattle.wf_model.specs.Reach.{Step}
-use Rattle.label_model.specs.Labels.{Label, Input, Output}
+use Rattle.label_model.specs.Labels.{Label, Input, Output, IsLabel, label_bits}
 use Rattle.wf_recur.specs.Cycles.{step_of}
 use Rattle.wf_model.specs.OpenRoutes.{IsOpenRoute}
 use Rattle.verdict_model.specs.Telling.{Tells}
 use Rattle.verdict_model.specs.Verdicts.{IsHidden}
-use Rattle.wf_vlabel.specs.Seen.{ViewLabelSeen}
+use Rattle.wf_vlabel.specs.Seen.{ViewLabelSeen, IsLabelOfView}
 use Rattle.wf_decode.specs.declared.leg.Leg.{Leg as LegHeld}
 use Rattle.wf_decode.specs.declared.leg.Leg.TheVariants.{Into as IntoHeld}
 use Rattle.wf_decode.specs.declared.read.Told.{Told}
@@ -40,3 +40,7 @@ IsTold l u x Hidden legs = IsHidden l.grammar u x
 IsTold l u x (InputTold p) legs = x ≡ Input p.0
 IsTold l u x (OutputTold p) legs = x ≡ Output p.0
 IsTold l u x (EdgeTold n p e) legs = IsEdgeTold l u x n p.0 e.0 legs
+
+-- what was read of the label with these bits, whatever label that is, under whatever view that the label of a view is of
+abbrev pub TellsLabel : ViewLabelSeen → List Bool → Told → List LegHeld → Type 0
+TellsLabel l bits told legs = (u : View) (x : Label) → IsLabelOfView l u → IsLabel l.grammar x → bits ≡ label_bits x → IsTold l u x told legs

@@ -10,6 +10,10 @@ use Rattle.wf_spec.specs.Tables.{productions_of}
 use Rattle.wf_recur.specs.Cycles.{step_of}
 use Rattle.wf_label.specs.declared.cursor.Ahead.{Ahead}
 use Rattle.wf_label.specs.declared.cursor.Ahead.TheVariants.{Whole, Entered, Passed, Nothing}
+use Rattle.wf_label.specs.declared.place.Front.{Front}
+use Rattle.wf_label.specs.declared.place.Front.TheVariants.{Input as InputFront, Output as OutputFront, OfEdge as EdgeFront}
+use Rattle.wf_label.specs.declared.place.Part.{Part}
+use Rattle.wf_label.specs.declared.place.Part.TheVariants.{Into as IntoPart, End as EndPart}
 use Rattle.wf_label.specs.declared.cursor.Mark.{Mark as MarkHeld}
 use Rattle.wf_label.specs.declared.cursor.Mark.TheVariants.{Input as InputHeld, Output as OutputHeld, Chain as ChainHeld, Into as IntoHeld, End as EndHeld}
 
@@ -96,6 +100,43 @@ pub record BeginLabel (g : Grammar) (bits : List Bool) (marks : List Mark) : Typ
   pub behind : List Bool
   pub is : bits ≡ label_bits label ++ behind
   pub marks_are : marks ≡ marks_of g label
+
+-- the bits begin with those of some label, or of marks of some place at the module m
+abbrev pub HasLabel : Grammar → List Bool → Type 0
+HasLabel g bits = (marks : List Mark) × BeginLabel g bits marks
+
+abbrev pub HasPlace : Grammar → ℕ → Bool → List Bool → Type 0
+HasPlace g m told bits = (marks : List Mark) × BeginMarks g m told bits marks
+
+-- a label is read from the front of these bits
+abbrev pub IsBegunBy : List Bool → List Bool → Type 0
+IsBegunBy label bits = (behind : List Bool) × (bits ≡ label ++ behind)
+
+-- The front of a label is read: of whatever label the bits begin with, it tells the only mark, or the marks of a place are left
+abbrev pub IsFrontRead : Grammar → List Bool → Front → List Bool → Type 0
+IsFrontRead g bits (InputFront p) left = (marks : List Mark) → BeginLabel g bits marks → marks ≡ AtInput p.0 ∷ []
+IsFrontRead g bits (OutputFront p) left = (marks : List Mark) → BeginLabel g bits marks → marks ≡ AtOutput p.0 ∷ []
+IsFrontRead g bits EdgeFront left = (marks : List Mark) → BeginLabel g bits marks → BeginMarks g g.start false left marks
+
+-- a chain number is read at the module m: of whatever marks were left it is the first, and those of a place at the module to which it leads are left
+abbrev pub IsChainRead : Grammar → ℕ → List Bool → ℕ → List Bool → Type 0
+IsChainRead g m bits c left =
+    (marks : List Mark) → BeginMarks g m false bits marks → (rest : List Mark) × (marks ≡ Chain c ∷ rest) × BeginMarks g (after g c m) true left rest
+
+-- the mark of a part
+abbrev pub mark_of_part : Part → Mark
+mark_of_part (IntoPart s to) = Into (step_of s)
+mark_of_part (EndPart p e) = End p.0 e.0
+
+-- behind a step are the marks of a place at the module to which it leads, and none behind an end
+abbrev pub AreBehind : Grammar → Part → List Bool → List Mark → Type 0
+AreBehind g (IntoPart s to) bits marks = (to.0 ≡ target_of g (step_of s)) × BeginMarks g to.0 false bits marks
+AreBehind g (EndPart p e) bits marks = marks ≡ []
+
+-- a part is read at the module m: of whatever marks were left it is the first
+abbrev pub IsPartRead : Grammar → ℕ → List Bool → Part → List Bool → Type 0
+IsPartRead g m bits part left =
+    (marks : List Mark) → BeginMarks g m true bits marks → (rest : List Mark) × (marks ≡ mark_of_part part ∷ rest) × AreBehind g part left rest
 
 -- what is ahead has these marks
 abbrev pub AreAhead : Grammar → Ahead → List Bool → List Mark → Type 0

@@ -5,14 +5,14 @@ ghost use Rattle.wf_label.specs.Marks.{marks_of, mark_of, HasMarks, IsMarkOf, Is
 ghost use Rattle.wf_label.specs.Values.{AreLabelBits};
 
 use crate::codes::Codes;
-use crate::parts::{continuing_step, read_alternative};
+use crate::parts::continuing_step;
 use crate::passing::passed;
+use crate::place::{Front, Part, read_chain, read_front, read_part};
 use crate::reference::LabelRef;
-use crate::short::{ShortBytes, ShortReader};
 use bit_pack::BitReader;
 use std::marker::Model;
 use wf_recur::Linear;
-use wf_spec::{EdgeNo, Grammar, ModNo, PortNo, PosNo, ProdNo, Step};
+use wf_spec::{EdgeNo, Grammar, ModNo, PortNo, ProdNo, Step};
 
 /// What a label tells next.
 #[derive(Clone, Copy, Debug, PartialEq, Eq)]
@@ -49,26 +49,10 @@ fn part_mark<R: Codes>(g: &Grammar, bits: &mut R, m: ModNo) -> (Mark, Ahead)
     ensures first { IsFirst g.now.core (Ahead.Passed m) (R.reading bits.old).left result.0 result.1 (R.reading bits.new).left }
     ensures fewer { length (R.reading bits.new).left < length (R.reading bits.old).left }
 {
-    // A grammar is well-formed.
-    let _formed = g.start();
-    let is_step = bits.next_bit().unwrap();
-    let production = read_alternative(g, bits, m).unwrap();
-    let rule = g.production(production);
-    if is_step {
-        let positions = rule.positions();
-        let i = bits.next_number(positions.len()).unwrap();
-        prove!(i < 64);
-        let position = PosNo(i as u8);
-        let step = Step {
-            production,
-            position,
-        };
-        return (Mark::Into(step), Ahead::Entered(positions[i].module));
+    match read_part(g, bits, m) {
+        Part::Into { step, to } => (Mark::Into(step), Ahead::Entered(to)),
+        Part::End { production, edge } => (Mark::End { production, edge }, Ahead::Nothing),
     }
-    let e = bits.next_number(rule.edges().len()).unwrap();
-    prove!(e < 4096);
-    let edge = EdgeNo(e as u16);
-    (Mark::End { production, edge }, Ahead::Nothing)
 }
 
 /// Reads the chain number of a module, or what comes next if the module is on no cycle.
@@ -83,7 +67,7 @@ fn place_mark<R: Codes>(g: Linear<'_>, bits: &mut R, m: ModNo) -> (Mark, Ahead)
     if continuing_step(g, m).is_none() {
         return part_mark(g.grammar, bits, m);
     }
-    let c = bits.next_number(1 << 24).unwrap() as u32;
+    let c = read_chain(g.grammar, bits, m);
     (Mark::Chain(c), Ahead::Passed(passed(g, m, c)))
 }
 
@@ -94,17 +78,11 @@ fn label_mark<R: Codes>(g: Linear<'_>, bits: &mut R) -> (Mark, Ahead)
     ensures first { IsFirst g.entry.grammar.now.core Ahead.Whole (R.reading bits.old).left result.0 result.1 (R.reading bits.new).left }
     ensures fewer { length (R.reading bits.new).left < length (R.reading bits.old).left }
 {
-    let start = g.grammar.start();
-    let of_edge = bits.next_bit().unwrap();
-    if of_edge {
-        return place_mark(g, bits, start);
+    match read_front(g.grammar, bits) {
+        Front::Input(port) => (Mark::Input(port), Ahead::Nothing),
+        Front::Output(port) => (Mark::Output(port), Ahead::Nothing),
+        Front::OfEdge => place_mark(g, bits, g.grammar.start()),
     }
-    let is_output = bits.next_bit().unwrap();
-    let port = PortNo(bits.next_number(64).unwrap() as u8);
-    if is_output {
-        return (Mark::Output(port), Ahead::Nothing);
-    }
-    (Mark::Input(port), Ahead::Nothing)
 }
 
 /// Reads the first mark of what is ahead, and tells what is ahead then.
@@ -168,23 +146,8 @@ impl<'a> LabelRef<'a> {
     {
         Cursor {
             g,
-            bits: BitReader::new(self.bytes()),
+            bits: self.reader(),
             ahead: Ahead::Whole,
         }
-    }
-
-    /// The same for a label of at most eight bytes, whose bits are held in one word; None where it has more.
-    #[inline(always)]
-    pub fn short_cursor<'g>(&self, g: Linear<'g>) -> Option<Cursor<'g, ShortReader<'a>>>
-        requires label { AreLabelBits g.grammar.now.core self.now }
-        ensures marks { IfSome result (λ c. (l : Label) → IsLabel g.entry.grammar.now.core l → self.now ≡ label_bits l → AreLeft c (marks_of g.entry.grammar.now.core l)) }
-        ensures grammar { IfSome result (λ c. c.grammar ≡ g.entry.grammar.now.core) }
-    {
-        let short = ShortBytes::of(self.bytes())?;
-        Some(Cursor {
-            g,
-            bits: ShortReader::new(short, 0),
-            ahead: Ahead::Whole,
-        })
     }
 }
