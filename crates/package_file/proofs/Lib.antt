@@ -2,6 +2,7 @@ pub mod Unformed
 pub mod Unaccepted
 pub mod DefaultViews
 pub mod DefaultVerdicts
+pub mod UnsaidParts
 pub mod EmptyParts
 pub mod SmallNumbers
 pub mod NumberedEntries

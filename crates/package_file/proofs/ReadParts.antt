@@ -11,7 +11,7 @@ use Rattle.wf_loops.specs.Looped.{LoopedValue, loop_in}
 use Rattle.package_file.specs.declared.parts.PackageParts.{PackageParts}
 use Rattle.package_file.specs.declared.fault.PackFault.{PackFault}
 use Rattle.package_file.specs.declared.fault.PackFault.TheVariants.{NotJson, NotPackage, BadPackage, NoMemory}
-use Rattle.package_file.specs.Packed.{said_entries, FormProper, IsSafeByDefault, ArePackage, IsDescribedBy, IsBadUnless}
+use Rattle.package_file.specs.Packed.{said_entries, FormProper, IsGoodWith, IsSafeByDefault, ArePackage, IsDescribedBy, IsBadUnless}
 
 -- a fault where less is asked is one where more is asked
 bad_more : (A B : Type 0) (f : PackFault) → (B → A) → IsBadUnless A f → IsBadUnless B f
@@ -27,17 +27,17 @@ module _ (x : PackageParts) where
 
   module _ (a : AcceptedValue) (its_own : a.grammar ≡ held_of x.grammar) where
     -- its default view is not safe, or its loops are not good
-    pub loops_bad : (f : PackFault) → IsBadUnless (IsSafeByDefault a.grammar.core × AreGoodLoops a.grammar.core (said_entries x.loops)) f → IsBadUnless (ArePackage x) f
+    pub loops_bad : (f : PackFault) → IsBadUnless (IsGoodWith a.grammar.core x.loops) f → IsBadUnless (ArePackage x) f
     loops_bad f h =
-        bad_more (IsSafeByDefault a.grammar.core × AreGoodLoops a.grammar.core (said_entries x.loops)) (ArePackage x) f
-        (λ p. subst (λ (k : HeldGrammar). IsSafeByDefault k.core × AreGoodLoops k.core (said_entries x.loops)) (sym its_own) (p.safe, p.loops)) h
+        bad_more (IsGoodWith a.grammar.core x.loops) (ArePackage x) f
+        (λ p. subst (λ (k : HeldGrammar). IsGoodWith k.core x.loops) (sym its_own) (p.safe, p.loops)) h
 
     -- the parts are those of a package
-    are_package : FormProper x.grammar → IsSafeByDefault a.grammar.core → AreGoodLoops a.grammar.core (said_entries x.loops) → ArePackage x
-    are_package good safe loops = record {
+    are_package : FormProper x.grammar → IsGoodWith a.grammar.core x.loops → ArePackage x
+    are_package good with_loops = record {
       grammar = good;
-      safe = subst (λ (k : HeldGrammar). IsSafeByDefault k.core) its_own safe;
-      loops = subst (λ (k : HeldGrammar). AreGoodLoops k.core (said_entries x.loops)) its_own loops;
+      safe = subst (λ (k : HeldGrammar). IsSafeByDefault k.core) its_own with_loops.0;
+      loops = subst (λ (k : HeldGrammar). AreGoodLoops k.core (said_entries x.loops)) its_own with_loops.1;
     }
 
     -- and describe it
@@ -48,9 +48,9 @@ module _ (x : PackageParts) where
     }
 
     -- and so it is of a result, where it is one
-    pub package_if : (r : Result LoopedValue PackFault) → FormProper x.grammar → OnOk r (IsSafeByDefault a.grammar.core) → OnOk r (AreGoodLoops a.grammar.core (said_entries x.loops)) → OnOk r (ArePackage x)
-    package_if (Ok v) good safe loops = are_package good safe loops
-    package_if (Err f) good safe loops = tt
+    pub package_if : (r : Result LoopedValue PackFault) → FormProper x.grammar → OnOk r (IsGoodWith a.grammar.core x.loops) → OnOk r (ArePackage x)
+    package_if (Ok v) good with_loops = are_package good with_loops
+    package_if (Err f) good with_loops = tt
 
     pub described_if : (r : Result LoopedValue PackFault) → IfOk r (λ v. v.accepted ≡ a) → IfOk r (λ v. AreLoopsOf a.grammar.core (said_entries x.loops) (loop_in v.steps)) → IfOk r (IsDescribedBy x)
     described_if (Ok v) of_it loops = are_described v of_it loops

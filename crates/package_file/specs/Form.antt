@@ -1,5 +1,5 @@
 -- The form of a package: a JSON object that says the parts of a grammar, and the entries of its loops.
-use Rattle.std.specs.Prelude.{◌≡◌, ℕ, List, [], Option, Some, None, option_map, MatchOption, codes}
+use Rattle.std.specs.Prelude.{◌≡◌, ℕ, List, [], Option, Some, option_map, codes}
 use Rattle.serde_json.specs.Data.{Data}
 use Rattle.wf_model.specs.declared.parts.Parts.{Parts}
 use Rattle.wf_json.specs.Reading.{IsReading}
@@ -29,10 +29,6 @@ pub record SaysPackage (d : Data) (x : PackageParts) : Type 0 where
   pub numbered : IsNumberedOne d
   pub grammar : SaysGrammar d x.grammar
   pub loops : member_form (codes "loops") (list_form loop_form) d ≡ Some x.loops
-
--- what is found in a value: what it says, or nothing where it says nothing of the kind
-abbrev pub IsWhatSays : {A : Type 0} → (A → Type 0) → Option A → Type 0
-IsWhatSays Says found = MatchOption found ((x : _) → Says x → ⊥) Says
 
 -- the bytes are a JSON text, and its value says the parts of a package
 abbrev pub TellsParts : List ℕ → PackageParts → Type 0

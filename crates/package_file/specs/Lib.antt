@@ -1,4 +1,5 @@
 pub mod Form
+pub mod Unsaid
 pub mod Packed
 pub mod Numbers
 pub mod FaultText

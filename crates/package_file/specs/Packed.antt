@@ -46,6 +46,10 @@ pub record FormProper (parts : Parts) : Type 0 where
 abbrev pub IsSafeByDefault : Grammar → Type 0
 IsSafeByDefault g = IsSafe g (default_view g)
 
+-- the default view of a grammar is safe, and these are good loops of it
+abbrev pub IsGoodWith : Grammar → List LoopPart → Type 0
+IsGoodWith g loops = IsSafeByDefault g × AreGoodLoops g (said_entries loops)
+
 -- the parts of a view that name no module to be expanded and give no pairs
 abbrev pub empty_parts : ViewParts
 empty_parts = record { expand = None; deps = [] }

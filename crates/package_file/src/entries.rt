@@ -1,8 +1,7 @@
-// The loops of a package: their entries by number, and the grammar that has them.
+// The loops of a package: their entries by number.
 ghost use Rattle.std.specs.Prelude.{◌≡◌, IfOk, IfErr, MatchOption, option_map};
 ghost use Rattle.wf_model.specs.Steps.{step_of};
-ghost use Rattle.package_model.specs.Loops.{AreGoodLoops, AreLoopsOf};
-ghost use Rattle.wf_loops.specs.Looped.{loop_in};
+ghost use Rattle.package_model.specs.Loops.{AreGoodLoops};
 ghost use Rattle.package_file.specs.Packed.{said_step, said_entries, IsBadUnless};
 ghost use Rattle.package_file.specs.Numbers.{HasSmallNumbers, AreNumbered};
 
@@ -10,7 +9,7 @@ use crate::fault::PackFault;
 use crate::parts::LoopPart;
 use std::alloc::{AllocError, Global};
 use wf_accept::Accepted;
-use wf_loops::{LoopEntry, Looped, LoopsFault};
+use wf_loops::LoopEntry;
 use wf_model::{Name, PosNo, ProdNo, Step};
 
 /// The step of an entry; None where a number of it is larger than those of the steps of any grammar.
@@ -46,7 +45,9 @@ fn numbered(alloc: Global, loops: &[LoopPart]) -> Result<Option<Vec<LoopEntry>>,
 }
 
 /// The entries of loops, where these can be good loops of an accepted grammar: their numbers are as small as those of its steps.
-fn small_entries(
+///
+/// Errors: BadPackage where they are not; NoMemory where memory was refused. Cost: a copy of each name.
+pub fn small_entries(
     alloc: Global,
     accepted: &Accepted,
     loops: &[LoopPart],
@@ -59,41 +60,4 @@ fn small_entries(
         return Err(PackFault::BadPackage);
     };
     Ok(entries)
-}
-
-/// An accepted grammar with the loops of these entries, if they are good.
-fn with_entries(
-    alloc: Global,
-    accepted: Accepted,
-    entries: &[LoopEntry],
-) -> Result<Looped, PackFault>
-    ensures accepted { IfOk result (λ l. l.accepted ≡ accepted) }
-    ensures good { IfOk result (λ _. AreGoodLoops accepted.grammar.core entries.now) }
-    ensures loops { IfOk result (λ l. AreLoopsOf accepted.grammar.core entries.now (loop_in l.steps)) }
-    ensures refused { IfErr result (λ f. IsBadUnless (AreGoodLoops accepted.grammar.core entries.now) f) }
-{
-    match Looped::of(alloc, accepted, entries) {
-        Ok(looped) => Ok(looped),
-        Err(LoopsFault::BadLoops) => Err(PackFault::BadPackage),
-        Err(LoopsFault::NoMemory) => Err(PackFault::NoMemory),
-    }
-}
-
-/// An accepted grammar with the loops that entries name, if they are good.
-///
-/// Errors: BadPackage where they are not; NoMemory where memory was refused. Cost: a copy of each name, and that of `Looped::of`.
-pub fn with_loops(
-    alloc: Global,
-    accepted: Accepted,
-    loops: &[LoopPart],
-) -> Result<Looped, PackFault>
-    ensures accepted { IfOk result (λ l. l.accepted ≡ accepted) }
-    ensures good { IfOk result (λ _. AreGoodLoops accepted.grammar.core (said_entries loops.now)) }
-    ensures loops { IfOk result (λ l. AreLoopsOf accepted.grammar.core (said_entries loops.now) (loop_in l.steps)) }
-    ensures refused { IfErr result (λ f. IsBadUnless (AreGoodLoops accepted.grammar.core (said_entries loops.now)) f) }
-{
-    match small_entries(alloc, &accepted, loops) {
-        Ok(entries) => with_entries(alloc, accepted, &entries),
-        Err(fault) => Err(fault),
-    }
 }

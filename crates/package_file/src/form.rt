@@ -1,8 +1,11 @@
 // The parts of a package, from a JSON value.
-ghost use Rattle.std.specs.Prelude.{◌↔◌, IsTrue, IfOk};
+ghost use Rattle.std.specs.Prelude.{◌↔◌, ◌≡◌, Some, None, IsTrue, IfOk, IfErr};
 ghost use Rattle.serde_json.specs.View.{view};
-ghost use Rattle.package_file.specs.Form.{loop_form, SaysGrammar, SaysPackage, IsNumberedOne, IsWhatSays};
+ghost use Rattle.wf_json.specs.Forms.{member_form};
+ghost use Rattle.package_file.specs.Form.{loop_form, SaysGrammar, SaysPackage, IsNumberedOne};
+ghost use Rattle.package_file.specs.Unsaid.{IsUnsaid, SaysNoGrammar, SaysNoPackage};
 
+use crate::fault::PackFault;
 use crate::parts::{LoopPart, PackageParts};
 use serde_json::Value;
 use std::alloc::{AllocError, Global};
@@ -24,29 +27,33 @@ impl FromJson for LoopPart {
     }
 }
 
-/// The parts of the grammar of a package.
-fn grammar_in(alloc: Global, value: &Value) -> Result<Option<Parts>, AllocError>
-    ensures { IfOk result (IsWhatSays (SaysGrammar (view value.now))) }
+/// The member of this key, which a package must have in its form.
+fn needed<T: FromJson + Drop>(alloc: Global, value: &Value, key: &str) -> Result<T, PackFault>
+    ensures said { IfOk result (λ x. member_form key.now T.form (view value.now) ≡ Some x) }
+    ensures refused { IfErr result (λ f. IsUnsaid (member_form key.now T.form (view value.now) ≡ None) f) }
 {
-    let Some(start) = member::<Name>(alloc, value, "start")? else {
-        return Ok(None);
-    };
-    let Some(modules) = member::<Seq<ModulePart>>(alloc, value, "modules")? else {
-        return Ok(None);
-    };
-    let Some(productions) = member::<Seq<ProdPart>>(alloc, value, "productions")? else {
-        return Ok(None);
-    };
-    let Some(deps) = member::<Seq<DepsPart>>(alloc, value, "deps")? else {
-        return Ok(None);
-    };
-    Ok(Some(Parts {
+    match member::<T>(alloc, value, key)? {
+        Some(one) => Ok(one),
+        None => Err(PackFault::NotPackage),
+    }
+}
+
+/// The parts of the grammar of a package.
+fn grammar_in(alloc: Global, value: &Value) -> Result<Parts, PackFault>
+    ensures said { IfOk result (λ parts. SaysGrammar (view value.now) parts) }
+    ensures refused { IfErr result (λ f. IsUnsaid (SaysNoGrammar (view value.now)) f) }
+{
+    let start = needed::<Name>(alloc, value, "start")?;
+    let modules = needed::<Seq<ModulePart>>(alloc, value, "modules")?;
+    let productions = needed::<Seq<ProdPart>>(alloc, value, "productions")?;
+    let deps = needed::<Seq<DepsPart>>(alloc, value, "deps")?;
+    Ok(Parts {
         start,
         modules,
         productions,
         deps,
         versions: Seq::from_vec(Vec::new(alloc)),
-    }))
+    })
 }
 
 /// Whether the member `package` is the whole number 1.
@@ -59,20 +66,17 @@ fn is_numbered_one(alloc: Global, value: &Value) -> Result<bool, AllocError>
     }
 }
 
-/// The parts of a package; None where the value says none.
+/// The parts of a package.
 ///
-/// Cost: one pass over the value.
-pub fn package_in(alloc: Global, value: &Value) -> Result<Option<PackageParts>, AllocError>
-    ensures { IfOk result (IsWhatSays (SaysPackage (view value.now))) }
+/// Errors: NotPackage where the value says none; NoMemory. Cost: one pass over the value.
+pub fn package_in(alloc: Global, value: &Value) -> Result<PackageParts, PackFault>
+    ensures said { IfOk result (λ x. SaysPackage (view value.now) x) }
+    ensures refused { IfErr result (λ f. IsUnsaid (SaysNoPackage (view value.now)) f) }
 {
     if !is_numbered_one(alloc, value)? {
-        return Ok(None);
+        return Err(PackFault::NotPackage);
     }
-    let Some(grammar) = grammar_in(alloc, value)? else {
-        return Ok(None);
-    };
-    let Some(loops) = member::<Seq<LoopPart>>(alloc, value, "loops")? else {
-        return Ok(None);
-    };
-    Ok(Some(PackageParts { grammar, loops }))
+    let grammar = grammar_in(alloc, value)?;
+    let loops = needed::<Seq<LoopPart>>(alloc, value, "loops")?;
+    Ok(PackageParts { grammar, loops })
 }

@@ -9,10 +9,10 @@ ghost use Rattle.package_file.specs.declared.fault.PackFault.TheVariants.{BadPac
 ghost use Rattle.package_file.specs.Form.{TellsParts};
 ghost use Rattle.package_model.specs.Loops.{AreGoodLoops, AreLoopsOf};
 ghost use Rattle.wf_loops.specs.Looped.{loop_in};
-ghost use Rattle.package_file.specs.Packed.{said_entries, FormProper, IsSafeByDefault, ArePackage, IsDescribedBy, TellsPackage, IsFaultOfBytes, IsBadUnless};
+ghost use Rattle.package_file.specs.Packed.{said_entries, FormProper, IsGoodWith, IsSafeByDefault, ArePackage, IsDescribedBy, TellsPackage, IsFaultOfBytes, IsBadUnless};
 
 use crate::by_default::is_safe_by_default;
-use crate::entries::with_loops;
+use crate::entries::small_entries;
 use crate::fault::PackFault;
 use crate::form::package_in;
 use crate::packed::Package;
@@ -22,6 +22,7 @@ use std::alloc::Global;
 use wf_accept::{AcceptFault, Accepted, Unaccepted, accept};
 use wf_form::{FormFault, build_with_key};
 use wf_json::{TextFault, read_value};
+use wf_loops::{LoopEntry, Looped, LoopsFault};
 use wf_model::Parts;
 use wf_spec::Grammar;
 
@@ -43,10 +44,7 @@ fn parts_of_bytes(alloc: Global, bytes: &[u8]) -> Result<PackageParts, PackFault
     ensures refused { IfErr result (λ f. IsFaultOfBytes bytes.now f) }
 {
     let value = value_of(alloc, bytes)?;
-    match package_in(alloc, &value)? {
-        Some(parts) => Ok(parts),
-        None => Err(PackFault::NotPackage),
-    }
+    package_in(alloc, &value)
 }
 
 /// The fault of parts that form no grammar.
@@ -113,21 +111,22 @@ fn accepted_of_parts(alloc: Global, key: u64, parts: Parts) -> Result<Accepted, 
     }
 }
 
-/// The package of an accepted grammar with these loops, of which it is known that its default view is safe.
+/// The package of an accepted grammar with the loops of these entries, of which it is known that its default view is safe.
 fn package_of_safe(
     alloc: Global,
     accepted: Accepted,
-    loops: &[LoopPart],
+    entries: &[LoopEntry],
 ) -> Result<Package, PackFault>
     requires { IsSafeByDefault accepted.grammar.core }
     ensures accepted { IfOk result (λ p. p.accepted ≡ accepted) }
-    ensures good { IfOk result (λ _. AreGoodLoops accepted.grammar.core (said_entries loops.now)) }
-    ensures loops { IfOk result (λ p. AreLoopsOf accepted.grammar.core (said_entries loops.now) (loop_in p.steps)) }
-    ensures refused { IfErr result (λ f. IsBadUnless (AreGoodLoops accepted.grammar.core (said_entries loops.now)) f) }
+    ensures good { IfOk result (λ _. AreGoodLoops accepted.grammar.core entries.now) }
+    ensures loops { IfOk result (λ p. AreLoopsOf accepted.grammar.core entries.now (loop_in p.steps)) }
+    ensures refused { IfErr result (λ f. IsBadUnless (AreGoodLoops accepted.grammar.core entries.now) f) }
 {
-    match with_loops(alloc, accepted, loops) {
+    match Looped::of(alloc, accepted, entries) {
         Ok(looped) => Ok(Package::of_looped(looped)),
-        Err(fault) => Err(fault),
+        Err(LoopsFault::BadLoops) => Err(PackFault::BadPackage),
+        Err(LoopsFault::NoMemory) => Err(PackFault::NoMemory),
     }
 }
 
@@ -143,6 +142,20 @@ fn safe_by_default(alloc: Global, accepted: &Accepted) -> Result<(), PackFault>
     }
 }
 
+/// The entries of the loops of an accepted grammar whose default view is safe, where these can be good loops of it.
+fn safe_entries(
+    alloc: Global,
+    accepted: &Accepted,
+    loops: &[LoopPart],
+) -> Result<Vec<LoopEntry>, PackFault>
+    ensures safe { IfOk result (λ _. IsSafeByDefault accepted.now.grammar.core) }
+    ensures entries { IfOk result (λ v. v.items ≡ said_entries loops.now) }
+    ensures refused { IfErr result (λ f. IsBadUnless (IsGoodWith accepted.now.grammar.core loops.now) f) }
+{
+    safe_by_default(alloc, accepted)?;
+    small_entries(alloc, accepted, loops)
+}
+
 /// The package of an accepted grammar with these loops.
 fn package_of_accepted(
     alloc: Global,
@@ -150,13 +163,12 @@ fn package_of_accepted(
     loops: &[LoopPart],
 ) -> Result<Package, PackFault>
     ensures accepted { IfOk result (λ p. p.accepted ≡ accepted) }
-    ensures safe { IfOk result (λ _. IsSafeByDefault accepted.grammar.core) }
-    ensures good { IfOk result (λ _. AreGoodLoops accepted.grammar.core (said_entries loops.now)) }
+    ensures good { IfOk result (λ _. IsGoodWith accepted.grammar.core loops.now) }
     ensures loops { IfOk result (λ p. AreLoopsOf accepted.grammar.core (said_entries loops.now) (loop_in p.steps)) }
-    ensures refused { IfErr result (λ f. IsBadUnless (IsSafeByDefault accepted.grammar.core × AreGoodLoops accepted.grammar.core (said_entries loops.now)) f) }
+    ensures refused { IfErr result (λ f. IsBadUnless (IsGoodWith accepted.grammar.core loops.now) f) }
 {
-    match safe_by_default(alloc, &accepted) {
-        Ok(()) => package_of_safe(alloc, accepted, loops),
+    match safe_entries(alloc, &accepted, loops) {
+        Ok(entries) => package_of_safe(alloc, accepted, &entries),
         Err(fault) => Err(fault),
     }
 }

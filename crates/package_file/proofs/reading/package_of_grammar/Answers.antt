@@ -11,7 +11,7 @@ returns-in-Ok-clause-described c =
 
 pub returns-in-Ok-clause-good : goal.returns-in-Ok-clause-good
 returns-in-Ok-clause-good c =
-    package_if (record { grammar = c.args.grammar; loops = c.args.loops.now }) c.in-Ok.accepted c.in-Ok.ensures.grammar c.package_of_accepted.result c.in-Ok.ensures.good c.package_of_accepted.ensures.safe c.package_of_accepted.ensures.good
+    package_if (record { grammar = c.args.grammar; loops = c.args.loops.now }) c.in-Ok.accepted c.in-Ok.ensures.grammar c.package_of_accepted.result c.in-Ok.ensures.good c.package_of_accepted.ensures.good
 
 pub returns-in-Ok-clause-refused : goal.returns-in-Ok-clause-refused
 returns-in-Ok-clause-refused c =
