@@ -15,6 +15,7 @@ use Rattle.wf_decode.specs.HeldLegs.{held_steps, legs_of}
 use Rattle.wf_decode.specs.Parting.{AreLeftFrom, AreAcross}
 use Rattle.wf_decode.specs.Ends.{AreLegsAt}
 use Rattle.wf_decode.specs.Answers.{AreEnds}
+use Rattle.wf_decode.proofs.CommonSteps.{all_left}
 use Rattle.wf_decode.proofs.LegsHeld.{short_held}
 use Rattle.wf_decode.proofs.PlaceLegs.{place_held}
 
@@ -61,3 +62,14 @@ module _ (l : ViewLabelSeen) (is : IsViewLabel l) (u : View) (of : IsLabelOfView
       omega arith
   up_cost a gone (y ∷ x) x' m j at left =
       (products_law l.grammar is.formed (matrices_of l) most l.grammar.start).up (legs_of l (y ∷ x)) (legs_of l (drop j x')) (place_held l is l.grammar.start y x at.held) (legs_short a m (y ∷ x) at) left.left
+
+  -- the ways of whole addresses
+  pub whole_up_cost : (a : List Step) (m : ℕ) (legs : List LegHeld) → AreLegsAt l u a m legs → length (way_up (matrices_of l) (legs_of l legs)) ≤ most_products l.grammar most
+  whole_up_cost a m legs at = up_cost a [] legs legs m 0 at (all_left l legs at.held)
+
+  pub whole_down_cost : (a : List Step) (m : ℕ) (legs : List LegHeld) → AreLegsAt l u a m legs → length (way_down (matrices_of l) (legs_of l legs)) ≤ most_products l.grammar most
+  whole_down_cost a m legs at =
+      let v = matrices_of l in
+      let c = down_cost a [] legs legs m 0 at (all_left l legs at.held) in
+      let many = length-append (way_down v (legs_of l legs)) (v.full m ∷ []) in
+      omega arith

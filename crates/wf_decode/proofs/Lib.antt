@@ -18,6 +18,8 @@ pub mod CycleRounds
 pub mod LegsHeld
 pub mod PlaceLegs
 pub mod RowBits
+pub mod HeldColumns
+pub mod HeldWays
 pub mod Ways
 pub mod PartedAnswers
 pub mod DecisionCosts

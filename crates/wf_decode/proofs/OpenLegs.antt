@@ -1,7 +1,7 @@
 -- What the readers of a label of a view ask for holds along legs.
-use Rattle.std.proofs.Common.{◌≡◌, ℕ, zero, suc, ◌%◌, ◌<◌, Bool, true, false, cond, List, [], ◌∷◌, length, get_or, sym, subst, arith}
+use Rattle.std.proofs.Common.{◌≡◌, ℕ, zero, suc, ◌+◌, ◌%◌, ◌<◌, Bool, true, false, cond, List, [], ◌∷◌, length, get_or, drop, sym, subst, arith}
 use Rattle.std.proofs.Math.Nat.{mod-lt}
-use Rattle.std.proofs.lemmas.List.{get_or-map, length-map}
+use Rattle.std.proofs.lemmas.List.{drop_more, get_or-map, length-map}
 use Rattle.wf_model.specs.Grammar.{Grammar}
 use Rattle.wf_model.specs.View.{View}
 use Rattle.wf_model.specs.Reach.{Step, target_of, module_along}
@@ -44,6 +44,12 @@ pub opens_leg : (l : ViewLabelSeen) (u : View) (m : ℕ) (legs : List LegHeld) (
 opens_leg l u m legs i d of_view held legs_are low =
     let x = leg_at l.grammar u m (legs_of l legs) i (leg_of l d) legs_are (subst (λ n. i < n) (sym (length-map legs (leg_of l))) low) in
     (placed_at l m false legs i d held low, (u, x.0, of_view, subst (IsLeg l.grammar u x.0) (get_or-map (leg_of l) legs i d (leg_of l d) low) x.1))
+
+-- so can the first of those that are left
+pub opens_first : (l : ViewLabelSeen) (u : View) (m : ℕ) (legs : List LegHeld) (n : ℕ) (d : LegHeld) → IsLabelOfView l u → AreHeld l m false (drop n legs) → AreLegs l.grammar u m (legs_of l (drop n legs)) → n < length legs → OpensLeg l (get_or legs n d)
+opens_first l u m legs n d of_view held legs_are low =
+    let e = drop_more legs n d low in
+    opens_leg l u m (get_or legs n d ∷ drop (n + 1) legs) 0 d of_view (subst (AreHeld l m false) e held) (subst (λ z. AreLegs l.grammar u m (legs_of l z)) e legs_are) (omega arith)
 
 module _ (l : ViewLabelSeen) (k : CycleNo) (j n : ℕ) (x : OpensLeg l (ChainHeld k j n)) where
   leg_as : (b : Bool) → is_whole l k.0 ≡ b → IsLeg l.grammar x.1.0 x.1.1 (cond b (chain_from l.cycles k.0 j n) (Part (module_on l.cycles k.0 j) (leg_steps (chain_from l.cycles k.0 j n))))

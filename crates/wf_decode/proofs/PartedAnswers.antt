@@ -33,7 +33,7 @@ module _ (l : ViewLabelSeen) (is : IsViewLabel l) (u : View) (of : IsLabelOfView
       let w = ways_apart l is u of a b x x' m i y y' n o s t p q ends r in
       let xs = held_steps l (drop p x') in
       let ys = held_steps l (drop q y') in
-      let through = subst (λ z. Through (crossing g v s (legs_of l (drop p x')) t (legs_of l (drop q y'))) (get_or (v.full z).rows i 0) h.last) (sym w.first.leads) h.progress.through in
+      let through = subst (λ z. Through (crossing g v s (legs_of l (drop p x')) t (legs_of l (drop q y'))) (get_or (v.full z).rows i 0) h.last) (sym w.first.leads) h.after.through in
       let told = (decided_law g u d v of.matrices g.start r.common).across s t (legs_of l (drop p x')) (legs_of l (drop q y')) w.first_open w.second_open r.body r.apart w.first.gone w.second.gone i o h.last
       (subst (λ z. i < inputs_of g z) (sym w.first.leads) ends.input) (subst (λ z. o < outputs_of g z) (sym w.second.leads) ends.output) through in
       let ea : r.common ++ s ∷ xs ≡ a = sym (append_assoc r.common (s ∷ []) xs) ∙ (sym r.first.steps ∙ ends.first.steps) in
@@ -52,7 +52,7 @@ module _ (l : ViewLabelSeen) (is : IsViewLabel l) (u : View) (of : IsLabelOfView
       let left' = subst (λ z. AreLeftFrom l y z j y') ends.first.steps left in
       let w = (way_left l is u of b a n j y y' ends.second left').0 in
       let ys = held_steps l (drop j y') in
-      let through = subst (λ z. Through (way_down v (legs_of l (drop j y')) ++ v.full z ∷ []) first h.last) (sym w.leads) h.progress.through in
+      let through = subst (λ z. Through (way_down v (legs_of l (drop j y')) ++ v.full z ∷ []) first h.last) (sym w.leads) h.after.through in
       let told = (decided_law g u d v of.matrices g.start a).down w.seen (legs_of l (drop j y')) w.gone i o first h.last
       (subst (λ z. i < inputs_of g z) ends.first.module_is ends.input) (subst (λ z. o < outputs_of g z) (sym w.leads) ends.output) one through in
       let eb : a ++ ys ≡ b = sym left'.steps ∙ ends.second.steps in
@@ -68,7 +68,7 @@ module _ (l : ViewLabelSeen) (is : IsViewLabel l) (u : View) (of : IsLabelOfView
       let left' = subst (λ z. AreLeftFrom l x z j x') ends.second.steps left in
       let w = (way_left l is u of a b m j x x' ends.first left').0 in
       let xs = held_steps l (drop j x') in
-      let through = subst (λ z. Through (way_up v (legs_of l (drop j x'))) (get_or (v.full z).rows i 0) h.last) (sym w.leads) h.progress.through in
+      let through = subst (λ z. Through (way_up v (legs_of l (drop j x'))) (get_or (v.full z).rows i 0) h.last) (sym w.leads) h.after.through in
       let told = (decided_law g u d v of.matrices g.start b).up w.seen (legs_of l (drop j x')) w.gone i o h.last
       (subst (λ z. i < inputs_of g z) (sym w.leads) ends.input) (subst (λ z. o < outputs_of g z) ends.second.module_is ends.output) through in
       let ea : b ++ xs ≡ a = sym left'.steps ∙ ends.first.steps in

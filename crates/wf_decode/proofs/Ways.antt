@@ -18,6 +18,7 @@ use Rattle.wf_decode.specs.Ends.{AreLegsAt}
 use Rattle.wf_decode.specs.Products.{IsWay, AreWaysApart}
 use Rattle.wf_decode.specs.Answers.{AreEnds}
 use Rattle.wf_decode.proofs.LegsHeld.{legs_held}
+use Rattle.wf_decode.proofs.CommonSteps.{all_left}
 
 -- the module to which a way leads is seen
 pub way_sees : (l : ViewLabelSeen) (u : View) (k : ℕ) (legs : List LegHeld) (m : ℕ) → IsLabelOfView l u → IsWay l u k legs m → Sees l m
@@ -59,6 +60,10 @@ module _ (l : ViewLabelSeen) (is : IsViewLabel l) (u : View) (of : IsLabelOfView
         },
         parts.0,
       )
+
+  -- the legs of an address are a way from the root
+  pub way_all : (a : List Step) (m : ℕ) (legs : List LegHeld) → AreLegsAt l u a m legs → IsWay l u l.grammar.start legs m
+  way_all a m legs at = (way_left a [] m 0 legs legs at (all_left l legs at.held)).0
 
   -- after a last step
   way_after : (a common : List Step) (s : Step) (m n : ℕ) (legs later : List LegHeld) → AreLegsAt l u a m legs → AreLeftFrom l legs (common ++ s ∷ []) n later → IsOpenStep l.grammar u s × IsWay l u (target_of l.grammar s) (drop n later) m

@@ -9,13 +9,15 @@ use Rattle.wf_decode.specs.declared.leg.Leg.{Leg as LegHeld}
 use Rattle.wf_decode.specs.declared.decision.ends.End.{End}
 use Rattle.wf_decode.specs.declared.decision.ends.End.TheVariants.{Hidden, Nowhere, At}
 use Rattle.wf_decode.specs.Ends.{IsEndOn}
+use Rattle.wf_decode.specs.HeldWays.{AreWaysOf}
 use Rattle.wf_decode.specs.Reading.{most_legs}
 
--- what contracts see of a held end: the bits of its label, the end, and legs
+-- what contracts see of a held end: the bits of its label, the end, legs, and the ways of the end
 pub record HeldEndSeen : Type 0 where
   pub bits : List Bool
   pub end : End
   pub legs : List LegHeld
+  pub ways : List ℕ
 
 -- the legs of an end stand among so many
 abbrev pub FitsIn : End → ℕ → Type 0
@@ -29,9 +31,10 @@ AreAlikeAt Hidden from to = Unit {0}
 AreAlikeAt Nowhere from to = Unit {0}
 AreAlikeAt (At n i) from to = (take n to ≡ take n from) × (n ≤ length to)
 
--- a label was read on a side, under the label of a view
+-- a label was read on a side, under the label of a view: its end, and the ways of the end
 pub record IsHeldEnd (l : ViewLabelSeen) (side : Side) (h : HeldEndSeen) : Type 0 where
   pub label : AreLabelBits l.grammar h.bits
   pub fits : FitsIn h.end (length h.legs)
   pub few : length h.legs ≤ most_legs l.grammar
   pub ends : (u : View) (x : Label) → IsLabelOfView l u → IsLabel l.grammar x → h.bits ≡ label_bits x → IsEndOn side l u x h.end h.legs
+  pub ways : AreWaysOf side l h.end h.legs h.ways

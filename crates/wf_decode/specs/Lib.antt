@@ -6,6 +6,7 @@ pub mod Reading
 pub mod Marking
 pub mod Parting
 pub mod Ends
-pub mod HeldEnds
 pub mod Products
+pub mod HeldWays
+pub mod HeldEnds
 pub mod Answers

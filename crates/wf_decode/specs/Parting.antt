@@ -1,5 +1,5 @@
 -- Where two addresses part.
-use Rattle.std.specs.Prelude.{◌≡◌, ◌≢◌, ℕ, ◌≤◌, false, List, [], ◌∷◌, ◌++◌, length, drop}
+use Rattle.std.specs.Prelude.{◌≡◌, ◌≢◌, ℕ, ◌+◌, ◌≤◌, false, List, [], ◌∷◌, ◌++◌, length, drop}
 use Rattle.wf_model.specs.Reach.{Step, module_along}
 use Rattle.wf_recur.specs.Cycles.{step_of}
 use Rattle.decode_model.specs.Costs.{IsLeft}
@@ -20,12 +20,13 @@ pub record AreClashingSteps (a b : List Step) : Type 0 where
   pub second_is : b ≡ common ++ second ∷ second_rest
   pub differ : first.production ≢ second.production
 
--- after these steps, legs from the n-th on are left of an address from the start module
+-- after these steps, legs from the n-th on are left of an address from the start module, and those behind the n-th are as they were
 pub record AreLeftFrom (l : ViewLabelSeen) (old : List LegHeld) (gone : List Step) (n : ℕ) (legs : List LegHeld) : Type 0 where
   pub within : n ≤ length legs
   pub held : AreHeld l (module_along l.grammar l.grammar.start gone) false (drop n legs)
   pub steps : held_steps l old ≡ gone ++ held_steps l (drop n legs)
   pub left : IsLeft (legs_of l (drop n legs)) (legs_of l old)
+  pub kept : drop (n + 1) legs ≡ drop (n + 1) old
 
 -- the addresses have a common beginning, and then steps to different positions of one body
 pub record AreAcross (l : ViewLabelSeen) (x y : List LegHeld) (s t : Step) (i j : ℕ) (x' y' : List LegHeld) : Type 0 where

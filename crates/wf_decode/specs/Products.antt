@@ -1,19 +1,24 @@
 -- Row products of a decision, and the bit that they end in.
-use Rattle.std.specs.Prelude.{◌≡◌, ◌↔◌, ℕ, Bool, false, List, [], ◌∷◌, ◌++◌, IsTrue, get_or}
+use Rattle.std.specs.Prelude.{◌≡◌, ◌↔◌, ℕ, ◌+◌, ◌≤◌, Bool, false, List, [], ◌∷◌, ◌++◌, IsTrue, length, get_or}
 use Rattle.bool_mat.specs.Matrix.{Matrix, has}
 use Rattle.wf_model.specs.View.{View, IsSeenModule}
 use Rattle.wf_model.specs.Reach.{Step, target_of, module_along}
-use Rattle.decode_model.specs.Rows.{Progress}
+use Rattle.decode_model.specs.Rows.{Through}
 use Rattle.wf_model.specs.OpenRoutes.{IsOpenStep}
 use Rattle.decode_model.specs.Legs.{AreLegs, crossing, way_down}
 use Rattle.wf_vlabel.specs.Seen.{ViewLabelSeen, IsLabelOfView, matrices_of}
 use Rattle.wf_decode.specs.declared.leg.Leg.{Leg as LegHeld}
 use Rattle.wf_decode.specs.HeldLegs.{AreHeld, held_steps, legs_of}
 
--- the first row went through the matrices, each product was counted, and the answer is bit o of the last row
+-- the first row comes to this row by the matrices, one after another, and no more products were counted than there are matrices
+pub record IsRowAfter (done : List Matrix) (first row start now : ℕ) : Type 0 where
+  pub through : Through done first row
+  pub few : now ≤ start + length done
+
+-- the answer is bit o of the last row to which the first comes
 pub record IsBit (done : List Matrix) (first start now o : ℕ) (answer : Bool) : Type 0 where
   pub last : ℕ
-  pub progress : Progress done first last start now
+  pub after : IsRowAfter done first last start now
   pub bit : answer ≡ has last o
 
 -- legs that can be gone from the seen module k to the module m

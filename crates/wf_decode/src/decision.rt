@@ -1,17 +1,21 @@
 // The decision from two labels and the label of a view.
 ghost use Rattle.std.specs.Prelude.{◌≡◌, ◌+◌, ◌≤◌, ℕ, length};
+ghost use Rattle.wf_model.specs.declared.numbers.Side.TheVariants.{Input, Output};
 ghost use Rattle.wf_recur.specs.Cycles.{round_at};
 ghost use Rattle.wf_label.specs.Values.{AreLabelBits};
 ghost use Rattle.decode_model.specs.Counts.{most_products};
 ghost use Rattle.verdict_model.specs.Verdicts.{IsVerdict, NeverDepends};
 ghost use Rattle.verdict_model.specs.declared.verdict.Verdict.TheVariants.{No};
 ghost use Rattle.wf_decode.specs.Answers.{IsDecision, HaveEnds, OfEnds, OfLabels};
+ghost use Rattle.wf_decode.specs.HeldWays.{AreWaysOf, IfHeld};
 ghost use Rattle.wf_decode.specs.Reading.{most_legs};
 
 mod answers;
 mod ends;
 mod held;
+mod legs_left;
 mod products;
+mod ways;
 
 use crate::decision::answers::answer;
 use crate::decision::ends::{End, end_on};
@@ -82,19 +86,23 @@ fn decide_in<L: Ledger>(
         return Verdict::Hidden1;
     }
     let to = end_on(vl, Side::Output, second, second_legs);
-    decide_ends(vl, from, first_legs, to, second_legs, steps)
+    decide_ends(vl, from, first_legs, &[], to, second_legs, &[], steps)
 }
 
-/// The verdict on two labels, from where the first item is consumed and where the second is produced.
+/// The verdict on two labels, from where the first item is consumed and where the second is produced, and the ways of one that is held.
 fn decide_ends<L: Ledger>(
     vl: &ViewLabel<'_>,
     from: End,
     first_legs: &mut [Leg],
+    rows: &[u64],
     to: End,
     second_legs: &mut [Leg],
+    columns: &[u64],
     steps: &mut Steps<L>,
 ) -> Verdict
     requires ends { HaveEnds vl.now from first_legs.old to second_legs.old }
+    requires rows { IfHeld rows.now (AreWaysOf Input vl.now from first_legs.old rows.now) }
+    requires columns { IfHeld columns.now (AreWaysOf Output vl.now to second_legs.old columns.now) }
     ensures decision { OfEnds vl.now from first_legs.old to second_legs.old (λ u x y. IsDecision vl.now.grammar u x y result) }
     ensures cost { (l : ℕ) → ((k : ℕ) → length (round_at vl.now.cycles k) ≤ l) → steps.new ≤ steps.old + most_products vl.now.grammar l }
     ensures first_length { length first_legs.new ≡ length first_legs.old }
@@ -118,8 +126,10 @@ fn decide_ends<L: Ledger>(
                 vl,
                 &mut first_legs[..n],
                 input,
+                rows,
                 &mut second_legs[..k],
                 output,
+                columns,
                 steps,
             ),
         },

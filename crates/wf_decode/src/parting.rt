@@ -33,7 +33,7 @@ pub(crate) enum Parted {
     },
 }
 
-/// Finds where two addresses part. Of two chains of different numbers the longer goes on with one continuing step, and what is left of it is held in its place.
+/// Finds where two addresses part. Of two chains of different numbers the longer goes on with one continuing step, and what is left of it is held in its place, the first of the legs that are left; no other of these is changed.
 ///
 /// It takes no memory. Cost: one look at each leg of the common beginning.
 pub(crate) fn part(vl: &ViewLabel<'_>, first: &mut [Leg], second: &mut [Leg]) -> Parted

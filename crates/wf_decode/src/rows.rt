@@ -39,8 +39,13 @@ pub(crate) fn down<L: Ledger>(
     row
 }
 
-// The row times the matrices on the way down one leg.
-fn down_leg<L: Ledger>(vl: &ViewLabel<'_>, leg: Leg, row: u64, steps: &mut Steps<L>) -> u64
+/// The row times the matrices on the way down one leg.
+pub(crate) fn down_leg<L: Ledger>(
+    vl: &ViewLabel<'_>,
+    leg: Leg,
+    row: u64,
+    steps: &mut Steps<L>,
+) -> u64
     requires { OpensLeg vl.now leg }
     ensures { Progress (leg_down (matrices_of vl.now) (leg_of vl.now leg)) row result steps.old steps.new }
 {
@@ -90,8 +95,8 @@ pub(crate) fn up<L: Ledger>(vl: &ViewLabel<'_>, legs: &[Leg], row: u64, steps: &
     row
 }
 
-// The row times the matrices on the way up one leg.
-fn up_leg<L: Ledger>(vl: &ViewLabel<'_>, leg: Leg, row: u64, steps: &mut Steps<L>) -> u64
+/// The row times the matrices on the way up one leg.
+pub(crate) fn up_leg<L: Ledger>(vl: &ViewLabel<'_>, leg: Leg, row: u64, steps: &mut Steps<L>) -> u64
     requires { OpensLeg vl.now leg }
     ensures { Progress (leg_up (matrices_of vl.now) (leg_of vl.now leg)) row result steps.old steps.new }
 {

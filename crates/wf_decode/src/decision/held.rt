@@ -1,5 +1,5 @@
-// Decisions of one label with many others: it is read once.
-ghost use Rattle.std.specs.Prelude.{◌≡◌, ◌+◌, ◌≤◌, ℕ, length, IfOk};
+// Decisions of one label with many others: it is read once, and the row products along its legs are made once.
+ghost use Rattle.std.specs.Prelude.{◌≡◌, ◌+◌, ◌*◌, ◌≤◌, ℕ, length, IfOk};
 ghost use Rattle.wf_model.specs.declared.numbers.Side.TheVariants.{Input, Output};
 ghost use Rattle.wf_recur.specs.Cycles.{round_at};
 ghost use Rattle.wf_label.specs.Values.{AreLabelBits};
@@ -11,6 +11,7 @@ ghost use Rattle.wf_decode.specs.Reading.{most_legs};
 
 use crate::decision::decide_ends;
 use crate::decision::ends::{End, end_on};
+use crate::decision::ways::ways_of;
 use crate::leg::Leg;
 use crate::scratch::{Scratch, no_legs};
 use bool_mat::Steps;
@@ -22,12 +23,13 @@ use wf_label::LabelRef;
 use wf_spec::Side;
 use wf_vlabel::ViewLabel;
 
-/// A label that was read on a side, under the label of a view: where its item is consumed, on the side of inputs, or produced, on that of outputs. It is read once, and then decided with many others.
+/// A label that was read on a side, under the label of a view: where its item is consumed, on the side of inputs, or produced, on that of outputs, and the ways of its legs. It is read once, and then decided with many others.
 #[derive(Drop)]
 pub struct HeldEnd<'a> {
     label: LabelRef<'a>,
     end: End,
     legs: Vec<Leg>,
+    ways: Vec<u64>,
 }
 
 impl<'a> Model for HeldEnd<'a> {
@@ -35,28 +37,36 @@ impl<'a> Model for HeldEnd<'a> {
 
     ghost Value = { HeldEndSeen };
 
-    ghost view = { λ h. record { bits = h.label; end = h.end; legs = h.legs.items } };
+    ghost view = { λ h. record { bits = h.label; end = h.end; legs = h.legs.items; ways = h.ways.items } };
 }
 
 impl<'a> HeldEnd<'a> {
     /// Reads a label on a side. Fails only for want of memory.
     ///
-    /// Cost: linear in the bits of the label, and in the modules of the grammar.
-    pub fn read(
+    /// Cost: linear in the bits of the label, and in the modules of the grammar; and at most as many row products as 64 decisions make.
+    pub fn read<L: Ledger>(
         alloc: Global,
         vl: &ViewLabel<'_>,
         side: Side,
         label: LabelRef<'a>,
+        steps: &mut Steps<L>,
     ) -> Result<HeldEnd<'a>, AllocError>
         requires { AreLabelBits vl.now.grammar label }
         ensures held { IfOk result (IsHeldEnd vl.now side) }
         ensures bits { IfOk result (λ h. h.bits ≡ label.entry) }
+        ensures cost { (l : ℕ) → ((k : ℕ) → length (round_at vl.now.cycles k) ≤ l) → steps.new ≤ steps.old + 64 * most_products vl.now.grammar l }
     {
         // The view label is one of a view.
         let _label = vl.cycles();
         let mut legs = no_legs(alloc, vl)?;
         let end = end_on(vl, side, &label, legs.as_mut_slice());
-        Ok(HeldEnd { label, end, legs })
+        let ways = ways_of(alloc, vl, side, end, legs.as_slice(), steps)?;
+        Ok(HeldEnd {
+            label,
+            end,
+            legs,
+            ways,
+        })
     }
 
     /// The label that was read. Takes no memory.
@@ -81,7 +91,7 @@ impl<'a> HeldEnd<'a> {
 
 /// What `decide` gives of the label that was read on the side of inputs, and a second one.
 ///
-/// It takes no memory, and makes as few row products.
+/// It takes no memory, and makes no more row products. Along the legs of the first label it makes those of one leg at most.
 pub fn decide_from<L: Ledger>(
     vl: &ViewLabel<'_>,
     scratch: &mut Scratch,
@@ -128,12 +138,13 @@ fn decide_from_in<L: Ledger>(
     let _label = vl.cycles();
     first.put_legs(first_legs);
     let to = end_on(vl, Side::Output, second, second_legs);
-    decide_ends(vl, first.end, first_legs, to, second_legs, steps)
+    let rows = first.ways.as_slice();
+    decide_ends(vl, first.end, first_legs, rows, to, second_legs, &[], steps)
 }
 
 /// What `decide` gives of a first label and the one that was read on the side of outputs.
 ///
-/// It takes no memory, and makes as few row products.
+/// It takes no memory, and makes no more row products. Along the legs of the second label it makes those of one leg at most.
 pub fn decide_to<L: Ledger>(
     vl: &ViewLabel<'_>,
     scratch: &mut Scratch,
@@ -180,5 +191,15 @@ fn decide_to_in<L: Ledger>(
     let _label = vl.cycles();
     let from = end_on(vl, Side::Input, first, first_legs);
     second.put_legs(second_legs);
-    decide_ends(vl, from, first_legs, second.end, second_legs, steps)
+    let columns = second.ways.as_slice();
+    decide_ends(
+        vl,
+        from,
+        first_legs,
+        &[],
+        second.end,
+        second_legs,
+        columns,
+        steps,
+    )
 }

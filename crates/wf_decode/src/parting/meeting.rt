@@ -19,7 +19,7 @@ pub(crate) struct Meeting {
     pub(crate) second_from: usize,
 }
 
-/// Takes one step of each of two addresses at one module, after as many continuing steps of each as both have. Of two chains of different numbers the longer is shortened.
+/// Takes one step of each of two addresses at one module, after as many continuing steps of each as both have. Of two chains of different numbers the longer is shortened, and no other leg is changed.
 pub(crate) fn meet(
     vl: &ViewLabel<'_>,
     first: &mut [Leg],
@@ -31,10 +31,14 @@ pub(crate) fn meet(
     requires j { j < length second.old }
     requires held { (m : ℕ) × AreHeld vl.now m false (drop i first.old) × AreHeld vl.now m false (drop j second.old) }
     ensures left { LeavesOfBoth vl.now (drop i first.old) (step_of result.first) (drop result.first_from first.new) (drop j second.old) (step_of result.second) (drop result.second_from second.new) }
+    ensures first_kept { drop (result.first_from + 1) first.new ≡ drop (result.first_from + 1) first.old }
+    ensures second_kept { drop (result.second_from + 1) second.new ≡ drop (result.second_from + 1) second.old }
     ensures first_length { length first.new ≡ length first.old }
     ensures second_length { length second.new ≡ length second.old }
     ensures first_within { result.first_from ≤ length first.old }
     ensures second_within { result.second_from ≤ length second.old }
+    ensures first_onward { i ≤ result.first_from }
+    ensures second_onward { j ≤ result.second_from }
     ensures onward { (i + j < result.first_from + result.second_from) }
 {
     let a = next_step(vl, first, i);

@@ -26,6 +26,7 @@ pub(crate) fn shorten(vl: &ViewLabel<'_>, legs: &mut [Leg], at: usize, count: u3
     requires held { (m : ℕ) × AreHeld vl.now m false (drop at legs.old) }
     requires longer { HasChain count (drop at legs.old) }
     ensures left { (m : ℕ) → AreHeld vl.now m false (drop at legs.old) → AreLeftAfter vl.now m (drop at legs.old) count (step_of result) (drop at legs.new) }
+    ensures kept { drop (at + 1) legs.new ≡ drop (at + 1) legs.old }
     ensures length { length legs.new ≡ length legs.old }
 {
     let cycles = vl.cycles();

@@ -24,6 +24,7 @@ before c =
     let met = c.meet-met.ensures in
     common_before l c.grammar-linear.ensures.label c.args.first.now c.args.second.now (step_of c.meet-met.result.first) (step_of c.meet-met.result.second) c.loop-i.i c.loop-i.j c.meet-met.result.first_from c.meet-met.result.second_from c.loop-i.first c.loop-i.second c.meet-met.new.first c.meet-met.new.second h
     (met.left (module_along l.grammar l.grammar.start h.common) h.first.held h.second.held) (omega (arith, met.first_within, met.first_length)) (omega (arith, met.second_within, met.second_length))
+    met.first_onward met.first_kept met.second_onward met.second_kept
 
 pub loop-i-init : goal.loop-i-init
 loop-i-init c = record { common = common_none c.args.vl.now c.args.first.now c.args.second.now c.requires.first c.requires.second; first_length = refl; second_length = refl }

@@ -2,7 +2,7 @@ use Rattle.std.proofs.Common.{subst}
 use Rattle.bool_mat.specs.Matrix.{IsUnion}
 use Rattle.wf_vlabel.specs.Seen.{matrices_of}
 use Rattle.wf_decode.proofs.RowBits.{bit_of_one}
-use Rattle.wf_decode.proofs.decision.products.ends_in.Goals as goal
+use Rattle.wf_decode.proofs.decision.legs_left.ends_in.Goals as goal
 
 pub returns : goal.returns
 returns g c =
