@@ -29,20 +29,17 @@ use wf_safe::SafeView;
 use wf_stage::put_text;
 use wf_vlabel::ViewLabel;
 
-/// Puts what is listed for the item of a label, with a counter of row products of its own. Nothing is due before.
-fn put_counted<L: Ledger, O: Sink>(
-    blank: Blank,
+/// Puts what is listed for the item of a label that was read. Nothing is due before.
+fn put_listed<L: Ledger, O: Sink>(
     store: &Store<'_>,
     vl: &ViewLabel<'_>,
     scratch: &mut Scratch,
     direction: Direction,
     of: &HeldEnd<'_>,
+    steps: &mut Steps<L>,
     due: &mut Due,
     out: &mut O,
 ) -> Result<(), Stop>
-    requires name { blank.name ≡ L.name }
-    requires parts { blank.parts ≡ L.parts }
-    requires some { 0 < blank.parts }
     requires store { IsStoreFor vl.now.grammar store.now }
     requires of { IsHeldEnd vl.now (side_of direction) of.now }
     requires room { most_legs vl.now.grammar ≤ scratch.old }
@@ -50,8 +47,7 @@ fn put_counted<L: Ledger, O: Sink>(
     ensures writes { OfStore vl.now store.now of.now.bits (λ u entries y.
         Writes O.put_bytes O.faults O.at_last [] (ListsLabel vl.now.grammar u direction entries y) out.old out.new (end_after result)) }
 {
-    let mut steps = Steps::<L>::new(blank);
-    match list(store, vl, scratch, direction, of, &mut steps, due, out) {
+    match list(store, vl, scratch, direction, of, steps, due, out) {
         Ok(Listing::Listed) => match due.put(out) {
             Ok(()) => Ok(()),
             Err(_) => Err(Stop::WriteFault),
@@ -62,12 +58,13 @@ fn put_counted<L: Ledger, O: Sink>(
 }
 
 /// Puts what is listed for the item of a label that was read, in places of its own.
-fn put_end<O: Sink>(
+fn put_end<L: Ledger, O: Sink>(
     alloc: Global,
     store: &Store<'_>,
     vl: &ViewLabel<'_>,
     direction: Direction,
     of: &HeldEnd<'_>,
+    steps: &mut Steps<L>,
     out: &mut O,
 ) -> Result<(), Stop>
     requires store { IsStoreFor vl.now.grammar store.now }
@@ -81,16 +78,32 @@ fn put_end<O: Sink>(
     let Ok(mut due) = Due::new(alloc) else {
         return Err(Stop::NoMemory);
     };
-    put_counted::<Brand, O>(
-        Blank::new(1),
-        store,
-        vl,
-        &mut scratch,
-        direction,
-        of,
-        &mut due,
-        out,
-    )
+    put_listed(store, vl, &mut scratch, direction, of, steps, &mut due, out)
+}
+
+/// Reads a label, and puts what is listed for its item, with a counter of row products of its own.
+fn put_counted<L: Ledger, O: Sink>(
+    blank: Blank,
+    alloc: Global,
+    store: &Store<'_>,
+    vl: &ViewLabel<'_>,
+    direction: Direction,
+    label: LabelRef<'_>,
+    out: &mut O,
+) -> Result<(), Stop>
+    requires name { blank.name ≡ L.name }
+    requires parts { blank.parts ≡ L.parts }
+    requires some { 0 < blank.parts }
+    requires store { IsStoreFor vl.now.grammar store.now }
+    requires label { AreLabelBits vl.now.grammar label }
+    ensures writes { OfStore vl.now store.now label.entry (λ u entries y.
+        Writes O.put_bytes O.faults O.at_last [] (ListsLabel vl.now.grammar u direction entries y) out.old out.new (end_after result)) }
+{
+    let mut steps = Steps::<L>::new(blank);
+    let Ok(of) = HeldEnd::read(alloc, vl, direction.side(), label, &mut steps) else {
+        return Err(Stop::NoMemory);
+    };
+    put_end(alloc, store, vl, direction, &of, &mut steps, out)
 }
 
 /// Reads a label, and puts what is listed for its item.
@@ -107,10 +120,7 @@ fn put_label<O: Sink>(
     ensures writes { OfStore vl.now store.now label.entry (λ u entries y.
         Writes O.put_bytes O.faults O.at_last [] (ListsLabel vl.now.grammar u direction entries y) out.old out.new (end_after result)) }
 {
-    let Ok(of) = HeldEnd::read(alloc, vl, direction.side(), label) else {
-        return Err(Stop::NoMemory);
-    };
-    put_end(alloc, store, vl, direction, &of, out)
+    put_counted::<Brand, O>(Blank::new(1), alloc, store, vl, direction, label, out)
 }
 
 /// Puts what is listed for the item of this name: that it is unknown where no entry has the name, that it is hidden where the view hides its label, and otherwise the names of the entries that are listed.

@@ -1,4 +1,4 @@
-use Rattle.cmd_explain.proofs.put.put_end.Given as goal
+use Rattle.cmd_explain.proofs.put.put_label.Given as goal
 
 abbrev pub ghosts-put_counted : goal.ghosts-put_counted
 ghosts-put_counted g a = record { name = a.blank.name; parts = a.blank.parts }
