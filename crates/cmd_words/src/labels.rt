@@ -4,6 +4,7 @@ ghost use Rattle.wf_model.specs.View.{View};
 ghost use Rattle.label_model.specs.Files.{Entry};
 ghost use Rattle.words_model.specs.Laws.{Fits};
 ghost use Rattle.label_file.specs.Stored.{AreHeldOf, IsStoreFor};
+ghost use Rattle.wf_vlabel.specs.Seen.{IsLabelOfView};
 ghost use Rattle.wf_words.specs.Answers.{IsWordByWords};
 ghost use Rattle.wf_words.specs.WordViews.{IsWordView, AreOfWordView};
 ghost use Rattle.wf_message.specs.Endings.{end_after, NoMemory};
@@ -58,6 +59,37 @@ fn answer_under<H: Shelf, O: Sink>(
     queries_stage(alloc, &mut prepared, shelf, name, out)
 }
 
+/// Answers the queries of a file from the entries of a label file, under the label of a view. The label of the lifted view is made here.
+fn answer_over<H: Shelf, O: Sink>(
+    alloc: Global,
+    v: &SafeView<'_>,
+    automaton: &Automaton,
+    plain: &ViewLabel<'_>,
+    lifted: &SafeView<'_>,
+    store: &Store<'_>,
+    name: &str,
+    shelf: &mut H,
+    out: &mut O,
+) -> Result<(), Stop>
+    requires fits { Fits v.now.accepted.grammar.core automaton.now }
+    requires label { IsLabelOfView plain.now v.now.view.core }
+    requires grammar { plain.now.grammar ≡ v.now.accepted.grammar.core }
+    requires lifted { IsLiftedView v.now.accepted.grammar.core v.now.view.core automaton.now lifted.now }
+    requires store { IsStoreFor v.now.accepted.grammar.core store.now }
+    ensures obeys { (entries : List Entry) → AreHeldOf v.now.accepted.grammar.core entries store.now →
+        Obeys H.files H.readings H.faults H.at_last O.put_bytes O.faults O.at_last (name.now ∷ []) []
+        (λ f. QueriesStage (IsWordByWords v.now.accepted.grammar.core v.now.view.core automaton.now entries) (f name.now))
+        shelf.old shelf.new out.old out.new (end_after result) }
+    ensures untouched { end_after result ≡ NoMemory → (O.put_bytes out.new ≡ O.put_bytes out.old) × (O.faults out.new ≡ O.faults out.old) }
+{
+    // The laws of words speak of grammars that are accepted.
+    let _accepted = v.grammar();
+    let Ok(raised) = ViewLabel::build(alloc, lifted) else {
+        return Err(Stop::NoMemory);
+    };
+    answer_under(alloc, automaton, plain, &raised, store, name, shelf, out)
+}
+
 /// Answers the queries of a file from the entries of a label file. All that needs memory comes before the first answer: the labels of both views, and the room for verdicts.
 fn answer_queries<H: Shelf, O: Sink>(
     alloc: Global,
@@ -78,15 +110,10 @@ fn answer_queries<H: Shelf, O: Sink>(
         shelf.old shelf.new out.old out.new (end_after result) }
     ensures untouched { end_after result ≡ NoMemory → (O.put_bytes out.new ≡ O.put_bytes out.old) × (O.faults out.new ≡ O.faults out.old) }
 {
-    // The laws of words speak of grammars that are accepted.
-    let _accepted = v.grammar();
     let Ok(plain) = ViewLabel::build(alloc, v) else {
         return Err(Stop::NoMemory);
     };
-    let Ok(raised) = ViewLabel::build(alloc, lifted) else {
-        return Err(Stop::NoMemory);
-    };
-    answer_under(alloc, automaton, &plain, &raised, store, name, shelf, out)
+    answer_over(alloc, v, automaton, &plain, lifted, store, name, shelf, out)
 }
 
 /// Takes LABELS and QUERIES under a view and the lifted view of an automaton.

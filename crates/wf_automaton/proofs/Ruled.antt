@@ -15,7 +15,7 @@ use Rattle.wf_automaton.specs.declared.fault.AutoMember.TheVariants.{Accept, Mov
 use Rattle.wf_automaton.specs.declared.fault.AutoFault.{AutoFault}
 use Rattle.wf_automaton.specs.declared.fault.AutoFault.TheVariants.{StateBad, UnknownModule, TooManyStates, NoMemory}
 use Rattle.wf_automaton.specs.Forms.{IsAutoText, IsShapeFault}
-use Rattle.wf_automaton.specs.Rules.{move_of, automaton_of, state_rules, name_rule, port_rule, new_moves, AreSomeStates, IsMoveBelow, IsMoveOf, HasFewPortsIn, IsAutoFault}
+use Rattle.wf_automaton.specs.Rules.{move_of, automaton_of, state_rules, name_rule, port_rule, new_moves, AreSomeStates, IsMoveBelow, IsMoveOf, HasFewPortsIn, auto_rules, TellsAutomaton, IsAutoFault}
 use Rattle.wf_automaton.specs.Tables.{AreFlagsOf, AreMovesOf, AreTablesOf}
 
 -- a fault of the first rules is one of all
@@ -87,50 +87,67 @@ module _ (g : Grammar) (p : AutoParts) (states : AllHold (state_rules p)) where
         let b = moves_bound known v (subst (IsIn v) (of ∙ is) h) in
         (b.0, subst (λ (ms : List Module). v.module_no < length ms) (sym same) b.1, b.2)
 
-    -- with its tables it is that of the parts
+    -- and its tables are those of the automaton
+    pub tables_made : (accept : List ℕ) → accept ≡ p.accept → (read : List Move) → read ≡ moves → (flags : List Bool) (table : List (Option ℕ)) → AreFlagsOf accept flags → AreMovesOf p.states read table
+        → AreTablesOf (automaton_of g p) flags table
+    tables_made accept same read of flags table marked leading = record {
+      formed = is_automaton;
+      accepting = subst (λ states. AreFlagsOf states flags) same marked;
+      leading = subst (λ vs. AreMovesOf p.states vs table) (of ∙ is) leading;
+    }
+
+-- parts that keep all rules
+module _ (g : Grammar) (p : AutoParts) (all : AllHold (auto_rules g p)) where
+  pub rules_of_states : AllHold (state_rules p)
+  rules_of_states = (all.0, (all.1.0, (all.1.1.0, (all.1.1.1.0, tt))))
+
+  -- with moves that are those of the parts an automaton is that of the parts
+  module _ (moves : List Move) (is : moves ≡ map (move_of g) p.moves) where
     abbrev made : Automaton
     made = record { states = p.states; start = p.start; accept = p.accept; moves = moves }
 
     made_is : made ≡ automaton_of g p
     made_is = λ i. record { states = p.states; start = p.start; accept = p.accept; moves = is i }
 
-    pub tables_made : (accept : List ℕ) → accept ≡ p.accept → (read : List Move) → read ≡ moves → (flags : List Bool) (table : List (Option ℕ)) → AreFlagsOf accept flags → AreMovesOf p.states read table
-        → AreTablesOf made flags table
-    tables_made accept same read of flags table marked leading = record {
-      formed = subst IsAutomaton (sym made_is) is_automaton;
-      accepting = subst (λ states. AreFlagsOf states flags) same marked;
-      leading = subst (λ vs. AreMovesOf p.states vs table) of leading;
-    }
+    pub made_tables : (flags : List Bool) (table : List (Option ℕ)) → AreTablesOf (automaton_of g p) flags table → AreTablesOf made flags table
+    made_tables flags table h = subst (λ a. AreTablesOf a flags table) (sym made_is) h
 
-    pub made_fits : HoldsThroughout (port_rule g p.states) → (a : Automaton) → a ≡ made → Fits g a
-    made_fits few a same = subst (Fits g) (sym (same ∙ made_is)) (fits few)
+    pub made_tells : (bytes : List ℕ) → IsAutoText bytes p → (a : Automaton) → a ≡ made → TellsAutomaton g bytes a
+    made_tells bytes read a same = (p, read, all, same ∙ made_is)
+
+    pub made_fits : (a : Automaton) → a ≡ made → Fits g a
+    made_fits a same = subst (Fits g) (sym (same ∙ made_is)) (fits g p rules_of_states all.1.1.1.1.1.1.0)
 
 -- a fault that is told is one of the bytes
 module _ (g : Grammar) (bytes : List ℕ) (f : AutoFault) where
   pub shape_refused : (f ≡ NoMemory) ⊎ IsShapeFault bytes f → (f ≡ NoMemory) ⊎ IsAutoFault g bytes f
   shape_refused h = ⊎_elim (λ e. inl e) (λ s. inr (inl s)) h
 
-  module _ (p : AutoParts) (read : IsAutoText bytes p) where
-    abbrev later_rules : List (Rule AutoFault)
-    later_rules = name_rule g p.moves ∷ new_moves (map (move_of g) p.moves) ∷ port_rule g p.states ∷ []
+  pub rules_refused : (p : AutoParts) → IsAutoText bytes p → (f ≡ NoMemory) ⊎ IsFirstFault (auto_rules g p) f → (f ≡ NoMemory) ⊎ IsAutoFault g bytes f
+  rules_refused p read h = ⊎_elim (λ e. inl e) (λ r. inr (inr (p, read, r))) h
 
-    pub states_refused : IsFirstFault (state_rules p) f → (f ≡ NoMemory) ⊎ IsAutoFault g bytes f
-    states_refused h = inr (inr (p, read, in_front (state_rules p) later_rules f h))
+-- the first rule that parts break is one of all rules
+module _ (g : Grammar) (p : AutoParts) (f : AutoFault) where
+  abbrev later_rules : List (Rule AutoFault)
+  later_rules = name_rule g p.moves ∷ new_moves (map (move_of g) p.moves) ∷ port_rule g p.states ∷ []
 
-    module _ (states : AllHold (state_rules p)) where
-      by_later : IsFirstFault later_rules f → (f ≡ NoMemory) ⊎ IsAutoFault g bytes f
-      by_later h = inr (inr (p, read, behind (state_rules p) later_rules f states h))
+  pub states_refused : IsFirstFault (state_rules p) f → (f ≡ NoMemory) ⊎ IsFirstFault (auto_rules g p) f
+  states_refused h = inr (in_front (state_rules p) later_rules f h)
 
-      pub names_refused : (list : List MovePart) → list ≡ p.moves → (f ≡ NoMemory) ⊎ IsFirstFault (name_rule g list ∷ []) f → (f ≡ NoMemory) ⊎ IsAutoFault g bytes f
-      names_refused list is h =
+  module _ (states : AllHold (state_rules p)) where
+    by_later : IsFirstFault later_rules f → (f ≡ NoMemory) ⊎ IsFirstFault (auto_rules g p) f
+    by_later h = inr (behind (state_rules p) later_rules f states h)
+
+    pub names_refused : (list : List MovePart) → list ≡ p.moves → (f ≡ NoMemory) ⊎ IsFirstFault (name_rule g list ∷ []) f → (f ≡ NoMemory) ⊎ IsFirstFault (auto_rules g p) f
+    names_refused list is h =
+        ⊎_elim (λ e. inl e)
+        (λ s. by_later (in_front (name_rule g p.moves ∷ []) (new_moves (map (move_of g) p.moves) ∷ port_rule g p.states ∷ []) f (subst (λ vs. IsFirstFault (name_rule g vs ∷ []) f) is s))) h
+
+    module _ (known : HoldsThroughout (name_rule g p.moves)) where
+      pub moves_refused : (list : List Move) → list ≡ map (move_of g) p.moves → (f ≡ NoMemory) ⊎ IsFirstFault (new_moves list ∷ []) f → (f ≡ NoMemory) ⊎ IsFirstFault (auto_rules g p) f
+      moves_refused list is h =
           ⊎_elim (λ e. inl e)
-          (λ s. by_later (in_front (name_rule g p.moves ∷ []) (new_moves (map (move_of g) p.moves) ∷ port_rule g p.states ∷ []) f (subst (λ vs. IsFirstFault (name_rule g vs ∷ []) f) is s))) h
+          (λ s. by_later (inr (known, in_front (new_moves (map (move_of g) p.moves) ∷ []) (port_rule g p.states ∷ []) f (subst (λ vs. IsFirstFault (new_moves vs ∷ []) f) is s)))) h
 
-      module _ (known : HoldsThroughout (name_rule g p.moves)) where
-        pub moves_refused : (list : List Move) → list ≡ map (move_of g) p.moves → (f ≡ NoMemory) ⊎ IsFirstFault (new_moves list ∷ []) f → (f ≡ NoMemory) ⊎ IsAutoFault g bytes f
-        moves_refused list is h =
-            ⊎_elim (λ e. inl e)
-            (λ s. by_later (inr (known, in_front (new_moves (map (move_of g) p.moves) ∷ []) (port_rule g p.states ∷ []) f (subst (λ vs. IsFirstFault (new_moves vs ∷ []) f) is s)))) h
-
-        pub ports_refused : HoldsThroughout (new_moves (map (move_of g) p.moves)) → IsFirstFault (port_rule g p.states ∷ []) f → (f ≡ NoMemory) ⊎ IsAutoFault g bytes f
-        ports_refused new h = by_later (inr (known, inr (new, h)))
+      pub ports_refused : HoldsThroughout (new_moves (map (move_of g) p.moves)) → IsFirstFault (port_rule g p.states ∷ []) f → (f ≡ NoMemory) ⊎ IsFirstFault (auto_rules g p) f
+      ports_refused new h = by_later (inr (known, inr (new, h)))

@@ -1,5 +1,5 @@
 -- The lifted grammar of an accepted grammar is accepted, with its ranks, choices and cycles.
-use Rattle.std.proofs.Common.{◌≡◌, ◌⊎◌, ℕ, ◌<◌, ◌≤◌, Bool, true, false, List, [], map, sym, ap, ◌∙◌, subst, inl, inr}
+use Rattle.std.proofs.Common.{◌≡◌, ◌⊎◌, ℕ, ◌<◌, ◌≤◌, List, [], map, sym, ap, ◌∙◌, subst, inl, inr}
 use Rattle.wf_model.specs.Lists.{IsAt}
 use Rattle.wf_model.specs.Grammar.{Grammar, Module, Production, Given}
 use Rattle.wf_model.specs.WellFormed.{IsWellFormed}
@@ -27,16 +27,9 @@ formed_lists g k start modules rules given wf some few ports a b c d =
     let e : grammar_of_lists start modules rules given ≡ lift g k = (λ t. record { start = a t; modules = b t; productions = c t; given = d t }) in
     subst IsWellFormed (sym e) (lifted_grammar_law g k wf some few ports).formed
 
--- the fault is want of memory
-abbrev pub is_memory : AcceptFault → Bool
-is_memory (NotProper f) = false
-is_memory (NotLinear f) = false
-is_memory (VersionChanged n f) = false
-is_memory NoMemory = true
-
--- no other fault is met
-pub only_memory : (h : HeldGrammar) (f : AcceptFault) → IsProper h.core → IsLinear h.core → h.versions ≡ [] → (f ≡ NoMemory) ⊎ IsFaultOf h f → is_memory f ≡ true
-only_memory h f proper linear none (inl e) = ap is_memory e
+-- no other fault is met than want of memory
+pub only_memory : (h : HeldGrammar) (f : AcceptFault) → IsProper h.core → IsLinear h.core → h.versions ≡ [] → (f ≡ NoMemory) ⊎ IsFaultOf h f → f ≡ NoMemory
+only_memory h f proper linear none (inl e) = e
 only_memory h (NotProper f) proper linear none (inr q) = absurd (none_of_proper h.core f proper q)
 only_memory h (NotLinear f) proper linear none (inr q) = absurd (none_of_linear h.core f linear q.1)
 only_memory h (VersionChanged n f) proper linear none (inr q) = absurd (subst (λ (vs : List Version). IsAt q.2.version n vs) none q.2.is_at)

@@ -1,5 +1,6 @@
 // Lifted grammars.
 ghost use Rattle.std.specs.Prelude.{◌≡◌, ◌<◌, ◌≤◌, [], IfOk};
+ghost use Rattle.wf_accept.specs.declared.fault.AcceptFault.TheVariants.{NoMemory};
 ghost use Rattle.wf_check.specs.Proper.{IsRankingOf};
 ghost use Rattle.wf_model.specs.Linear.{IsLinear};
 ghost use Rattle.wf_model.specs.Proper.{IsProper};
@@ -27,6 +28,18 @@ fn lifted_grammar(alloc: Global, g: &Grammar, states: u8) -> Result<Grammar, All
     Grammar::of_lists(alloc, 0, start, modules, rules, given)
 }
 
+/// The error that memory was refused, which is the only fault that is met.
+fn want_of_memory(fault: &AcceptFault) -> AllocError
+    requires { fault.now ≡ NoMemory }
+{
+    match fault {
+        AcceptFault::NoMemory => AllocError,
+        AcceptFault::NotProper(_) => unreachable!(),
+        AcceptFault::NotLinear(_) => unreachable!(),
+        AcceptFault::VersionChanged { .. } => unreachable!(),
+    }
+}
+
 /// A grammar of which it is known that it is accepted, with its ranks and its cycles.
 fn accept_known(alloc: Global, grammar: Grammar) -> Result<Accepted, AllocError>
     requires proper { IsProper grammar.core }
@@ -36,12 +49,7 @@ fn accept_known(alloc: Global, grammar: Grammar) -> Result<Accepted, AllocError>
 {
     match accept(alloc, grammar) {
         Ok(accepted) => Ok(accepted),
-        Err(refused) => match &refused.fault {
-            AcceptFault::NoMemory => Err(AllocError),
-            AcceptFault::NotProper(_) => unreachable!(),
-            AcceptFault::NotLinear(_) => unreachable!(),
-            AcceptFault::VersionChanged { .. } => unreachable!(),
-        },
+        Err(refused) => Err(want_of_memory(&refused.fault)),
     }
 }
 

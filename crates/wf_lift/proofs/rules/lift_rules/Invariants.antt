@@ -4,4 +4,4 @@ use Rattle.wf_lift.proofs.rules.lift_rules.Given as goal
 
 -- the productions so far
 abbrev pub invariant-loop-one : goal.invariant-loop-one
-invariant-loop-one l = l.list.items ≡ map (lift_production l.states) (map (λ p. p.core) (take l.one-index l.productions))
+invariant-loop-one l = l.list.items ≡ map (λ p. lift_production l.states p.core) (take l.one-index l.productions)
