@@ -15,13 +15,6 @@ fn add_both(out: &mut Vec<u8>, one: ProdNo, other: ProdNo) -> Result<(), AllocEr
     add_numbered(out, b" other ", u64::from(other.0))
 }
 
-fn add_productions(out: &mut Vec<u8>, g: &Grammar, w: &Witness) -> Result<(), AllocError>
-    ensures { OnOk result (out.new.items ≡ out.old.items ++ productions_text g.now.core w.now) }
-{
-    add_two(out, b"Unsafe module ", module_name(g, w.module))?;
-    add_both(out, w.one, w.other)
-}
-
 fn add_ports(out: &mut Vec<u8>, g: &Grammar, w: &Witness) -> Result<(), AllocError>
     ensures { OnOk result (out.new.items ≡ out.old.items ++ ports_text g.now.core w.now) }
 {
@@ -55,20 +48,29 @@ fn add_choices(out: &mut Vec<u8>, g: &Grammar, choices: &[Choice]) -> Result<(),
     Ok(())
 }
 
-fn add_joined_choice(out: &mut Vec<u8>, g: &Grammar, w: &Witness) -> Result<(), AllocError>
-    ensures { OnOk result (out.new.items ≡ out.old.items ++ joined_choice_text g.now.core w.now) }
-{
-    add_two(out, joined_word(w.joined_by_one), b" choice")?;
-    add_choices(out, g, w.choice.items())
-}
-
 impl Witness {
+    /// Appends the module of the witness and the two productions that disagree. Fails only for want of memory.
+    pub fn add_productions(&self, out: &mut Vec<u8>, g: &Grammar) -> Result<(), AllocError>
+        ensures { OnOk result (out.new.items ≡ out.old.items ++ productions_text g.now.core self.now) }
+    {
+        add_two(out, b"Unsafe module ", module_name(g, self.module))?;
+        add_both(out, self.one, self.other)
+    }
+
+    /// Appends which expansion joins the ports of the witness, and the choice by which it does. Fails only for want of memory.
+    pub fn add_joined_choice(&self, out: &mut Vec<u8>, g: &Grammar) -> Result<(), AllocError>
+        ensures { OnOk result (out.new.items ≡ out.old.items ++ joined_choice_text g.now.core self.now) }
+    {
+        add_two(out, joined_word(self.joined_by_one), b" choice")?;
+        add_choices(out, g, self.choice.items())
+    }
+
     /// Appends the text of the witness, which is one of a view of this grammar: its module and the two productions, its ports, which expansion joins them, and the choice. Fails only for want of memory.
     pub fn add_text(&self, out: &mut Vec<u8>, g: &Grammar) -> Result<(), AllocError>
         ensures { OnOk result (out.new.items ≡ out.old.items ++ unsafe_text g.now.core self.now) }
     {
-        add_productions(out, g, self)?;
+        self.add_productions(out, g)?;
         add_ports(out, g, self)?;
-        add_joined_choice(out, g, self)
+        self.add_joined_choice(out, g)
     }
 }
