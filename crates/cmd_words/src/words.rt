@@ -82,10 +82,8 @@ fn answer_read<H: Shelf, O: Sink>(
         before shelf.new out.old out.new (end_after result) }
     ensures untouched { end_after result ≡ NoMemory → (O.put_bytes out.new ≡ O.put_bytes out.old) × (O.faults out.new ≡ O.faults out.old) }
 {
-    match lifted_grammar(alloc, v, automaton) {
-        Ok(grammar) => answer_lifted(alloc, v, automaton, &grammar, files, shelf, out),
-        Err(stop) => Err(stop),
-    }
+    let grammar = lifted_grammar(alloc, v, automaton)?;
+    answer_lifted(alloc, v, automaton, &grammar, files, shelf, out)
 }
 
 impl UnderView for WordsFiles<'_> {
