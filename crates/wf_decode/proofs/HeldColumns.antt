@@ -53,8 +53,10 @@ with_first row at r u rows h true e = (bit_or r u, λ k. ((λ t. ⊎_elim (first
   where
     first : (k : ℕ) → IsTrue (has r k) → SelectsFrom row at (r ∷ rows) k
     first k t = let n : at ≡ at + 0 = omega arith in (0, subst (λ z. IsTrue (has row z)) n e, t)
+
     later : (k : ℕ) → IsTrue (has u k) → SelectsFrom row at (r ∷ rows) k
     later k t = let s = (h k).0 t in let n : at + 1 + s.0 ≡ at + suc s.0 = omega arith in (suc s.0, subst (λ z. IsTrue (has row z)) n s.1, s.2)
+
     back : (k j : ℕ) → IsTrue (has row (at + j)) → IsTrue (has (get_or (r ∷ rows) j 0) k) → IsTrue (has (bit_or r u) k)
     back k zero x y = (has_or r u k).1 (inl y)
     back k (suc j) x y = let n : at + suc j ≡ at + 1 + j = omega arith in (has_or r u k).1 (inr ((h k).1 (j, subst (λ z. IsTrue (has row z)) n x, y)))
@@ -62,6 +64,7 @@ with_first row at r u rows h false e = (u, λ k. ((λ t. later k t), λ s. back 
   where
     later : (k : ℕ) → IsTrue (has u k) → SelectsFrom row at (r ∷ rows) k
     later k t = let s = (h k).0 t in let n : at + 1 + s.0 ≡ at + suc s.0 = omega arith in (suc s.0, subst (λ z. IsTrue (has row z)) n s.1, s.2)
+
     back : (k j : ℕ) → IsTrue (has row (at + j)) → IsTrue (has (get_or (r ∷ rows) j 0) k) → IsTrue (has u k)
     back k zero x y = let n : at + 0 ≡ at = omega arith in absurd (true≢false (sym (subst (λ z. IsTrue (has row z)) n x) ∙ e))
     back k (suc j) x y = let n : at + suc j ≡ at + 1 + j = omega arith in (h k).1 (j, subst (λ z. IsTrue (has row z)) n x, y)
@@ -72,10 +75,13 @@ union_from row at (r ∷ rows) = let u = union_from row (at + 1) rows in with_fi
 
 -- each row and matrix have a row product
 union_exists : (row : ℕ) (m : Matrix) → (u : ℕ) × IsUnion row m u
-union_exists row m = let u = union_from row 0 m.rows in (u.0, λ k. (
-  (λ t. let s = (u.1 k).0 t in (s.0, subst (λ z. IsTrue (has row z)) (none s.0) s.1, s.2)),
-  λ s. (u.1 k).1 (s.0, subst (λ z. IsTrue (has row z)) (sym (none s.0)) s.1, s.2),
-))
+union_exists row m = let u = union_from row 0 m.rows in (
+  u.0,
+  λ k. (
+    (λ t. let s = (u.1 k).0 t in (s.0, subst (λ z. IsTrue (has row z)) (none s.0) s.1, s.2)),
+    λ s. (u.1 k).1 (s.0, subst (λ z. IsTrue (has row z)) (sym (none s.0)) s.1, s.2),
+  ),
+)
   where
     none : (j : ℕ) → 0 + j ≡ j
     none j = omega arith
@@ -95,11 +101,14 @@ module _ (ms : List Matrix) (column o : ℕ) (is : (j : ℕ) → j < 64 → IsTr
   pub met_bit : (row : ℕ) (met : Bool) → row < 2 ^ 64 → IsTrue met ↔ Meet row column → (last : ℕ) × Through ms row last × (met ≡ has last o)
   met_bit row met low h =
       let t = through_exists ms row in
-      let law = through_law ms row t.0 t.1 o in
-      (t.0, t.1, same_bool met (has t.0 o) (
-        (λ x. let m = h.0 x in law.1 (m.0, m.1, (is m.0 (has_below row m.0 64 low m.1)).0 m.2)),
-        λ x. let a = law.0 x in h.1 (a.0, a.1, (is a.0 (has_below row a.0 64 low a.1)).1 a.2),
-      ))
+      let law = through_law ms row t.0 t.1 o in (
+        t.0,
+        t.1,
+        same_bool met (has t.0 o) (
+          (λ x. let m = h.0 x in law.1 (m.0, m.1, (is m.0 (has_below row m.0 64 low m.1)).0 m.2)),
+          λ x. let a = law.0 x in h.1 (a.0, a.1, (is a.0 (has_below row a.0 64 low a.1)).1 a.2),
+        ),
+      )
 
   -- the column before more matrices
   pub column_more : (more : List Matrix) (before : ℕ) → IsColumnBefore more column 64 before → (i : ℕ) → i < 64 → IsTrue (has before i) ↔ Along (more ++ ms) i o

@@ -8,5 +8,6 @@ pub mod Parting
 pub mod Ends
 pub mod Products
 pub mod HeldWays
+pub mod LegsLeft
 pub mod HeldEnds
 pub mod Answers

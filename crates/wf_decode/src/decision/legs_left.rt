@@ -1,11 +1,11 @@
 // Row products along the legs that are left of an address.
-ghost use Rattle.std.specs.Prelude.{◌≡◌, ◌∷◌, ◌<◌, ◌≤◌, ◌↔◌, ℕ, IsTrue, [], length, drop};
-ghost use Rattle.wf_model.specs.View.{View};
+ghost use Rattle.std.specs.Prelude.{◌≡◌, ◌∷◌, ◌<◌, ◌↔◌, ℕ, IsTrue, []};
 ghost use Rattle.decode_model.specs.Legs.{way_up};
-ghost use Rattle.wf_vlabel.specs.Seen.{IsLabelOfView, Sees, matrices_of};
+ghost use Rattle.wf_vlabel.specs.Seen.{Sees, matrices_of};
 ghost use Rattle.wf_decode.specs.HeldLegs.{legs_of};
-ghost use Rattle.wf_decode.specs.HeldWays.{AreColumnsBehind, AreRowsBehind, IfHeld, Meet};
-ghost use Rattle.wf_decode.specs.Products.{IsBit, IsRowAfter, IsWay, full_row_of, matrices_below};
+ghost use Rattle.wf_decode.specs.HeldWays.{Meet};
+ghost use Rattle.wf_decode.specs.LegsLeft.{HaveColumns, HaveRows, LeadOn, legs_left};
+ghost use Rattle.wf_decode.specs.Products.{IsBit, IsRowAfter, full_row_of, matrices_below};
 
 use crate::decision::ends::ModulePort;
 use crate::leg::Leg;
@@ -53,11 +53,10 @@ fn ends_in<L: Ledger>(vl: &ViewLabel<'_>, row: u64, to: ModulePort, steps: &mut 
 
 /// Up the legs that are left, from an input of the module to which they lead. Of legs that have ways at most one is gone.
 pub(crate) fn row_up<L: Ledger>(vl: &ViewLabel<'_>, left: LegsLeft<'_>, steps: &mut Steps<L>) -> u64
-    requires way { (u : View) × (k : ℕ) × IsLabelOfView vl.now u × IsWay vl.now u k (drop left.from left.legs.now) left.at.module.0 }
-    requires within { left.from ≤ length left.legs.now }
-    requires rows { IfHeld left.ways.now (AreRowsBehind vl.now left.from left.legs.now left.at.module.0 left.at.port.0 left.ways.now) }
-    ensures { IsRowAfter (way_up (matrices_of vl.now) (legs_of vl.now (drop left.entry.from left.entry.legs.now))) (full_row_of vl.now left.entry.at.module.0 left.entry.at.port.0) result
-        steps.old steps.new }
+    requires way { LeadOn vl.now left }
+    requires rows { HaveRows vl.now left }
+    ensures { IsRowAfter (way_up (matrices_of vl.now) (legs_of vl.now (legs_left left.entry))) (full_row_of vl.now left.entry.at.module.0 left.entry.at.port.0)
+        result steps.old steps.new }
 {
     if left.ways.is_empty() {
         let full = full_row(vl, left.at);
@@ -76,11 +75,9 @@ pub(crate) fn comes_to<L: Ledger>(
     left: LegsLeft<'_>,
     steps: &mut Steps<L>,
 ) -> bool
-    requires way { (u : View) × (k : ℕ) × IsLabelOfView vl.now u × IsWay vl.now u k (drop left.from left.legs.now) left.at.module.0 }
-    requires within { left.from ≤ length left.legs.now }
-    requires output { left.at.port.0 < 64 }
-    requires columns { IfHeld left.ways.now (AreColumnsBehind vl.now left.from left.legs.now left.at.module.0 left.at.port.0 left.ways.now) }
-    ensures { IsBit (matrices_below vl.now (drop left.entry.from left.entry.legs.now) left.entry.at.module.0) row steps.old steps.new left.entry.at.port.0 result }
+    requires way { LeadOn vl.now left }
+    requires columns { HaveColumns vl.now left }
+    ensures { IsBit (matrices_below vl.now (legs_left left.entry) left.entry.at.module.0) row steps.old steps.new left.entry.at.port.0 result }
 {
     if left.ways.is_empty() {
         let last = down(vl, &left.legs[left.from..], row, steps);

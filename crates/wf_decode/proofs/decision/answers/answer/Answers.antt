@@ -26,8 +26,18 @@ across-requires-clause-ways g c =
     let w = ways_apart l c.cycles-label.ensures.label e.0 e.3 e.1 e.2 c.args.first.now x c.args.from.module.0 c.args.from.port.0 c.args.second.now y c.args.to.module.0 c.args.to.port.0 s t p q e.4 c.in-Across.ensures.parted in
     (e.0, e.3, w)
 
-pub across-requires-clause-output : goal.across-requires-clause-output
-across-requires-clause-output g c = let e = c.requires.ends in let o = e.4.output in let f = (few_ports c.args.vl.now.grammar c.cycles-label.ensures.label.formed c.args.to.module.0).1 in omega arith
+pub across-requires-clause-columns : goal.across-requires-clause-columns
+across-requires-clause-columns g c = let e = c.requires.ends in let o = e.4.output in let f = (few_ports c.args.vl.now.grammar c.cycles-label.ensures.label.formed c.args.to.module.0).1 in record {
+  within = c.in-Across.ensures.parted.second.within;
+  output = omega arith;
+  columns = λ some. (c.args.second.now, record { length_is = c.part.ensures.second_length; behind = c.in-Across.ensures.parted.second.kept }, c.requires.columns some);
+}
+
+pub across-requires-clause-rows : goal.across-requires-clause-rows
+across-requires-clause-rows g c = record {
+  within = c.in-Across.ensures.parted.first.within;
+  rows = λ some. (c.args.first.now, record { length_is = c.part.ensures.first_length; behind = c.in-Across.ensures.parted.first.kept }, c.requires.rows some);
+}
 
 pub below-requires-clause-way : goal.below-requires-clause-way
 below-requires-clause-way g c =
@@ -43,8 +53,12 @@ below-requires-clause-way g c =
 pub below-requires-clause-input : goal.below-requires-clause-input
 below-requires-clause-input g c = let e = c.requires.ends in let i = e.4.input in let f = (few_ports c.args.vl.now.grammar c.cycles-label.ensures.label.formed c.args.from.module.0).0 in omega arith
 
-pub below-requires-clause-output : goal.below-requires-clause-output
-below-requires-clause-output g c = let e = c.requires.ends in let o = e.4.output in let f = (few_ports c.args.vl.now.grammar c.cycles-label.ensures.label.formed c.args.to.module.0).1 in omega arith
+pub below-requires-clause-columns : goal.below-requires-clause-columns
+below-requires-clause-columns g c = let e = c.requires.ends in let o = e.4.output in let f = (few_ports c.args.vl.now.grammar c.cycles-label.ensures.label.formed c.args.to.module.0).1 in record {
+  within = c.in-Down.ensures.parted.within;
+  output = omega arith;
+  columns = λ some. (c.args.second.now, record { length_is = c.part.ensures.second_length; behind = c.in-Down.ensures.parted.kept }, c.requires.columns some);
+}
 
 pub above-requires-clause-way : goal.above-requires-clause-way
 above-requires-clause-way g c =
@@ -56,6 +70,12 @@ above-requires-clause-way g c =
     let w = (way_left l c.cycles-label.ensures.label e.0 e.3 e.1 gone c.args.from.module.0 j c.args.first.now x e.4.first c.in-Up.ensures.parted).0 in
     let k = module_along l.grammar l.grammar.start gone in
     (e.0, k, e.3, w)
+
+pub above-requires-clause-rows : goal.above-requires-clause-rows
+above-requires-clause-rows g c = record {
+  within = c.in-Up.ensures.parted.within;
+  rows = λ some. (c.args.first.now, record { length_is = c.part.ensures.first_length; behind = c.in-Up.ensures.parted.kept }, c.requires.rows some);
+}
 
 pub above-requires-clause-output : goal.above-requires-clause-output
 above-requires-clause-output g c = let e = c.requires.ends in let o = e.4.output in let f = (few_ports c.args.vl.now.grammar c.cycles-label.ensures.label.formed c.args.to.module.0).1 in omega arith

@@ -22,7 +22,7 @@ down-last-requires g c =
 pub down_leg-last-requires : goal.down_leg-last-requires
 down_leg-last-requires g c =
     let w = c.requires.way in
-    let n = c.requires.within in
+    let n = c.requires.columns.within in
     let d = c.if-left.false in
     opens_first c.args.vl.now w.0 w.1 c.args.left.legs.now c.args.left.from _ w.2 w.3.held w.3.gone (omega arith)
 
@@ -43,12 +43,12 @@ pub returns-then-left : goal.returns-then-left
 returns-then-left g c =
     let left = c.args.left in
     column_of_end c.args.vl.now left.at.module.0 left.from left.legs.now left.at.port.0 left.ways.now c.args.row c.args.steps.now c.meet.result
-    (c.requires.columns (some_held (length left.ways.now) c.is_empty.result c.is_empty.ensures c.if-is_empty.false)) c.if-left.true c.ranges.row.fits c.meet.ensures
+    (c.requires.columns.columns (some_held (length left.ways.now) c.is_empty.result c.is_empty.ensures c.if-is_empty.false)) c.if-left.true c.ranges.row.fits c.meet.ensures
 
 pub returns : goal.returns
 returns g c =
     let left = c.args.left in
-    let n = c.requires.within in
+    let n = c.requires.columns.within in
     let d = c.if-left.false in
     column_of_one c.args.vl.now left.at.module.0 left.from left.legs.now _ left.at.port.0 left.ways.now c.args.row c.down_leg-last.result c.args.steps.now c.down_leg-last.new.steps c.meet-2.result
-    (c.requires.columns (some_held (length left.ways.now) c.is_empty.result c.is_empty.ensures c.if-is_empty.false)) (omega arith) c.down_leg-last.ensures c.down_leg-last.type_inv c.meet-2.ensures
+    (c.requires.columns.columns (some_held (length left.ways.now) c.is_empty.result c.is_empty.ensures c.if-is_empty.false)) (omega arith) c.down_leg-last.ensures c.down_leg-last.type_inv c.meet-2.ensures

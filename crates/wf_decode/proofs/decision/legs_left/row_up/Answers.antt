@@ -23,7 +23,7 @@ up-requires g c =
 pub up_leg-requires : goal.up_leg-requires
 up_leg-requires g c =
     let w = c.requires.way in
-    let n = c.requires.within in
+    let n = c.requires.rows.within in
     let d = c.if-left.false in
     opens_first c.args.vl.now w.0 w.1 c.args.left.legs.now c.args.left.from _ w.2 w.3.held w.3.gone (omega arith)
 
@@ -41,12 +41,12 @@ returns-then-is_empty g c =
 pub returns-then-left : goal.returns-then-left
 returns-then-left g c =
     let left = c.args.left in
-    row_of_none c.args.vl.now left.at.module.0 left.from left.legs.now left.at.port.0 left.ways.now c.args.steps.now (c.requires.rows (some_held (length left.ways.now) c.is_empty.result c.is_empty.ensures c.if-is_empty.false)) c.if-left.true
+    row_of_none c.args.vl.now left.at.module.0 left.from left.legs.now left.at.port.0 left.ways.now c.args.steps.now (c.requires.rows.rows (some_held (length left.ways.now) c.is_empty.result c.is_empty.ensures c.if-is_empty.false)) c.if-left.true
 
 pub returns : goal.returns
 returns g c =
     let left = c.args.left in
-    let n = c.requires.within in
+    let n = c.requires.rows.within in
     let d = c.if-left.false in
     row_of_one c.args.vl.now left.at.module.0 left.from left.legs.now _ left.at.port.0 left.ways.now c.up_leg.result c.args.steps.now c.up_leg.new.steps
-    (c.requires.rows (some_held (length left.ways.now) c.is_empty.result c.is_empty.ensures c.if-is_empty.false)) (omega arith) c.up_leg.ensures
+    (c.requires.rows.rows (some_held (length left.ways.now) c.is_empty.result c.is_empty.ensures c.if-is_empty.false)) (omega arith) c.up_leg.ensures
