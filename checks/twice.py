@@ -24,6 +24,7 @@ EXPLAINED = {
     "bit_pack/proofs/Numbers:digit, wf_inbox/proofs/Times:one_if": "the digit of a bit and the one of a test are two readings of one small function, and neither crate stands on the other",
     "compare_model/specs/Routes:IsEarlier, wf_recur/specs/Loops:IsBefore": "steps are compared by production and position where loops are told and where routes are, and neither crate stands on the other",
     "compare_model/proofs/WorkedComparisons:place_no, wf_safe/specs/BodyGraph:owner_place": "the places of a body are numbered for a worked example and for the vertices of a graph, and the worked one stands on no code",
+    "wf_form/proofs/Pushing:gathered_more, wf_lift/proofs/Growing:made_more": "a list that a loop makes of another one grows so where parts are formed and where a grammar is lifted, and neither crate stands on the other",
 }
 
 TOKEN = re.compile(r'"(?:[^"\\]|\\.)*"|[(){}\[\],;]|[^\s(){}\[\],;"]+')
