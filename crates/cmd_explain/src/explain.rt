@@ -50,22 +50,6 @@ fn explain_run<O: Sink>(
     )
 }
 
-/// Takes EVENTS under a view, and puts why one item rests on another.
-fn explain_events<H: Shelf, O: Sink>(
-    alloc: Global,
-    v: &SafeView<'_>,
-    words: &ExplainWords<'_>,
-    shelf: &mut H,
-    out: &mut O,
-) -> Result<(), Stop>
-    ensures obeys { Obeys H.files H.readings H.faults H.at_last O.put_bytes O.faults O.at_last (words.now.events.now ∷ []) []
-        (λ f. ExplainsRun v.now.accepted.grammar.core v.now.view.core (f words.now.events.now) words.now.first.now words.now.second.now)
-        shelf.old shelf.new out.old out.new (end_after result) }
-{
-    let run = events_stage(alloc, shelf, words.events, v.grammar())?;
-    explain_run(alloc, v, &run, words, out)
-}
-
 impl UnderView for ExplainWords<'_> {
     ghost names = { λ w. w.events.now ∷ [] };
 
@@ -80,7 +64,8 @@ impl UnderView for ExplainWords<'_> {
         shelf: &mut H,
         out: &mut O,
     ) -> Result<(), Stop> {
-        explain_events(alloc, v, self, shelf, out)
+        let run = events_stage(alloc, shelf, self.events, v.grammar())?;
+        explain_run(alloc, v, &run, self, out)
     }
 }
 

@@ -22,25 +22,6 @@ pub struct ListingWords<'w> {
     pub item: &'w str,
 }
 
-/// Takes LABELS under a view, and lists its items.
-fn list_labels<H: Shelf, O: Sink>(
-    alloc: Global,
-    v: &SafeView<'_>,
-    words: &ListingWords<'_>,
-    direction: Direction,
-    shelf: &mut H,
-    out: &mut O,
-) -> Result<(), Stop>
-    ensures obeys { Obeys H.files H.readings H.faults H.at_last O.put_bytes O.faults O.at_last (words.now.labels.now ∷ []) []
-        (λ f. ListsLabels v.now.accepted.grammar v.now.view.core direction words.now.item.now (f words.now.labels.now))
-        shelf.old shelf.new out.old out.new (end_after result) }
-{
-    let bytes = read_file(alloc, shelf, words.labels, LABELS)?;
-    let key = shelf.hash_key();
-    let store = store_of(alloc, key, v.accepted(), &bytes)?;
-    put_listing(alloc, v, &store, direction, words.item.as_bytes(), out)
-}
-
 /// The items of a label file that are listed for one, in a direction.
 #[derive(Clone, Copy)]
 struct Listed<'w> {
@@ -62,7 +43,10 @@ impl UnderView for Listed<'_> {
         shelf: &mut H,
         out: &mut O,
     ) -> Result<(), Stop> {
-        list_labels(alloc, v, &self.words, self.direction, shelf, out)
+        let bytes = read_file(alloc, shelf, self.words.labels, LABELS)?;
+        let key = shelf.hash_key();
+        let store = store_of(alloc, key, v.accepted(), &bytes)?;
+        put_listing(alloc, v, &store, self.direction, self.words.item.as_bytes(), out)
     }
 }
 

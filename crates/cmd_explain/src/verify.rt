@@ -46,22 +46,6 @@ fn verify_run<H: Shelf, O: Sink>(
     verify_chain(alloc, &viewed, shelf, name, out)
 }
 
-/// Takes EVENTS and CHAIN under a view.
-fn verify_events<H: Shelf, O: Sink>(
-    alloc: Global,
-    v: &SafeView<'_>,
-    words: &VerifyWords<'_>,
-    shelf: &mut H,
-    out: &mut O,
-) -> Result<(), Stop>
-    ensures obeys { Obeys H.files H.readings H.faults H.at_last O.put_bytes O.faults O.at_last (words.now.events.now ∷ words.now.chain.now ∷ []) []
-        (λ f. VerifiesRun v.now.accepted.grammar.core v.now.view.core (f words.now.events.now) (f words.now.chain.now))
-        shelf.old shelf.new out.old out.new (end_after result) }
-{
-    let run = events_stage(alloc, shelf, words.events, v.grammar())?;
-    verify_run(alloc, v, &run, words.chain, shelf, out)
-}
-
 impl UnderView for VerifyWords<'_> {
     ghost names = { λ w. w.events.now ∷ w.chain.now ∷ [] };
 
@@ -76,7 +60,8 @@ impl UnderView for VerifyWords<'_> {
         shelf: &mut H,
         out: &mut O,
     ) -> Result<(), Stop> {
-        verify_events(alloc, v, self, shelf, out)
+        let run = events_stage(alloc, shelf, self.events, v.grammar())?;
+        verify_run(alloc, v, &run, self.chain, shelf, out)
     }
 }
 

@@ -4,7 +4,6 @@ ghost use Rattle.wf_model.specs.Grammar.{body_of, head_of};
 ghost use Rattle.wf_body.specs.Matrices.{HaveRows};
 ghost use Rattle.wf_safe.specs.Full.{AreFullRows};
 ghost use Rattle.wf_safe.specs.Inducing.{IsSeenExpanded};
-ghost use Rattle.wf_view.specs.Held.{IsHeldFor};
 
 use bool_mat::{MatNo, MatPool};
 use std::alloc::{AllocError, Global};
@@ -13,7 +12,7 @@ use wf_body::{between, between_all, induced, into_position, out_of_position};
 use wf_safe::FullDeps;
 use wf_samples::{TWISTING, safe, sample};
 use wf_spec::{Deps, Grammar, PosNo, ProdNo, Step};
-use wf_view::View;
+use wf_view::GrammarView;
 
 const KEPT: &[u64] = &[0b01, 0b10];
 
@@ -22,28 +21,27 @@ const EXCHANGED: &[u64] = &[0b10, 0b01];
 const UNJOINED: &[u64] = &[0, 0];
 
 /// Whether the view shows the body of a production: its head is seen and expanded.
-fn is_shown(g: &Grammar, p: ProdNo, view: &View) -> bool
-    requires production { p.0 < length g.now.core.productions }
-    requires view { IsHeldFor g.now.core view.now }
-    ensures { IsTrue result → IsSeenExpanded g.now.core view.now.core (head_of g.now.core p.0) }
+fn is_shown(sight: GrammarView<'_>, p: ProdNo) -> bool
+    requires production { p.0 < length sight.grammar.now.core.productions }
+    ensures { IsTrue result → IsSeenExpanded sight.grammar.now.core sight.view.now.core (head_of sight.grammar.now.core p.0) }
 {
-    let head = g.production(p).head();
-    view.seen(head) && view.expanded(head)
+    let head = sight.grammar.production(p).head();
+    sight.view.seen(head) && sight.view.expanded(head)
 }
 
 /// The pairs that the modules have, if there is a second production, which has three positions, and the view shows its body.
-fn pairs<'a>(g: &Grammar, view: &View, full: &'a FullDeps) -> Option<&'a Deps>
-    requires view { IsHeldFor g.now.core view.now }
-    requires full { AreFullRows g.now.core view.now.core full.now }
-    ensures second { IfSome result (λ d. 1 < length g.now.core.productions) }
-    ensures three { IfSome result (λ d. length (body_of g.now.core 1) ≡ 3) }
-    ensures rows { IfSome result (λ d. HaveRows g.now.core 1 d.now) }
+fn pairs<'a>(sight: GrammarView<'_>, full: &'a FullDeps) -> Option<&'a Deps>
+    requires full { AreFullRows sight.entry.grammar.now.core sight.entry.view.now.core full.now }
+    ensures second { IfSome result (λ d. 1 < length sight.entry.grammar.now.core.productions) }
+    ensures three { IfSome result (λ d. length (body_of sight.entry.grammar.now.core 1) ≡ 3) }
+    ensures rows { IfSome result (λ d. HaveRows sight.entry.grammar.now.core 1 d.now) }
 {
+    let g = sight.grammar;
     if g.productions().len() < 2 {
         return None;
     }
     let p = ProdNo(1);
-    if g.production(p).positions().len() != 3 || !is_shown(g, p, view) {
+    if g.production(p).positions().len() != 3 || !is_shown(sight, p) {
         return None;
     }
     Some(full.deps())
@@ -91,7 +89,7 @@ fn are_pushed(alloc: Global, wanted: &[&[u64]]) -> Result<bool, Fail> {
     let s = sample(alloc, TWISTING)?;
     let safe = safe(alloc, &s, "{}")?;
     let mut pool = MatPool::new(alloc);
-    let Some(deps) = pairs(safe.grammar(), safe.view(), safe.full()) else {
+    let Some(deps) = pairs(safe.sight(), safe.full()) else {
         return Err(Fail::new("a second production of three positions"));
     };
     push_all(alloc, safe.grammar(), deps, &mut pool)?;

@@ -1,15 +1,14 @@
 // Labels of views, whose matrices were worked by hand. A row of a matrix is a number, in which bit `j` stands for column `j`: so the rows 1 and 2 keep two ports, and the rows 2 and 1 exchange them.
-ghost use Rattle.std.specs.Prelude.{IsTrue};
+ghost use Rattle.std.specs.Prelude.{◌≡◌, IsTrue};
 ghost use Rattle.wf_body.specs.Matrices.{step_of};
-ghost use Rattle.wf_view.specs.Held.{IsHeldFor};
 ghost use Rattle.wf_vlabel.specs.Seen.{IsLabelOfView, Opens};
 
 use std::alloc::Global;
 use std::test::Fail;
 use wf_recur::CycleNo;
+use wf_safe::SafeView;
 use wf_samples::{PAIR, TWISTING, safe, sample};
 use wf_spec::{PosNo, ProdNo, Step};
-use wf_view::View;
 use wf_vlabel::ViewLabel;
 
 const KEPT: &[u64] = &[1, 2];
@@ -91,23 +90,23 @@ fn step(at: (u16, u8)) -> Step {
 }
 
 /// The rows of the pairs of a module; none of a module that is not seen.
-fn full_rows<'v>(view: &View, label: &'v ViewLabel<'_>, name: &[u8]) -> &'v [u64]
-    requires held { IsHeldFor label.now.grammar view.now }
-    requires label { IsLabelOfView label.now view.now.core }
+fn full_rows<'v>(v: &SafeView<'_>, label: &'v ViewLabel<'_>, name: &[u8]) -> &'v [u64]
+    requires grammar { label.now.grammar ≡ v.now.accepted.grammar.core }
+    requires label { IsLabelOfView label.now v.now.view.core }
 {
     let Some(m) = label.grammar().find(name) else {
         return HIDDEN;
     };
-    if !view.seen(m) {
+    if !v.view().seen(m) {
         return HIDDEN;
     }
     label.full(m).rows
 }
 
 /// Whether a step leaves a module that is seen and expanded.
-fn is_open(view: &View, label: &ViewLabel<'_>, s: Step) -> bool
-    requires held { IsHeldFor label.now.grammar view.now }
-    requires label { IsLabelOfView label.now view.now.core }
+fn is_open(v: &SafeView<'_>, label: &ViewLabel<'_>, s: Step) -> bool
+    requires grammar { label.now.grammar ≡ v.now.accepted.grammar.core }
+    requires label { IsLabelOfView label.now v.now.view.core }
     ensures { IsTrue result → Opens label.now (step_of s) }
 {
     let g = label.grammar();
@@ -116,30 +115,31 @@ fn is_open(view: &View, label: &ViewLabel<'_>, s: Step) -> bool
     }
     let rule = g.production(s.production);
     let head = rule.head();
+    let view = v.view();
     (s.position.0 as usize) < rule.positions().len() && view.seen(head) && view.expanded(head)
 }
 
 /// The rows of the way in and of the way out of a step; none of a step that the view does not show.
-fn way_rows<'v>(view: &View, label: &'v ViewLabel<'_>, s: Step) -> (&'v [u64], &'v [u64])
-    requires held { IsHeldFor label.now.grammar view.now }
-    requires label { IsLabelOfView label.now view.now.core }
+fn way_rows<'v>(v: &SafeView<'_>, label: &'v ViewLabel<'_>, s: Step) -> (&'v [u64], &'v [u64])
+    requires grammar { label.now.grammar ≡ v.now.accepted.grammar.core }
+    requires label { IsLabelOfView label.now v.now.view.core }
 {
-    if !is_open(view, label, s) {
+    if !is_open(v, label, s) {
         return (HIDDEN, HIDDEN);
     }
     (label.into_position(s).rows, label.out_of_position(s).rows)
 }
 
 /// The rows of the matrix from a position to another; none where the view does not show their body.
-fn between_rows<'v>(view: &View, label: &'v ViewLabel<'_>, s: Step, to: PosNo) -> &'v [u64]
-    requires held { IsHeldFor label.now.grammar view.now }
-    requires label { IsLabelOfView label.now view.now.core }
+fn between_rows<'v>(v: &SafeView<'_>, label: &'v ViewLabel<'_>, s: Step, to: PosNo) -> &'v [u64]
+    requires grammar { label.now.grammar ≡ v.now.accepted.grammar.core }
+    requires label { IsLabelOfView label.now v.now.view.core }
 {
     let other = Step {
         production: s.production,
         position: to,
     };
-    if !is_open(view, label, s) || !is_open(view, label, other) {
+    if !is_open(v, label, s) || !is_open(v, label, other) {
         return HIDDEN;
     }
     label.between(s, to).rows
@@ -155,18 +155,18 @@ fn is_cut(label: &ViewLabel<'_>, place: u16, wanted: Option<u32>) -> bool {
 }
 
 /// Whether the label of a view tells this.
-fn tells(view: &View, label: &ViewLabel<'_>, told: &Told) -> bool
-    requires held { IsHeldFor label.now.grammar view.now }
-    requires label { IsLabelOfView label.now view.now.core }
+fn tells(v: &SafeView<'_>, label: &ViewLabel<'_>, told: &Told) -> bool
+    requires grammar { label.now.grammar ≡ v.now.accepted.grammar.core }
+    requires label { IsLabelOfView label.now v.now.view.core }
 {
     match *told {
-        Told::Full(name, wanted) => full_rows(view, label, name.as_bytes()) == wanted,
+        Told::Full(name, wanted) => full_rows(v, label, name.as_bytes()) == wanted,
         Told::Ways(at, into, out) => {
-            let ways = way_rows(view, label, step(at));
+            let ways = way_rows(v, label, step(at));
             ways.0 == into && ways.1 == out
         }
         Told::Between(at, to, wanted) => {
-            between_rows(view, label, step(at), PosNo(to)) == wanted
+            between_rows(v, label, step(at), PosNo(to)) == wanted
         }
         Told::Cut(place, wanted) => is_cut(label, place, wanted),
     }
@@ -178,7 +178,7 @@ fn first_wrong(alloc: Global, spec: &str, view: &str, all: &[Told]) -> Result<Op
     let safe = safe(alloc, &s, view)?;
     let label = ViewLabel::build(alloc, &safe)?;
     for k in 0..all.len() {
-        if !tells(safe.view(), &label, &all[k]) {
+        if !tells(&safe, &label, &all[k]) {
             return Ok(Some(k));
         }
     }

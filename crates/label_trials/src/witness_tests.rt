@@ -1,7 +1,7 @@
 // Witnesses, true ones and false ones, whose truth was worked out by hand.
+ghost use Rattle.std.specs.Prelude.{◌≡◌};
 ghost use Rattle.wf_model.specs.Proper.{IsProper};
 ghost use Rattle.wf_check.specs.Proper.{IsRankingOf};
-ghost use Rattle.wf_view.specs.Held.{IsHeldFor};
 
 use std::alloc::{AllocError, Global};
 use std::test::Fail;
@@ -9,7 +9,7 @@ use wf_accept::Accepted;
 use wf_safe::{Choice, SafeFault, Witness, check_witness, full_deps};
 use wf_samples::{grammar, sample, view};
 use wf_spec::{ModNo, PortNo, ProdNo, Seq};
-use wf_view::{GrammarView, View};
+use wf_view::GrammarView;
 
 /// An S is done by an L, an L by a W and an L behind it, or by a W, and a W by a T or by a U. T keeps its two ports. U does too, and also leads its second input to its first output.
 const CIRCLING: &str =
@@ -108,13 +108,9 @@ const SKEWED: &str =
 const S_AND_L: &str = r#"{"expand":["S","L"]}"#;
 
 /// The witness that a view is not safe.
-fn witness(alloc: Global, s: &Accepted, view: &View) -> Result<Witness, Fail>
-    requires view { IsHeldFor s.now.grammar.core view.now }
+fn witness(alloc: Global, s: &Accepted, sight: GrammarView<'_>) -> Result<Witness, Fail>
+    requires grammar { sight.grammar.now ≡ s.now.grammar }
 {
-    let sight = GrammarView {
-        grammar: s.grammar(),
-        view,
-    };
     match full_deps(alloc, sight, s.ranking()) {
         Err(SafeFault::Unsafe { witness }) => Ok(witness),
         _ => Err(Fail::new("a view that is not safe")),
@@ -125,11 +121,11 @@ fn witness(alloc: Global, s: &Accepted, view: &View) -> Result<Witness, Fail>
 fn told_and_changed(alloc: Global) -> Result<(bool, bool), Fail> {
     let s = sample(alloc, SKEWED)?;
     let v = view(alloc, s.grammar(), S_AND_L)?;
-    let mut w = witness(alloc, &s, &v)?;
     let sight = GrammarView {
         grammar: s.grammar(),
         view: &v,
     };
+    let mut w = witness(alloc, &s, sight)?;
     let told = check_witness(alloc, sight, &w)?;
     w.joined_by_one = !w.joined_by_one;
     let changed = check_witness(alloc, sight, &w)?;

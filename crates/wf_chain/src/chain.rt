@@ -2,7 +2,7 @@
 use wf_flat::Item;
 
 /// A step of a chain: through the instance of a number to an item.
-#[derive(Clone, Copy, Debug, PartialEq, Eq, Drop)]
+#[derive(Clone, Copy, Drop)]
 pub struct ChainStep {
     pub via: u32,
     pub item: Item,

@@ -13,7 +13,7 @@ use wf_chain::ViewedRun;
 use wf_flat::{Item, Port};
 
 /// An instance that consumes an item: its number, and the input at which it does.
-#[derive(Clone, Copy, Debug, PartialEq, Eq)]
+#[derive(Clone, Copy)]
 pub(crate) struct Consumer {
     pub(crate) via: u32,
     pub(crate) input: Port,

@@ -13,7 +13,7 @@ use wf_chain::ViewedRun;
 use wf_flat::Item;
 
 /// How the lines stand that were taken so far.
-#[derive(Clone, Copy, Debug, PartialEq, Eq)]
+#[derive(Clone, Copy)]
 pub(crate) enum Standing {
     /// There are none.
     Begun,

@@ -8,3 +8,8 @@ returns-clause-made c =
     let past = c.loop-left-test.false in
     let none : l.left ≡ 0 = omega arith in
     subst (λ k. AreMadeFrom c.args.produced.now k l.first.items l.next.items) none l.invariant.made
+
+pub put_before-requires-clause-made : goal.put_before-requires-clause-made
+put_before-requires-clause-made c =
+    let l = c.loop-left in
+    subst (λ k. AreMadeFrom c.args.produced.now k l.first.items l.next.items) (omega (arith, c.loop-left-test.true)) l.invariant.made

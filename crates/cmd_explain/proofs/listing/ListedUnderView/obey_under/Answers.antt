@@ -15,7 +15,7 @@ use Rattle.label_file.proofs.ReadSoFar.{store_of_held}
 use Rattle.wf_inputs.proofs.OneLabels.{told_differ}
 use Rattle.cmd_explain.specs.Listings.{ListsItem}
 use Rattle.cmd_explain.proofs.PutListings.{writes_same}
-use Rattle.cmd_explain.proofs.listing.list_labels.Goals as goal
+use Rattle.cmd_explain.proofs.listing.ListedUnderView.obey_under.Goals as goal
 
 pub returns-in_err-bytes : goal.returns-in_err-bytes
 returns-in_err-bytes g c =
@@ -25,6 +25,7 @@ returns-in_err-bytes g c =
     record {
       obeys = obeys_passed _ _ _ _ _ _ c.from_residual.result d (err_from_is_err_and c.from_residual.result c.from_residual.ensures.1)
           (labels_stop h _ _ _ _ _ (reads_stop g.H.Shelf.at_last (TellsEntries h) (λ es. es) (OfWhole (RefusesLabels h)) _ _ d none (d, refl, refl) c.in_err-bytes.ensures.reads));
+      untouched = λ _ held. absurd held;
     }
 
 pub returns-in_err-store : goal.returns-in_err-store
@@ -36,6 +37,7 @@ returns-in_err-store g c =
       obeys = obeys_passed _ _ _ _ _ _ c.from_residual-in_err-store.result d (err_from_is_err_and c.from_residual-in_err-store.result c.from_residual-in_err-store.ensures.1)
           (labels_stop h _ _ _ _ _ (reads_on g.H.Shelf.at_last (TellsEntries h) (λ es. es) (OfWhole (RefusesLabels h)) _ _ _ c.deref.result.now c.in_ok-bytes.ensures.reads c.deref.ensures.value none tt
           (subst (λ (s : AcceptedValue). Declines (codes "labels") (OfWhole (RefusesLabels s.grammar) c.deref.result.now) (end_of d)) c.accepted.ensures.accepted c.in_err-store.ensures.declines)));
+      untouched = λ _ held. absurd held;
     }
 
 pub put_listing-requires : goal.put_listing-requires
@@ -50,5 +52,6 @@ returns g c =
     let all : Result (List Entry) Stop = Ok s.0 in
     record {
       obeys = labels_go h _ _ _ _ _ _ _ s.0 (reads_on g.H.Shelf.at_last (TellsEntries h) (λ es. es) (OfWhole (RefusesLabels h)) _ _ _ c.deref.result.now c.in_ok-bytes.ensures.reads c.deref.ensures.value all s.1 tt)
-          (obeys_writing _ _ _ _ _ _ (writes_same (ListsItem h.core c.args.v.now.view.core c.args.direction s.0) _ _ _ _ _ c.as_bytes.ensures.value (c.put_listing.ensures.writes s.0 s.2)));
+          (obeys_writing _ _ _ _ _ _ (writes_same (ListsItem h.core c.args.v.now.view.core c.args.self.now.direction s.0) _ _ _ _ _ c.as_bytes.ensures.value (c.put_listing.ensures.writes s.0 s.2)));
+      untouched = λ _ held. absurd held;
     }
