@@ -96,6 +96,14 @@ module _ (v : ViewedRunValue) where
   pub into : (lines : List ChainLine) (i : ItemHeld) (c : Consumer) → IsConsumer v i c → LeadInto v lines i c → LeadToInstance (grammar_in v) (view_in v) (full_in v) (grammar_in v).start (events_in v) lines (inst_at v.run.instances c.via)
   into lines i c consumer h = record { before = h.before; item = item_in v i; lead = h.lead; consumed = consumer.consumes.consumes; are = h.are }
 
+  -- behind an item, an instance that consumes it
+  pub instance_lead : (lines : List HandedLine) (number : ℕ) (i : ItemHeld) (c : Consumer) (name : List ℕ) → LeadTo v (said lines) i → (inst_at v.run.instances c.via).name ≡ name → LeadInto v (said (with_one lines number (ViaLine name))) i c
+  instance_lead lines number i c name lead e = record {
+    before = said lines;
+    lead = lead;
+    are = said_one lines number (ViaLine name) ∙ ap (λ n. said lines ++ ViaLine n ∷ []) (sym e);
+  }
+
   -- behind an instance, an item to which it leads
   pub step_lead : (lines : List HandedLine) (number : ℕ) (i j : ItemHeld) (c : Consumer) (name : List ℕ) → LeadInto v (said lines) i c → GoesOn v i (record { via = c.via; item = j }) → (item_in v j).name ≡ name → LeadTo v (said (with_one lines number (ItemLine name))) j
   step_lead lines number i j c name h step e =

@@ -3,7 +3,7 @@ ghost use Rattle.std.specs.Prelude.{◌≡◌};
 ghost use Rattle.wf_reason.specs.ChainLines.{next_turn};
 
 /// Which of the two a line of a chain names. Items and instances take turns, and an item is first.
-#[derive(Clone, Copy, Debug, PartialEq, Eq)]
+#[derive(Clone, Copy)]
 pub enum Turn {
     /// The line is the name of an item.
     Item,

@@ -16,3 +16,15 @@ returns-then-not-leads_to-clause-none c = λ g t step e.
     let led = (c.requires.consumes.onward i c.in_ok-item.ensures.found).0
     (subst (λ z. IsStepFrom (grammar_in v) (view_in v) (full_in v) (grammar_in v).start (events_in v) (item_in v c.args.first.now) (record { via = inst_at v.run.instances c.args.by.via; item = z })) is step) in
     true≢false (sym (c.leads_to.ensures.1 led) ∙ c.if-not-leads_to.true)
+
+pub leads_to-requires : goal.leads_to-requires
+leads_to-requires c = record { input = c.requires.consumes.unopened; item = c.in_ok-item.ensures.found }
+
+pub returns-clause-visible : goal.returns-clause-visible
+returns-clause-visible c = record { held = c.in_ok-item.ensures.found; visible = (c.leads_to.ensures.0 c.if-not-leads_to.false).visible }
+
+pub returns-clause-named : goal.returns-clause-named
+returns-clause-named c = c.in_ok-item.ensures.named
+
+pub returns-clause-leads : goal.returns-clause-leads
+returns-clause-leads c = (c.requires.consumes.onward c.in_ok-item.item c.in_ok-item.ensures.found).1 (c.leads_to.ensures.0 c.if-not-leads_to.false)
