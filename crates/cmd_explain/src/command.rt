@@ -2,7 +2,7 @@
 ghost use Rattle.std.specs.Prelude.{[], map};
 ghost use Rattle.wf_message.specs.Endings.{end_after};
 ghost use Rattle.wf_stage.specs.Promises.{Obeys};
-ghost use Rattle.cmd_explain.specs.Words.{listing_of, explaining_of, command_of, files_of};
+ghost use Rattle.cmd_explain.specs.Words.{listing_of, of_five, explaining_of, command_of, files_of};
 ghost use Rattle.cmd_explain.specs.Does.{Does, meant, IsMeant};
 
 use crate::explain::{ExplainWords, explain};
@@ -39,6 +39,34 @@ fn listing_of<'w>(name: &str, words: ListingWords<'w>) -> Option<Command<'w>>
     None
 }
 
+/// The command of five words, if they are one: `verify` and four files, or one that lists.
+fn of_five<'w>(
+    name: &str,
+    spec: &'w str,
+    view: &'w str,
+    third: &'w str,
+    last: &'w str,
+) -> Option<Command<'w>>
+    ensures { IsMeant (of_five name.now spec.now view.now third.now last.now) result }
+{
+    if name == "verify" {
+        let words = VerifyWords {
+            spec,
+            view,
+            events: third,
+            chain: last,
+        };
+        return Some(Command::Verify { words });
+    }
+    let words = ListingWords {
+        spec,
+        view,
+        labels: third,
+        item: last,
+    };
+    listing_of(name, words)
+}
+
 /// The command of six words, if they are one: `explain`, three files and the names of two items.
 fn explaining_of<'w>(name: &str, words: ExplainWords<'w>) -> Option<Command<'w>>
     ensures { IsMeant (explaining_of name.now words.entry.spec.now words.entry.view.now words.entry.events.now words.entry.first.now words.entry.second.now) result }
@@ -61,24 +89,7 @@ impl<'w> Command<'w> {
         ensures { IsMeant (command_of (map (λ w. w.now) words.now)) result }
     {
         match words {
-            [command, spec, view, third, last] => {
-                if *command == "verify" {
-                    let words = VerifyWords {
-                        spec,
-                        view,
-                        events: third,
-                        chain: last,
-                    };
-                    return Some(Command::Verify { words });
-                }
-                let words = ListingWords {
-                    spec,
-                    view,
-                    labels: third,
-                    item: last,
-                };
-                listing_of(command, words)
-            }
+            [command, spec, view, third, last] => of_five(command, spec, view, third, last),
             [command, spec, view, events, first, second] => explaining_of(
                 command,
                 ExplainWords {
