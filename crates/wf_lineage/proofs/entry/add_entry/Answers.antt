@@ -19,3 +19,18 @@ returns-in-Yes-clause-ok g c =
 pub returns-in-Yes-clause-err : goal.returns-in-Yes-clause-err
 returns-in-Yes-clause-err g c = λ failed.
     line_cut c.args.vl.now c.args.direction c.args.of.now.bits c.args.name.now c.args.label c.requires.label c.verdict_on-verdict.result c.verdict_on-verdict.ensures.verdict c.args.due.now _ _ c.in-Yes.is (c.add_line.ensures.err failed)
+
+pub returns-in-Yes-clause-room : goal.returns-in-Yes-clause-room
+returns-in-Yes-clause-room g c = c.verdict_on-verdict.ensures.room
+
+pub returns-in-Yes-clause-cost : goal.returns-in-Yes-clause-cost
+returns-in-Yes-clause-cost g c = c.verdict_on-verdict.ensures.cost
+
+pub returns-in-Yes-clause-same : goal.returns-in-Yes-clause-same
+returns-in-Yes-clause-same g c = c.add_line.ensures.same
+
+pub returns-in-Yes-clause-later : goal.returns-in-Yes-clause-later
+returns-in-Yes-clause-later g c = c.add_line.ensures.later
+
+pub returns-in-Yes-clause-cause : goal.returns-in-Yes-clause-cause
+returns-in-Yes-clause-cause g c = c.add_line.ensures.cause
