@@ -7,3 +7,4 @@ pub mod SomeExplaining
 pub mod GoodExplaining
 pub mod Verifying
 pub mod RunVerified
+pub mod Commanded
