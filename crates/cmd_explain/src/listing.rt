@@ -46,7 +46,14 @@ impl UnderView for Listed<'_> {
         let bytes = read_file(alloc, shelf, self.words.labels, LABELS)?;
         let key = shelf.hash_key();
         let store = store_of(alloc, key, v.accepted(), &bytes)?;
-        put_listing(alloc, v, &store, self.direction, self.words.item.as_bytes(), out)
+        put_listing(
+            alloc,
+            v,
+            &store,
+            self.direction,
+            self.words.item.as_bytes(),
+            out,
+        )
     }
 }
 

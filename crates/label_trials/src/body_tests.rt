@@ -23,7 +23,7 @@ const UNJOINED: &[u64] = &[0, 0];
 /// Whether the view shows the body of a production: its head is seen and expanded.
 fn is_shown(sight: GrammarView<'_>, p: ProdNo) -> bool
     requires production { p.0 < length sight.grammar.now.core.productions }
-    ensures { IsTrue result → IsSeenExpanded sight.grammar.now.core sight.view.now.core (head_of sight.grammar.now.core p.0) }
+    ensures { IsTrue result → IsSeenExpanded sight.entry.grammar.now.core sight.entry.view.now.core (head_of sight.entry.grammar.now.core p.0) }
 {
     let head = sight.grammar.production(p).head();
     sight.view.seen(head) && sight.view.expanded(head)
@@ -31,7 +31,7 @@ fn is_shown(sight: GrammarView<'_>, p: ProdNo) -> bool
 
 /// The pairs that the modules have, if there is a second production, which has three positions, and the view shows its body.
 fn pairs<'a>(sight: GrammarView<'_>, full: &'a FullDeps) -> Option<&'a Deps>
-    requires full { AreFullRows sight.entry.grammar.now.core sight.entry.view.now.core full.now }
+    requires full { AreFullRows sight.grammar.now.core sight.view.now.core full.now }
     ensures second { IfSome result (λ d. 1 < length sight.entry.grammar.now.core.productions) }
     ensures three { IfSome result (λ d. length (body_of sight.entry.grammar.now.core 1) ≡ 3) }
     ensures rows { IfSome result (λ d. HaveRows sight.entry.grammar.now.core 1 d.now) }

@@ -165,9 +165,7 @@ fn tells(v: &SafeView<'_>, label: &ViewLabel<'_>, told: &Told) -> bool
             let ways = way_rows(v, label, step(at));
             ways.0 == into && ways.1 == out
         }
-        Told::Between(at, to, wanted) => {
-            between_rows(v, label, step(at), PosNo(to)) == wanted
-        }
+        Told::Between(at, to, wanted) => between_rows(v, label, step(at), PosNo(to)) == wanted,
         Told::Cut(place, wanted) => is_cut(label, place, wanted),
     }
 }
