@@ -1,6 +1,7 @@
 // CHAIN, as a stage of a command.
-ghost use Rattle.std.specs.Prelude.{[], ◌∷◌};
+ghost use Rattle.std.specs.Prelude.{◌≡◌, ℕ, List, [], ◌∷◌, true, false};
 ghost use Rattle.wf_io.specs.Lines.{lines_in};
+ghost use Rattle.wf_io.specs.Readers.{IsReading};
 ghost use Rattle.wf_message.specs.Endings.{end_after};
 ghost use Rattle.wf_stage.specs.Ends.{IsWritten};
 ghost use Rattle.wf_stage.specs.Promises.{ReadsLines, Obeys, Writes};
@@ -21,6 +22,33 @@ use wf_lines::{Due, take_lines};
 use wf_message::Stop;
 use wf_stage::put_text;
 
+/// What is said of the lines of a file with a chain, which was opened.
+fn chain_of_lines<H: Shelf>(
+    run: &ViewedRun<'_>,
+    lines: &mut Lines<'_>,
+    due: &mut Due,
+    shelf: &mut H,
+) -> Result<Checked, Stop>
+    requires live { lines.old.live ≡ true }
+    requires none { due.old ≡ [] }
+    requires reading { IsReading lines.old (H.readings shelf.old) }
+    ensures reads { (name : List ℕ) → lines.old
+        ≡ record { name = name; place = 0; kept = []; number = 1; line = 0; held = []; live = true; wants = false; ended = false } →
+        ReadsLines H.files H.readings H.faults H.at_last name (TellsChecked run.now) checked_text StopsLines shelf.old shelf.new result }
+{
+    let mut checking = Checking {
+        run,
+        turn: Turn::Item,
+        standing: Standing::Begun,
+        last: 0,
+    };
+    let mut out = PlainSink::new();
+    match take_lines(&mut checking, lines, due, shelf, &mut out) {
+        Ok(_) => Ok(checking.standing.checked(run, checking.last)),
+        Err(fault) => Err(chain_stop(fault)),
+    }
+}
+
 /// What is said of the lines of a file: whether they are a chain of a run under a view.
 ///
 /// Refused at the first line that is too long or has not the form of its turn, with its number; or in the line in which the file goes on past the most bytes that are read of it. `NoMemory` comes before the first line.
@@ -40,17 +68,7 @@ pub fn chain_stage<H: Shelf>(
     let Ok(mut due) = Due::new(alloc) else {
         return Err(Stop::NoMemory);
     };
-    let mut checking = Checking {
-        run,
-        turn: Turn::Item,
-        standing: Standing::Begun,
-        last: 0,
-    };
-    let mut out = PlainSink::new();
-    match take_lines(&mut checking, &mut lines, &mut due, shelf, &mut out) {
-        Ok(_) => Ok(checking.standing.checked(run, checking.last)),
-        Err(fault) => Err(chain_stop(fault)),
-    }
+    chain_of_lines(run, &mut lines, &mut due, shelf)
 }
 
 /// Puts what is said of lines.
