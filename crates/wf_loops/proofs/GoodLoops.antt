@@ -1,5 +1,5 @@
 -- Loops are good exactly if their entries are of modules and their steps are good at each module.
-use Rattle.std.proofs.Common.{◌≡◌, ℕ, zero, suc, ◌+◌, ◌<◌, ◌≤◌, ◌⊎◌, List, [], ◌∷◌, length, Some, refl, sym, ap, ◌∙◌, subst, inl, inr, ⊎_elim, arith}
+use Rattle.std.proofs.Common.{◌≡◌, ℕ, zero, suc, ◌+◌, ◌<◌, ◌≤◌, List, [], ◌∷◌, length, Some, refl, sym, ap, ◌∙◌, subst, inl, inr, ⊎_elim, arith}
 use Rattle.std.proofs.lemmas.Option.{same_Some}
 use Rattle.wf_model.specs.Lists.{IsIn, AllDiffer, Walk, here, onward}
 use Rattle.wf_model.specs.Grammar.{Grammar, IsAtomic, IsComposite}

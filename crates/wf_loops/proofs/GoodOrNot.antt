@@ -1,20 +1,20 @@
 -- Entries are good loops of a grammar, or not, and good ones give each module its loop step.
-use Rattle.std.proofs.Common.{◌≡◌, ◌⊎◌, ℕ, zero, suc, ◌+◌, ◌<◌, ◌≤◌, List, [], length, map, take, get_or, replicate, Option, Some, None, refl, sym, ap, ◌∙◌, subst, inl, inr, ⊎_elim, arith}
+use Rattle.std.proofs.Common.{◌≡◌, ◌⊎◌, ℕ, zero, suc, ◌+◌, ◌<◌, ◌≤◌, List, [], length, take, get_or, replicate, Option, Some, None, refl, sym, ◌∙◌, subst, inl, inr, ⊎_elim, arith}
 use Rattle.std.specs.Prelude.{set}
 use Rattle.std.proofs.lemmas.List.{length-replicate, get_or-replicate, get_or_past, get_or_default}
 use Rattle.std.proofs.lemmas.Option.{none-some}
 use Rattle.std.proofs.lemmas.Bool.{cases_lt}
 use Rattle.wf_model.specs.Lists.{IsIn}
-use Rattle.wf_model.specs.Grammar.{Grammar, head_of, body_of, module_at, IsComposite}
+use Rattle.wf_model.specs.Grammar.{Grammar, module_at}
 use Rattle.wf_model.specs.WellFormed.{IsWellFormed}
 use Rattle.wf_model.specs.Reach.{Step, target_of}
-use Rattle.wf_model.specs.Linear.{IsStepOf, IsOnCycle, IsLinear}
-use Rattle.wf_model.proofs.Deciding.{Either, either_same, either_both, either_not, below_either, number_either, bytes_either, some_below, all_below}
+use Rattle.wf_model.specs.Linear.{IsOnCycle, IsLinear}
+use Rattle.wf_model.proofs.Deciding.{Either, either_same, either_both, either_not, below_either, bytes_either, some_below, all_below}
 use Rattle.wf_model.proofs.Lists.{at_in, is_at}
 use Rattle.label_model.proofs.Finding.{cases_option}
 use Rattle.label_model.proofs.LabelOrNot.{step_either, step_of_either}
 use Rattle.package_model.specs.Packages.{LoopEntry}
-use Rattle.package_model.specs.Loops.{NamesModule, AreLoopsOf, AreGoodLoops}
+use Rattle.package_model.specs.Loops.{AreLoopsOf, AreGoodLoops}
 use Rattle.package_model.specs.Translating.{Loops}
 use Rattle.wf_check.proofs.Derived.{composite_either}
 use Rattle.wf_recur.proofs.SomeCycles.{cycle_either}

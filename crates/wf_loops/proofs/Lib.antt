@@ -2,6 +2,7 @@ pub mod NamedModules
 pub mod Entering
 pub mod StepTables
 pub mod SameSteps
+pub mod StepsOfModules
 pub mod OneEntry
 pub mod GoodLoops
 pub mod GoodTargets

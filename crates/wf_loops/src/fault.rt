@@ -5,7 +5,7 @@ ghost use Rattle.wf_loops.specs.declared.fault.LoopsFault.TheVariants.{NoMemory}
 use std::alloc::{AllocError, AllocFailed};
 
 /// Why a grammar has no such loops, in the order of trial.
-#[derive(Clone, Copy, Debug, PartialEq, Eq, Drop)]
+#[derive(Clone, Copy, Drop)]
 pub enum LoopsFault {
     /// The loops are not good.
     BadLoops,
