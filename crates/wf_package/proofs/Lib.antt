@@ -6,6 +6,7 @@ mod PlacedParts
 mod PlacedBodies
 mod LoopParts
 pub mod SameText
+pub mod PutTexts
 mod WorkedTexts
 mod BareGrammar
 mod WholeTexts

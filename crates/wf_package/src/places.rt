@@ -11,10 +11,18 @@ pub(crate) struct PlacedNumbers {
     pub places: Vec<u16>,
 }
 
-/// Adds a number, if its flag is set.
-fn keep(numbers: &mut Vec<u16>, k: u16, flag: bool) -> Result<(), AllocError>
-    ensures { OnOk result (numbers.new.items ≡ numbers.old.items ++ cond {A = List ℕ} flag (k ∷ []) []) }
+/// Adds the place of a number, and the number itself if its flag is set.
+fn add_number(
+    numbers: &mut Vec<u16>,
+    places: &mut Vec<u16>,
+    k: u16,
+    flag: bool,
+) -> Result<(), AllocError>
+    requires { length numbers.old.items ≤ 1024 }
+    ensures numbers { OnOk result (numbers.new.items ≡ numbers.old.items ++ cond {A = List ℕ} flag (k ∷ []) []) }
+    ensures places { OnOk result (places.new.items ≡ places.old.items ++ length numbers.old.items ∷ []) }
 {
+    places.push(numbers.len() as u16)?;
     if flag {
         numbers.push(k)?;
     }
@@ -26,12 +34,10 @@ pub(crate) fn flagged(alloc: Global, flags: &[bool]) -> Result<PlacedNumbers, Al
     requires { length flags.now ≤ 1024 }
     ensures { IfOk result (λ p. ArePlaces flags.now p) }
 {
-    let mut numbers = Vec::new(alloc);
     let mut places = Vec::with_capacity(alloc, flags.len())?;
+    let mut numbers = Vec::new(alloc);
     for k in 0..flags.len() {
-        let place = numbers.len() as u16;
-        places.push(place)?;
-        keep(&mut numbers, k as u16, flags[k])?;
+        add_number(&mut numbers, &mut places, k as u16, flags[k])?;
     }
     Ok(PlacedNumbers { numbers, places })
 }

@@ -2,7 +2,7 @@
 ghost use Rattle.std.specs.Prelude.{◌≡◌, ◌<◌, length, IfOk};
 ghost use Rattle.wf_model.specs.Grammar.{head_of};
 ghost use Rattle.wf_safe.specs.Choosing.{is_seen_expanded};
-ghost use Rattle.wf_package.specs.Parts.{AreShownParts, open_production_flags, seen_module_flags};
+ghost use Rattle.wf_package.specs.Parts.{ArePlaces, AreShownParts, open_production_flags, seen_module_flags};
 
 use crate::places::{PlacedNumbers, flagged};
 use std::alloc::{AllocError, Global};
@@ -47,6 +47,24 @@ fn open_production_flags(alloc: Global, v: GrammarView<'_>) -> Result<Vec<bool>,
     Ok(flags)
 }
 
+/// The seen modules, with their places.
+fn seen_modules(alloc: Global, v: GrammarView<'_>) -> Result<PlacedNumbers, AllocError>
+    ensures { IfOk result (λ p. ArePlaces (seen_module_flags v.entry.grammar.now.core v.entry.view.now) p) }
+{
+    let _formed = v.grammar.start();
+    let flags = seen_module_flags(alloc, v)?;
+    flagged(alloc, &flags)
+}
+
+/// The productions of modules that are seen and expanded, with their places.
+fn open_productions(alloc: Global, v: GrammarView<'_>) -> Result<PlacedNumbers, AllocError>
+    ensures { IfOk result (λ p. ArePlaces (open_production_flags v.entry.grammar.now.core v.entry.view.now) p) }
+{
+    let _formed = v.grammar.start();
+    let flags = open_production_flags(alloc, v)?;
+    flagged(alloc, &flags)
+}
+
 /// What a view shows of a grammar. Fails only for want of memory.
 ///
 /// Cost: one look at each module and at each production.
@@ -54,10 +72,8 @@ pub(crate) fn shown_parts(alloc: Global, v: GrammarView<'_>) -> Result<ShownPart
     ensures { IfOk result (λ s. AreShownParts v.entry.grammar.now.core v.entry.view.now.core s.modules s.productions) }
 {
     let _formed = v.grammar.start();
-    let seen = seen_module_flags(alloc, v)?;
-    let open = open_production_flags(alloc, v)?;
-    let modules = flagged(alloc, &seen)?;
-    let productions = flagged(alloc, &open)?;
+    let modules = seen_modules(alloc, v)?;
+    let productions = open_productions(alloc, v)?;
     Ok(ShownParts {
         modules,
         productions,

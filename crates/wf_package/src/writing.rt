@@ -43,14 +43,25 @@ fn text_with(
     text_of(alloc, grammar, &given, &loops)
 }
 
+/// The text of the package of a safe view, of which it is known what it shows. Fails only for want of memory.
+fn text_of_parts(
+    alloc: Global,
+    v: &SafeView<'_>,
+    parts: &ShownParts,
+) -> Result<Vec<u8>, AllocError>
+    requires { AreShownParts v.now.accepted.grammar.core v.now.view.core parts.now.modules parts.now.productions }
+    ensures { IfOk result (λ text. IsPackageText v.now.accepted.grammar.core v.now.view.core text.items) }
+{
+    let grammar = bare_grammar(alloc, v.sight(), parts)?;
+    text_with(alloc, v, parts, &grammar)
+}
+
 /// The text of the package of a safe view: what the view shows of the grammar, with names of numbers, on one line of JSON with a newline.
 ///
 /// Errors: want of memory alone. Cost: linear in the modules and productions of the grammar and in the text.
 pub fn write_package(alloc: Global, v: &SafeView<'_>) -> Result<Vec<u8>, AllocError>
     ensures { IfOk result (λ text. IsPackageText v.now.accepted.grammar.core v.now.view.core text.items) }
 {
-    let sight = v.sight();
-    let parts = shown_parts(alloc, sight)?;
-    let grammar = bare_grammar(alloc, sight, &parts)?;
-    text_with(alloc, v, &parts, &grammar)
+    let parts = shown_parts(alloc, v.sight())?;
+    text_of_parts(alloc, v, &parts)
 }
