@@ -14,7 +14,7 @@ use Rattle.package_file.specs.declared.fault.PackFault.TheVariants.{NotJson, Not
 use Rattle.package_file.specs.Packed.{said_entries, FormProper, IsGoodWith, IsSafeByDefault, ArePackage, IsDescribedBy, IsBadUnless}
 
 -- a fault where less is asked is one where more is asked
-bad_more : (A B : Type 0) (f : PackFault) → (B → A) → IsBadUnless A f → IsBadUnless B f
+pub bad_more : (A B : Type 0) (f : PackFault) → (B → A) → IsBadUnless A f → IsBadUnless B f
 bad_more A B NotJson more h = absurd h
 bad_more A B NotPackage more h = absurd h
 bad_more A B BadPackage more h = λ b. h (more b)

@@ -5,7 +5,7 @@ ghost use Rattle.package_file.specs.declared.fault.PackFault.TheVariants.{NoMemo
 use std::alloc::{AllocError, AllocFailed};
 
 /// Why bytes are no package, in the order of trial.
-#[derive(Clone, Copy, Debug, PartialEq, Eq, Drop)]
+#[derive(Clone, Copy, Drop)]
 pub enum PackFault {
     /// The bytes are not UTF-8, or no JSON value.
     NotJson,

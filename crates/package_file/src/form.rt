@@ -44,9 +44,9 @@ fn grammar_in(alloc: Global, value: &Value) -> Result<Parts, PackFault>
     ensures refused { IfErr result (λ f. IsUnsaid (SaysNoGrammar (view value.now)) f) }
 {
     let start = needed::<Name>(alloc, value, "start")?;
+    let deps = needed::<Seq<DepsPart>>(alloc, value, "deps")?;
     let modules = needed::<Seq<ModulePart>>(alloc, value, "modules")?;
     let productions = needed::<Seq<ProdPart>>(alloc, value, "productions")?;
-    let deps = needed::<Seq<DepsPart>>(alloc, value, "deps")?;
     Ok(Parts {
         start,
         modules,
@@ -76,7 +76,7 @@ pub fn package_in(alloc: Global, value: &Value) -> Result<PackageParts, PackFaul
     if !is_numbered_one(alloc, value)? {
         return Err(PackFault::NotPackage);
     }
-    let grammar = grammar_in(alloc, value)?;
     let loops = needed::<Seq<LoopPart>>(alloc, value, "loops")?;
+    let grammar = grammar_in(alloc, value)?;
     Ok(PackageParts { grammar, loops })
 }

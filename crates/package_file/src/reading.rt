@@ -156,6 +156,21 @@ fn safe_entries(
     small_entries(alloc, accepted, loops)
 }
 
+/// `package_of_safe` of entries that are let go.
+fn package_of_entries(
+    alloc: Global,
+    accepted: Accepted,
+    entries: Vec<LoopEntry>,
+) -> Result<Package, PackFault>
+    requires { IsSafeByDefault accepted.grammar.core }
+    ensures accepted { IfOk result (λ p. p.accepted ≡ accepted) }
+    ensures good { IfOk result (λ _. AreGoodLoops accepted.grammar.core entries.items) }
+    ensures loops { IfOk result (λ p. AreLoopsOf accepted.grammar.core entries.items (loop_in p.steps)) }
+    ensures refused { IfErr result (λ f. IsBadUnless (AreGoodLoops accepted.grammar.core entries.items) f) }
+{
+    package_of_safe(alloc, accepted, &entries)
+}
+
 /// The package of an accepted grammar with these loops.
 fn package_of_accepted(
     alloc: Global,
@@ -168,7 +183,7 @@ fn package_of_accepted(
     ensures refused { IfErr result (λ f. IsBadUnless (IsGoodWith accepted.grammar.core loops.now) f) }
 {
     match safe_entries(alloc, &accepted, loops) {
-        Ok(entries) => package_of_safe(alloc, accepted, &entries),
+        Ok(entries) => package_of_entries(alloc, accepted, entries),
         Err(fault) => Err(fault),
     }
 }
