@@ -11,3 +11,4 @@ mod BorderPairs
 mod OpenRows
 mod RouteTold
 mod SameGrammar
+mod OneMore

@@ -1,6 +1,11 @@
 // The comparison of two views.
-ghost use Rattle.std.specs.Prelude.{◌≡◌, IfOk, IfErr};
+ghost use Rattle.std.specs.Prelude.{◌≡◌, ℕ, IfOk, IfErr};
+ghost use Rattle.wf_model.specs.Meaning.{pairs_of};
+ghost use Rattle.wf_model.specs.View.{IsSeenModule};
+ghost use Rattle.wf_body.specs.Matrices.{HasRows};
 ghost use Rattle.compare_model.specs.Coarser.{IsCoarser};
+ghost use Rattle.compare_model.specs.Pairs.{ModulePair as PairSeen, IsDenied, DeniesNone};
+ghost use Rattle.compare_model.specs.Comparison.{IsCompared};
 ghost use Rattle.wf_compare.specs.Comparing.{IsComparedIn, IsRefused};
 
 use crate::coarser::first_expanded_alone;
@@ -8,9 +13,51 @@ use crate::fault::CompareFault;
 use crate::pairs::{Difference, first_pair};
 use crate::run::{ShownRun, shown_by};
 use compare_model::Compared;
-use std::alloc::Global;
-use wf_safe::SafeView;
+use std::alloc::{AllocError, Global};
+use wf_safe::{FullDeps, SafeView};
 use wf_spec::Seq;
+use wf_view::GrammarView;
+
+/// What is told of a coarser view that denies no pair: the first that it adds; else that it adds none.
+fn compared_extra(coarse: GrammarView<'_>, full: &FullDeps) -> Compared
+    requires rows { (k : ℕ) → IsSeenModule coarse.grammar.now.core coarse.view.now.core k → HasRows coarse.grammar.now.core full.now k }
+    requires denies { DeniesNone coarse.grammar.now.core coarse.view.now.core (pairs_of full.now) }
+    ensures { IsCompared coarse.entry.grammar.now.core coarse.entry.view.now.core (pairs_of full.now) result }
+{
+    match first_pair(coarse, full, Difference::Added) {
+        Some(pair) => Compared::Extra {
+            module: pair.module,
+            input: pair.ports.input,
+            output: pair.ports.output,
+        },
+        None => Compared::Exact,
+    }
+}
+
+/// What is told of a coarser view. Memory is asked for only where it denies a pair.
+fn compared(
+    alloc: Global,
+    coarse: GrammarView<'_>,
+    full: &FullDeps,
+) -> Result<Compared, AllocError>
+    requires { (k : ℕ) → IsSeenModule coarse.grammar.now.core coarse.view.now.core k → HasRows coarse.grammar.now.core full.now k }
+    ensures told { IfOk result (λ c. IsCompared coarse.entry.grammar.now.core coarse.entry.view.now.core (pairs_of full.now) c) }
+    ensures denies { IfErr result (λ _. (x : PairSeen) × IsDenied coarse.entry.grammar.now.core coarse.entry.view.now.core (pairs_of full.now) x) }
+{
+    match first_pair(coarse, full, Difference::Denied) {
+        Some(pair) => {
+            let ShownRun { instance, run } = shown_by(alloc, coarse, pair.module)?;
+            Ok(Compared::Denied {
+                module: pair.module,
+                input: pair.ports.input,
+                output: pair.ports.output,
+                instance,
+                run: Seq::from_vec(run),
+            })
+        }
+        None => Ok(compared_extra(coarse, full)),
+    }
+}
 
 /// What the comparison of a fine and a coarse view of one grammar comes to: whether the coarse view ever denies what the fine one affirms.
 ///
@@ -35,22 +82,8 @@ pub fn compare(
     if let Some(module) = first_expanded_alone(sight, fine.view()) {
         return Err(CompareFault::NotCoarser { module });
     }
-    if let Some(pair) = first_pair(sight, fine.full(), Difference::Denied) {
-        let ShownRun { instance, run } = shown_by(alloc, sight, pair.module)?;
-        return Ok(Compared::Denied {
-            module: pair.module,
-            input: pair.ports.input,
-            output: pair.ports.output,
-            instance,
-            run: Seq::from_vec(run),
-        });
-    }
-    match first_pair(sight, fine.full(), Difference::Added) {
-        Some(pair) => Ok(Compared::Extra {
-            module: pair.module,
-            input: pair.ports.input,
-            output: pair.ports.output,
-        }),
-        None => Ok(Compared::Exact),
+    match compared(alloc, sight, fine.full()) {
+        Ok(told) => Ok(told),
+        Err(_) => Err(CompareFault::NoMemory),
     }
 }
