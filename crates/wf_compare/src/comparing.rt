@@ -35,11 +35,7 @@ fn compared_extra(coarse: GrammarView<'_>, full: &FullDeps) -> Compared
 }
 
 /// What is told of a coarser view. Memory is asked for only where it denies a pair.
-fn compared(
-    alloc: Global,
-    coarse: GrammarView<'_>,
-    full: &FullDeps,
-) -> Result<Compared, AllocError>
+fn compared(alloc: Global, coarse: GrammarView<'_>, full: &FullDeps) -> Result<Compared, AllocError>
     requires { (k : ℕ) → IsSeenModule coarse.grammar.now.core coarse.view.now.core k → HasRows coarse.grammar.now.core full.now k }
     ensures told { IfOk result (λ c. IsCompared coarse.entry.grammar.now.core coarse.entry.view.now.core (pairs_of full.now) c) }
     ensures denies { IfErr result (λ _. (x : PairSeen) × IsDenied coarse.entry.grammar.now.core coarse.entry.view.now.core (pairs_of full.now) x) }

@@ -56,7 +56,11 @@ fn put_part<S: TextSink>(out: &mut S, given: &[Given], k: usize) -> Result<(), A
     ensures { OnOk result (Takes S.holds out.old out.new (cond (k == 0) [] (codes ",") ++ given_text (get_or given.now k no_given_part))) }
 {
     let part = &given[k];
-    put_numbered(out, opening(k, b",{\"module\":\"m"), u64::from(part.module().0))?;
+    put_numbered(
+        out,
+        opening(k, b",{\"module\":\"m"),
+        u64::from(part.module().0),
+    )?;
     out.put(b"\",\"pairs\":[")?;
     put_pairs(out, part.pairs())?;
     out.put(b"]}")

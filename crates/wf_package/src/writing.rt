@@ -44,11 +44,7 @@ fn text_with(
 }
 
 /// The text of the package of a safe view, of which it is known what it shows. Fails only for want of memory.
-fn text_of_parts(
-    alloc: Global,
-    v: &SafeView<'_>,
-    parts: &ShownParts,
-) -> Result<Vec<u8>, AllocError>
+fn text_of_parts(alloc: Global, v: &SafeView<'_>, parts: &ShownParts) -> Result<Vec<u8>, AllocError>
     requires { AreShownParts v.now.accepted.grammar.core v.now.view.core parts.now.modules parts.now.productions }
     ensures { IfOk result (λ text. IsPackageText v.now.accepted.grammar.core v.now.view.core text.items) }
 {

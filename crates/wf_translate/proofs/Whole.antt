@@ -1,5 +1,5 @@
 -- Whole labels over a package.
-use Rattle.std.proofs.Common.{◌≡◌, ℕ, Bool, true, false, List, [], ◌∷◌, ◌⊎◌, ◌++◌, replicate, refl, sym, ap, ◌∙◌, subst, inl, inr, ⊎_elim, arith}
+use Rattle.std.proofs.Common.{◌≡◌, ℕ, Bool, true, false, cond, List, [], ◌∷◌, ◌⊎◌, ◌++◌, replicate, refl, sym, ap, ◌∙◌, subst, inl, inr, ⊎_elim, arith}
 use Rattle.std.proofs.lemmas.List.{length-map}
 use Rattle.wf_model.specs.Grammar.{Grammar, inputs_of, outputs_of}
 use Rattle.label_model.specs.Labels.{Place, Label, Input, Output, OfEdge, label_bits, IsLabel}
@@ -126,8 +126,8 @@ module _ (g : Grammar) (loop : Loops) where
       go l h (OfEdge p) e = let w = e ∙ label_spread p (replicate h.padding false) in absurd (cc)
 
   -- so in bits that begin with these two
-  pub ports_is : (h : HeldGrammar) → h.core ≡ g → (side : Grammar → ℕ → ℕ) (s n : ℕ) → s ≡ h.core.start → n ≡ side h.core s → n ≡ side g g.start
-  ports_is h same side s n at is = is ∙ (ap (side h.core) at ∙ ap (λ (z : Grammar). side z z.start) same)
+  pub ports_are : (h : HeldGrammar) → h.core ≡ g → (b : Bool) (n : ℕ) → n ≡ cond b (outputs_of h.core h.core.start) (inputs_of h.core h.core.start) → n ≡ cond b (outputs_of g g.start) (inputs_of g g.start)
+  ports_are h same b n is = is ∙ ap (λ (z : Grammar). cond b (outputs_of z z.start) (inputs_of z z.start)) same
 
   pub output_read : (n p : ℕ) (b : Bool) (old y : List Bool) → n ≡ outputs_of g g.start → old ≡ b ∷ y → b ≡ true → IsLastNumber n y p → ReadsInside g loop (false ∷ old) (Output p)
   output_read n p b old y count bit one h =
@@ -137,13 +137,18 @@ module _ (g : Grammar) (loop : Loops) where
   input_read n p b old y count bit zero h =
       subst (λ z. ReadsInside g loop (false ∷ z) (Input p)) (sym (bit ∙ ap (λ x. x ∷ y) zero)) (input_inside y p (subst (λ z. IsLastNumber z y p) count h))
 
-  pub output_none : (n : ℕ) (b : Bool) (old y : List Bool) → n ≡ outputs_of g g.start → old ≡ b ∷ y → b ≡ true → HasNoLastNumber n y → IsTranslation g loop (false ∷ old) Malformed
+  output_none : (n : ℕ) (b : Bool) (old y : List Bool) → n ≡ outputs_of g g.start → old ≡ b ∷ y → b ≡ true → HasNoLastNumber n y → IsTranslation g loop (false ∷ old) Malformed
   output_none n b old y count bit one h =
       subst (λ z. IsTranslation g loop (false ∷ z) Malformed) (sym (bit ∙ ap (λ x. x ∷ y) one)) (output_malformed y (subst (λ z. HasNoLastNumber z y) count h))
 
-  pub input_none : (n : ℕ) (b : Bool) (old y : List Bool) → n ≡ inputs_of g g.start → old ≡ b ∷ y → b ≡ false → HasNoLastNumber n y → IsTranslation g loop (false ∷ old) Malformed
+  input_none : (n : ℕ) (b : Bool) (old y : List Bool) → n ≡ inputs_of g g.start → old ≡ b ∷ y → b ≡ false → HasNoLastNumber n y → IsTranslation g loop (false ∷ old) Malformed
   input_none n b old y count bit zero h =
       subst (λ z. IsTranslation g loop (false ∷ z) Malformed) (sym (bit ∙ ap (λ x. x ∷ y) zero)) (input_malformed y (subst (λ z. HasNoLastNumber z y) count h))
+
+  -- no number of a port is left, on the side that the bit tells
+  pub port_none : (n : ℕ) (b : Bool) (old y : List Bool) → n ≡ cond b (outputs_of g g.start) (inputs_of g g.start) → old ≡ b ∷ y → HasNoLastNumber n y → IsTranslation g loop (false ∷ old) Malformed
+  port_none n true old y count bit h = output_none n true old y count bit refl h
+  port_none n false old y count bit h = input_none n false old y count bit refl h
 
 module _ (l : LoopedValue) (f : IsLooped l) where
   abbrev gr : Grammar

@@ -5,7 +5,7 @@ ghost use Rattle.wf_translate.specs.declared.fault.PackLabelFault.TheVariants.{N
 use std::alloc::{AllocError, AllocFailed};
 
 /// Why bytes have no translation over a package, in the order of trial.
-#[derive(Clone, Copy, Debug, PartialEq, Eq)]
+#[derive(Clone, Copy)]
 pub enum PackLabelFault {
     /// The reading neither comes to an atomic module nor to its end with fewer than eight zero bits left.
     Malformed,

@@ -1,5 +1,6 @@
 // A label, read over a package.
-ghost use Rattle.std.specs.Prelude.{◌≡◌, true, false, ◌∷◌, IfOk, IfErr, IsErr, MatchOption};
+ghost use Rattle.std.specs.Prelude.{◌≡◌, true, false, cond, ◌∷◌, IfOk, IfErr, IsErr, MatchOption};
+ghost use Rattle.wf_model.specs.Grammar.{inputs_of, outputs_of};
 ghost use Rattle.package_model.specs.Translating.{IsTranslation, ReadsInside, ReadsOutside, Malformed as MalformedBits};
 ghost use Rattle.wf_label.specs.Values.{label_of};
 ghost use Rattle.wf_loops.specs.Looped.{loop_in};
@@ -12,7 +13,19 @@ use bit_pack::BitReader;
 use std::alloc::Global;
 use wf_label::Label;
 use wf_loops::Looped;
-use wf_spec::PortNo;
+use wf_spec::{Grammar, PortNo};
+
+/// How many outputs, or inputs, the start module has.
+fn port_count(g: &Grammar, of_outputs: bool) -> u8
+    ensures { result ≡ cond of_outputs (outputs_of g.now.core g.now.core.start) (inputs_of g.now.core g.now.core.start) }
+{
+    let start = g.start();
+    if of_outputs {
+        g.output_count(start)
+    } else {
+        g.input_count(start)
+    }
+}
 
 /// Reads the label of a port of the root, behind its first bit.
 fn read_root_port(looped: &Looped, reader: &mut BitReader<'_>) -> Result<Label, PackLabelFault>
@@ -21,13 +34,12 @@ fn read_root_port(looped: &Looped, reader: &mut BitReader<'_>) -> Result<Label, 
 {
     let g = looped.grammar();
     let is_output = read_bit(reader)?;
-    let start = g.start();
+    let count = port_count(g, is_output);
+    let port = read_last(reader, count as usize)?;
     if is_output {
-        let output = read_last(reader, g.output_count(start) as usize)?;
-        return Ok(Label::Output(PortNo(output as u8)));
+        return Ok(Label::Output(PortNo(port as u8)));
     }
-    let input = read_last(reader, g.input_count(start) as usize)?;
-    Ok(Label::Input(PortNo(input as u8)))
+    Ok(Label::Input(PortNo(port as u8)))
 }
 
 /// Reads the label of an edge, behind its first bit: as one of the package's grammar, or nothing where the reading comes to an atomic module.
