@@ -1,5 +1,5 @@
 -- How `consult` ends at two labels.
-use Rattle.std.proofs.Common.{◌≡◌, ℕ, Bool, List, [], ◌++◌, Option, None, refl, sym, subst, ⊎_elim, arith}
+use Rattle.std.proofs.Common.{◌≡◌, ℕ, Bool, List, [], ◌++◌, Option, None, Result, Err, IfErr, refl, sym, subst, inl, inr, ⊎_elim, arith}
 use Rattle.std.specs.Prelude.{codes}
 use Rattle.wf_model.specs.Grammar.{Grammar}
 use Rattle.wf_model.specs.DefaultView.{default_view}
@@ -15,6 +15,7 @@ use Rattle.wf_loops.specs.Looped.{LoopedValue, loop_in}
 use Rattle.wf_translate.specs.declared.translating.Packed.{Packed}
 use Rattle.wf_translate.specs.declared.translating.Packed.TheVariants.{Inside as InsideHeld, Outside as OutsideHeld}
 use Rattle.wf_translate.specs.Translated.{IsTranslatedAs, IsPackedInside}
+use Rattle.wf_message.specs.declared.ending.Stop.{Stop}
 use Rattle.wf_message.specs.Endings.{End, Done, Refused, NoMemory}
 use Rattle.wf_stage.specs.Ends.{IsWritten}
 use Rattle.wf_stage.specs.Promises.{Writes}
@@ -22,7 +23,7 @@ use Rattle.wf_stage.proofs.Ends.{begins_nothing, nothing_put}
 use Rattle.wf_stage.proofs.Writing.{writes_wanting, writes_text, writes_alike}
 use Rattle.cmd_share.specs.PackageTold.{package_value}
 use Rattle.cmd_share.specs.Consulted.{IsLabelOver, ConsultsLabels, first_malformed, second_malformed, consulted}
-use Rattle.cmd_share.specs.Stops.{IsNoLabelOver}
+use Rattle.cmd_share.specs.Stops.{IsNoLabelOver, AreNotConsulted}
 use Rattle.cmd_share.proofs.GoodPackages.{IsGood}
 use Rattle.cmd_share.proofs.OneConsulting.{one_consulting}
 
@@ -48,9 +49,22 @@ module _ (g : Grammar) (loop : Loops) (x y : List ℕ) where
       ((k l : Label) → IsLabel g k → IsLabel g l → a ≡ label_bits k → b ≡ label_bits l → IsVerdict g (default_view g) k l v) → IsConsulted g loop x y v
   both_inside a b h k v told = record { first = Inside h.label; second = Inside k.label; first_is = h.translated; second_is = k.translated; told = told h.label k.label h.of_it k.of_it h.is k.is }
 
+-- what holds of a stop holds of a result that hands it on
+pub stops_passed : {A : Type 0} (P : Stop → Type 0) (r : Result A Stop) (d : Stop) → (y : Stop) × (r ≡ Err y) × (y ≡ d) → P d → IfErr r P
+stops_passed P r d told h = subst (λ x. IfErr x P) (sym told.1) (subst P (sym told.2) h)
+
+module _ (v : LoopedValue) (first second : List ℕ) where
+  -- the first is no label over the package
+  pub first_stops : (e : End) → IsNoLabelOver v (codes "label 1") first e → AreNotConsulted v first second e
+  first_stops e = ⊎_elim (λ wants. inl wants) (λ h. inr (first_malformed h.0 h.1 refl))
+
+  -- the first is one, and the second is none
+  pub second_stops : (e : End) → IsLabelOver (package_value v) first → IsNoLabelOver v (codes "label 2") second e → AreNotConsulted v first second e
+  second_stops e l = ⊎_elim (λ wants. inl wants) (λ h. inr (second_malformed l h.0 h.1 refl))
+
 module _ {T : Type 0} {out : T → Option (List ℕ)} {faults : T → ℕ} {last : T → Bool} (v : LoopedValue) (first second : List ℕ) where
   -- want of memory, with nothing put
-  pub consulting_wants : (o : T) (e : End) → e ≡ NoMemory → Writes out faults last [] (ConsultsLabels (package_value v) first second) o o e
+  consulting_wants : (o : T) (e : End) → e ≡ NoMemory → Writes out faults last [] (ConsultsLabels (package_value v) first second) o o e
   consulting_wants o e is = subst (Writes out faults last [] (ConsultsLabels (package_value v) first second) o o) (sym is) (writes_wanting [] (ConsultsLabels (package_value v) first second) (begins_nothing (ConsultsLabels (package_value v) first second)) o)
 
   -- a label is refused, with nothing put
@@ -61,13 +75,12 @@ module _ {T : Type 0} {out : T → Option (List ℕ)} {faults : T → ℕ} {last
     later = omega arith;
   })
 
-  -- the first is no label over the package
-  pub first_stops : (o : T) (e : End) → IsNoLabelOver v (codes "label 1") first e → Writes out faults last [] (ConsultsLabels (package_value v) first second) o o e
-  first_stops o e = ⊎_elim (λ wants. consulting_wants o e wants) (λ h. refused_at o (codes "label 1") e h.1 (first_malformed h.0 refl refl))
-
-  -- the first is one, and the second is none
-  pub second_stops : (o : T) (e : End) → IsLabelOver (package_value v) first → IsNoLabelOver v (codes "label 2") second e → Writes out faults last [] (ConsultsLabels (package_value v) first second) o o e
-  second_stops o e l = ⊎_elim (λ wants. consulting_wants o e wants) (λ h. refused_at o (codes "label 2") e h.1 (second_malformed l h.0 refl refl))
+  -- two labels are not consulted, with nothing put
+  pub consulting_stops : (o : T) (e : End) → (e ≡ Done → ⊥) → AreNotConsulted v first second e → Writes out faults last [] (ConsultsLabels (package_value v) first second) o o e
+  consulting_stops o e stop (inl wants) = consulting_wants o e wants
+  consulting_stops o e stop (inr (first_malformed h is text)) = refused_at o (codes "label 1") e is (first_malformed h refl refl)
+  consulting_stops o e stop (inr (second_malformed l h is text)) = refused_at o (codes "label 2") e is (second_malformed l h refl refl)
+  consulting_stops o e stop (inr (consulted verdict h is text)) = absurd (stop is)
 
   -- the line of the verdict was put
   pub consulted_written : IsGood (package_value v) → (verdict : Verdict) → IsConsulted v.accepted.grammar.core (loop_in v.steps) first second verdict → (held : List ℕ) → held ≡ verdict_text verdict ++ codes "\n" → (o p : T) (e : End) → Writes out faults last [] (IsWritten held) o p e → Writes out faults last [] (ConsultsLabels (package_value v) first second) o p e

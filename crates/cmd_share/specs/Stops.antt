@@ -6,6 +6,8 @@ use Rattle.package_model.specs.Translating.{Malformed, TranslatesTo}
 use Rattle.wf_loops.specs.Looped.{LoopedValue, loop_in}
 use Rattle.wf_message.specs.Endings.{End, Refused, NoMemory}
 use Rattle.cmd_share.specs.Told.{ComparesViews}
+use Rattle.cmd_share.specs.PackageTold.{package_value}
+use Rattle.cmd_share.specs.Consulted.{ConsultsLabels}
 
 -- two views are not compared: memory was wanting, or they are refused
 abbrev pub AreNotCompared : Grammar → View → View → End → Type 0
@@ -15,3 +17,7 @@ AreNotCompared g u c ending = (ending ≡ NoMemory) ⊎ ComparesViews g u c endi
 abbrev pub IsNoLabelOver : LoopedValue → List ℕ → List ℕ → End → Type 0
 IsNoLabelOver p place bytes ending =
     (ending ≡ NoMemory) ⊎ (TranslatesTo p.accepted.grammar.core (loop_in p.steps) bytes Malformed × (ending ≡ Refused place None (codes "Malformed")))
+
+-- two labels are not consulted: memory was wanting, or one of them is refused
+abbrev pub AreNotConsulted : LoopedValue → List ℕ → List ℕ → End → Type 0
+AreNotConsulted p first second ending = (ending ≡ NoMemory) ⊎ ConsultsLabels (package_value p) first second ending []

@@ -3,12 +3,13 @@ ghost use Rattle.std.specs.Prelude.{◌∷◌, ◌≡◌, ◌⊎◌, [], None, I
 ghost use Rattle.wf_message.specs.Endings.{end_of, end_after, Done, Refused, NoMemory};
 ghost use Rattle.wf_stage.specs.Promises.{Writes, Obeys};
 ghost use Rattle.wf_compare.specs.FaultText.{compare_text};
+ghost use Rattle.wf_compare.specs.ComparedText.{compared_text};
 ghost use Rattle.cmd_share.specs.Told.{ComparesViews};
 ghost use Rattle.cmd_share.specs.Stops.{AreNotCompared};
 ghost use Rattle.cmd_share.specs.Does.{Compares, ComparesWith};
 
 use std::alloc::Global;
-use wf_compare::{CompareFault, add_text, compare};
+use wf_compare::{CompareFault, Compared, add_text, compare};
 use wf_inputs::{COARSE, UnderView, under_view, view_file_stage};
 use wf_io::{Shelf, Sink};
 use wf_message::{Refusal, Stop, empty_text, refused_whole};
@@ -39,20 +40,29 @@ fn not_compared(g: &Grammar, fault: CompareFault, mut text: Vec<u8>) -> Stop
     }
 }
 
+/// An empty text with what is told of two views of a grammar. Fails only for want of memory.
+fn with_told(mut text: Vec<u8>, g: &Grammar, told: &Compared) -> Result<Vec<u8>, Stop>
+    requires { text.items ≡ [] }
+    ensures told { IfOk result (λ t. t.items ≡ compared_text g.now.core told.now) }
+    ensures memory { IfErr result (λ e. end_of e ≡ NoMemory) }
+{
+    match add_text(&mut text, g, told) {
+        Ok(()) => Ok(text),
+        Err(_) => Err(Stop::NoMemory),
+    }
+}
+
 /// The text of what two safe views of one grammar come to. It is made whole, so that want of memory comes before anything is put.
 fn comparison(alloc: Global, fine: &SafeView<'_>, coarse: &SafeView<'_>) -> Result<Vec<u8>, Stop>
     requires same { coarse.now.accepted ≡ fine.now.accepted }
     ensures told { IfOk result (λ text. ComparesViews fine.now.accepted.grammar.core fine.now.view.core coarse.now.view.core Done text.items) }
     ensures stops { IfErr result (λ e. AreNotCompared fine.now.accepted.grammar.core fine.now.view.core coarse.now.view.core (end_of e)) }
 {
-    let Ok(mut text) = empty_text(alloc) else {
+    let Ok(text) = empty_text(alloc) else {
         return Err(Stop::NoMemory);
     };
     match compare(alloc, fine, coarse) {
-        Ok(told) => match add_text(&mut text, fine.grammar(), &told) {
-            Ok(()) => Ok(text),
-            Err(_) => Err(Stop::NoMemory),
-        },
+        Ok(told) => with_told(text, fine.grammar(), &told),
         Err(fault) => Err(not_compared(fine.grammar(), fault, text)),
     }
 }

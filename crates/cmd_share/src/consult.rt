@@ -13,7 +13,7 @@ ghost use Rattle.wf_message.specs.Endings.{end_of, end_after, NoMemory};
 ghost use Rattle.wf_stage.specs.Promises.{Writes, Obeys};
 ghost use Rattle.cmd_share.specs.PackageTold.{package_value};
 ghost use Rattle.cmd_share.specs.Consulted.{ConsultsLabels};
-ghost use Rattle.cmd_share.specs.Stops.{IsNoLabelOver};
+ghost use Rattle.cmd_share.specs.Stops.{IsNoLabelOver, AreNotConsulted};
 ghost use Rattle.cmd_share.specs.Does.{Consults};
 
 use crate::package_input::package_stage;
@@ -100,7 +100,23 @@ fn verdict_by(
     }
 }
 
-/// Puts the verdict by a package on two labels, which are tried in order.
+/// The verdict by a package on two labels, which are tried in order.
+fn verdict_of_words(
+    alloc: Global,
+    held: &Package,
+    words: &ConsultWords<'_>,
+) -> Result<Verdict, Stop>
+    ensures verdict { IfOk result (IsConsulted held.now.accepted.grammar.core (loop_in held.now.steps)
+        (bytes_in (decode_of words.now.first.word.now)) (bytes_in (decode_of words.now.second.word.now))) }
+    ensures stops { IfErr result (λ e. AreNotConsulted held.now
+        (bytes_in (decode_of words.now.first.word.now)) (bytes_in (decode_of words.now.second.word.now)) (end_of e)) }
+{
+    let first = packed_of(alloc, held, FIRST, words.first)?;
+    let second = packed_of(alloc, held, SECOND, words.second)?;
+    verdict_by(alloc, held, &first, &second)
+}
+
+/// Puts the verdict by a package on two labels.
 fn put_verdict<O: Sink>(
     alloc: Global,
     held: &Package,
@@ -113,9 +129,7 @@ fn put_verdict<O: Sink>(
     ensures untouched { end_after result ≡ NoMemory → (O.put_bytes out.new ≡ O.put_bytes out.old) × (O.faults out.new ≡ O.faults out.old) }
 {
     let _held = held.looped();
-    let first = packed_of(alloc, held, FIRST, words.first)?;
-    let second = packed_of(alloc, held, SECOND, words.second)?;
-    let verdict = verdict_by(alloc, held, &first, &second)?;
+    let verdict = verdict_of_words(alloc, held, words)?;
     put_text(out, verdict_line(verdict))
 }
 

@@ -1,5 +1,6 @@
-use Rattle.std.proofs.Common.{◌≡◌, ◌⊎◌, ℕ, List, ◌++◌, None, refl, ap, ◌∙◌, subst}
+use Rattle.std.proofs.Common.{◌≡◌, ◌⊎◌, ℕ, List, None, inl, refl, ap, ◌∙◌, subst}
 use Rattle.std.specs.Prelude.{codes}
+use Rattle.std.proofs.lemmas.Result.{IfOk-weaker, IfErr-weaker}
 use Rattle.wf_model.specs.Meaning.{pairs_of}
 use Rattle.wf_spec.specs.Held.{HeldGrammar}
 use Rattle.wf_accept.specs.Accepted.{AcceptedValue}
@@ -11,14 +12,19 @@ use Rattle.cmd_share.specs.Told.{told}
 use Rattle.cmd_share.proofs.ComparedTexts.{refused_two}
 use Rattle.cmd_share.proofs.compare.comparison.Goals as goal
 
-pub returns-in-Ok-add_text-clause-told : goal.returns-in-Ok-add_text-clause-told
-returns-in-Ok-add_text-clause-told c =
+pub returns-in-Ok-compare-clause-told : goal.returns-in-Ok-compare-clause-told
+returns-in-Ok-compare-clause-told c =
     let coarse = c.args.coarse.now.view.core in
     let d = pairs_of c.args.fine.now.full in
     let x = c.in-Ok-compare.told in
-    told c.in-Ok-compare.ensures.coarser d c.grammar.ensures.safe.full.full x
+    IfOk-weaker c.with_told.result _ _
+    (λ text is. told c.in-Ok-compare.ensures.coarser d c.grammar.ensures.safe.full.full x
     (subst (λ (a : AcceptedValue). IsCompared a.grammar.core coarse d x) c.requires.same c.in-Ok-compare.ensures.compared) refl
-    (c.in-Ok-add_text.ensures ∙ (ap (λ (t : List ℕ). t ++ compared_text c.grammar.result.now.core x) c.in-Ok.ensures ∙ ap (λ (h : HeldGrammar). compared_text h.core x) c.grammar.ensures.grammar))
+    (is ∙ ap (λ (h : HeldGrammar). compared_text h.core x) c.grammar.ensures.grammar))
+    c.with_told.ensures.told
+
+pub returns-in-Ok-compare-clause-stops : goal.returns-in-Ok-compare-clause-stops
+returns-in-Ok-compare-clause-stops c = IfErr-weaker c.with_told.result _ _ (λ e wants. inl wants) c.with_told.ensures.memory
 
 pub returns-in-Err-clause-stops : goal.returns-in-Err-clause-stops
 returns-in-Err-clause-stops c =
