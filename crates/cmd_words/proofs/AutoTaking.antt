@@ -1,4 +1,4 @@
--- How AUTO ends a command, or is taken on.
+-- How AUTO ends a command.
 use Rattle.std.proofs.Common.{ℕ, Bool, List, [], ◌∷◌, Option}
 use Rattle.wf_model.specs.Grammar.{Grammar}
 use Rattle.wf_model.specs.View.{View}
@@ -7,15 +7,11 @@ use Rattle.wf_io.specs.Told.{File}
 use Rattle.wf_io.specs.Readings.{Reading}
 use Rattle.wf_message.specs.Endings.{End}
 use Rattle.wf_stage.specs.Stages.{OfWhole}
-use Rattle.wf_stage.specs.Promises.{HasRead, HasStopped, Obeys}
+use Rattle.wf_stage.specs.Promises.{HasStopped, Obeys}
 use Rattle.wf_stage.proofs.Ends.{begins_nothing}
-use Rattle.wf_stage.proofs.Obeying.{obeys_stop, obeys_on}
-use Rattle.cmd_words.specs.AutoTold.{auto_kind, TellsAuto, RefusesAuto, AutoStage}
-use Rattle.cmd_words.proofs.AutoValues.{one_auto, no_refusal_of_auto}
+use Rattle.wf_stage.proofs.Obeying.{obeys_stop}
+use Rattle.cmd_words.specs.AutoTold.{auto_kind, RefusesAuto, AutoStage}
 
 module _ (g : Grammar) (v : View) {S T : Type 0} {files : S → Option (List ℕ → File)} {readings : S → Option (List Reading)} {faults : S → ℕ} {last : S → Bool} {bytes : T → Option (List ℕ)} {counts : T → ℕ} {out_last : T → Bool} {name : List ℕ} {names : List (List ℕ)} (Next : (List ℕ → File) → Automaton → End → List ℕ → Type 0) where
   pub auto_stops : (s t : S) (o : T) (e : End) → HasStopped files readings faults last auto_kind name (OfWhole (RefusesAuto g v)) s t e → Obeys files readings faults last bytes counts out_last (name ∷ names) [] (λ f. AutoStage g v (f name) (Next f)) s t o o e
   auto_stops = obeys_stop [] Next (λ f a. begins_nothing (Next f a))
-
-  pub auto_goes : (s t u : S) (o p : T) (e : End) (a : Automaton) → HasRead files readings faults auto_kind name (TellsAuto g v) s t a → Obeys files readings faults last bytes counts out_last names [] (λ f. Next f a) t u o p e → Obeys files readings faults last bytes counts out_last (name ∷ names) [] (λ f. AutoStage g v (f name) (Next f)) s u o p e
-  auto_goes = obeys_on [] Next (one_auto g v) (λ b a line fault told r. no_refusal_of_auto g v b a fault told r.1)

@@ -4,6 +4,7 @@ pub mod LiftedSafety
 pub mod WordViews
 pub mod AutoValues
 pub mod AutoTaking
+pub mod LiftedTaking
 pub mod OneByWords
 pub mod ToldAutomata
 pub mod SomeByWords

@@ -13,6 +13,7 @@ ghost use Rattle.wf_asking.specs.Queries.{QueriesStage};
 ghost use Rattle.cmd_words.specs.LiftedViews.{IsLiftedView};
 ghost use Rattle.cmd_words.specs.Does.{AnswersLabels};
 
+use crate::let_go::let_go;
 use crate::prepared::Prepared;
 use label_file::{Guesses, Store};
 use std::alloc::Global;
@@ -56,7 +57,9 @@ fn answer_under<H: Shelf, O: Sink>(
         scratch,
         guesses: Guesses::new(),
     };
-    queries_stage(alloc, &mut prepared, shelf, name, out)
+    let ended = queries_stage(alloc, &mut prepared, shelf, name, out);
+    let_go(prepared);
+    ended
 }
 
 /// Answers the queries of a file from the entries of a label file, under the label of a view. The label of the lifted view is made here.
@@ -87,7 +90,9 @@ fn answer_over<H: Shelf, O: Sink>(
     let Ok(raised) = ViewLabel::build(alloc, lifted) else {
         return Err(Stop::NoMemory);
     };
-    answer_under(alloc, automaton, plain, &raised, store, name, shelf, out)
+    let ended = answer_under(alloc, automaton, plain, &raised, store, name, shelf, out);
+    let_go(raised);
+    ended
 }
 
 /// Answers the queries of a file from the entries of a label file. All that needs memory comes before the first answer: the labels of both views, and the room for verdicts.
@@ -113,7 +118,9 @@ fn answer_queries<H: Shelf, O: Sink>(
     let Ok(plain) = ViewLabel::build(alloc, v) else {
         return Err(Stop::NoMemory);
     };
-    answer_over(alloc, v, automaton, &plain, lifted, store, name, shelf, out)
+    let ended = answer_over(alloc, v, automaton, &plain, lifted, store, name, shelf, out);
+    let_go(plain);
+    ended
 }
 
 /// Takes LABELS and QUERIES under a view and the lifted view of an automaton.
@@ -137,5 +144,8 @@ pub(crate) fn answer_labels<H: Shelf, O: Sink>(
     let bytes = read_file(alloc, shelf, labels, LABELS)?;
     let key = shelf.hash_key();
     let store = store_of(alloc, key, v.accepted(), &bytes)?;
-    answer_queries(alloc, v, automaton, lifted, &store, queries, shelf, out)
+    let ended = answer_queries(alloc, v, automaton, lifted, &store, queries, shelf, out);
+    let_go(store);
+    let_go(bytes);
+    ended
 }

@@ -1,16 +1,14 @@
 // `words`: SPEC, VIEW, AUTO and LABELS, and then the answers to QUERIES by the words of paths, from the labels alone.
-ghost use Rattle.std.specs.Prelude.{◌≡◌, ◌∷◌, ℕ, List, []};
+ghost use Rattle.std.specs.Prelude.{◌≡◌, ◌∷◌, []};
 ghost use Rattle.words_model.specs.Laws.{Fits};
 ghost use Rattle.words_model.specs.Lifting.{lift};
-ghost use Rattle.wf_automaton.specs.Rules.{TellsAutomaton};
 ghost use Rattle.wf_message.specs.Endings.{end_after, NoMemory};
-ghost use Rattle.wf_stage.specs.Stages.{Holds};
-ghost use Rattle.wf_stage.specs.Promises.{HasRead, Obeys};
-ghost use Rattle.cmd_words.specs.AutoTold.{auto_kind};
-ghost use Rattle.cmd_words.specs.Does.{AnswersAuto, AnswersByWords};
+ghost use Rattle.wf_stage.specs.Promises.{Obeys};
+ghost use Rattle.cmd_words.specs.Does.{AnswersLifted, AnswersAuto, AnswersByWords};
 
 use crate::auto_input::{AUTO, automaton_of};
 use crate::labels::answer_labels;
+use crate::let_go::let_go;
 use crate::lifted::{lifted_grammar, lifted_view};
 use std::alloc::Global;
 use wf_accept::Accepted;
@@ -43,16 +41,13 @@ fn answer_lifted<H: Shelf, O: Sink>(
 ) -> Result<(), Stop>
     requires fits { Fits v.now.accepted.grammar.core automaton.now }
     requires grammar { grammar.now.grammar.core ≡ lift v.now.accepted.grammar.core automaton.now.states }
-    ensures obeys { (before : H) (bytes held : List ℕ) → TellsAutomaton v.now.accepted.grammar.core held automaton.now → held ≡ bytes →
-        HasRead H.files H.readings H.faults auto_kind files.now.automaton.now Holds before shelf.old bytes →
-        Obeys H.files H.readings H.faults H.at_last O.put_bytes O.faults O.at_last
-        (files.now.automaton.now ∷ files.now.labels.now ∷ files.now.queries.now ∷ []) []
-        (λ f. AnswersAuto v.now.accepted.grammar v.now.view.core (f files.now.automaton.now) (f files.now.labels.now) (f files.now.queries.now))
-        before shelf.new out.old out.new (end_after result) }
+    ensures obeys { Obeys H.files H.readings H.faults H.at_last O.put_bytes O.faults O.at_last (files.now.labels.now ∷ files.now.queries.now ∷ []) []
+        (λ f. AnswersLifted v.now.accepted.grammar v.now.view.core automaton.now (f files.now.labels.now) (f files.now.queries.now))
+        shelf.old shelf.new out.old out.new (end_after result) }
     ensures untouched { end_after result ≡ NoMemory → (O.put_bytes out.new ≡ O.put_bytes out.old) × (O.faults out.new ≡ O.faults out.old) }
 {
     let lifted = lifted_view(alloc, v, automaton, grammar)?;
-    answer_labels(
+    let ended = answer_labels(
         alloc,
         v,
         automaton,
@@ -61,7 +56,9 @@ fn answer_lifted<H: Shelf, O: Sink>(
         files.queries,
         shelf,
         out,
-    )
+    );
+    let_go(lifted);
+    ended
 }
 
 /// Takes LABELS and QUERIES under a view and an automaton, which AUTO told.
@@ -74,16 +71,15 @@ fn answer_read<H: Shelf, O: Sink>(
     out: &mut O,
 ) -> Result<(), Stop>
     requires fits { Fits v.now.accepted.grammar.core automaton.now }
-    ensures obeys { (before : H) (bytes held : List ℕ) → TellsAutomaton v.now.accepted.grammar.core held automaton.now → held ≡ bytes →
-        HasRead H.files H.readings H.faults auto_kind files.now.automaton.now Holds before shelf.old bytes →
-        Obeys H.files H.readings H.faults H.at_last O.put_bytes O.faults O.at_last
-        (files.now.automaton.now ∷ files.now.labels.now ∷ files.now.queries.now ∷ []) []
-        (λ f. AnswersAuto v.now.accepted.grammar v.now.view.core (f files.now.automaton.now) (f files.now.labels.now) (f files.now.queries.now))
-        before shelf.new out.old out.new (end_after result) }
+    ensures obeys { Obeys H.files H.readings H.faults H.at_last O.put_bytes O.faults O.at_last (files.now.labels.now ∷ files.now.queries.now ∷ []) []
+        (λ f. AnswersLifted v.now.accepted.grammar v.now.view.core automaton.now (f files.now.labels.now) (f files.now.queries.now))
+        shelf.old shelf.new out.old out.new (end_after result) }
     ensures untouched { end_after result ≡ NoMemory → (O.put_bytes out.new ≡ O.put_bytes out.old) × (O.faults out.new ≡ O.faults out.old) }
 {
     let grammar = lifted_grammar(alloc, v, automaton)?;
-    answer_lifted(alloc, v, automaton, &grammar, files, shelf, out)
+    let ended = answer_lifted(alloc, v, automaton, &grammar, files, shelf, out);
+    let_go(grammar);
+    ended
 }
 
 impl UnderView for WordsFiles<'_> {
@@ -103,7 +99,10 @@ impl UnderView for WordsFiles<'_> {
     ) -> Result<(), Stop> {
         let bytes = read_file(alloc, shelf, self.automaton, AUTO)?;
         let automaton = automaton_of(alloc, v.grammar(), &bytes)?;
-        answer_read(alloc, v, &automaton, self, shelf, out)
+        let ended = answer_read(alloc, v, &automaton, self, shelf, out);
+        let_go(automaton);
+        let_go(bytes);
+        ended
     }
 }
 

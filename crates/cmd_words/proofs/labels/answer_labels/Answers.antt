@@ -38,8 +38,8 @@ returns-in_err-store g c =
       untouched = λ wants. (refl, refl);
     }
 
-pub answer_queries-requires-clause-store : goal.answer_queries-requires-clause-store
-answer_queries-requires-clause-store g c =
+pub answer_queries-ended-requires-clause-store : goal.answer_queries-ended-requires-clause-store
+answer_queries-ended-requires-clause-store g c =
     let s = subst (λ (s : AcceptedValue). (entries : List Entry) × TellsEntries s.grammar c.deref.result.now entries × AreHeldOf s.grammar.core entries c.in_ok-store.store) c.accepted.ensures.accepted c.in_ok-store.ensures.store in
     store_of_held c.args.v.now.accepted.grammar.core s.0 c.in_ok-store.store s.2 (told_differ c.args.v.now.accepted.grammar c.deref.result.now s.0 s.1)
 
@@ -49,6 +49,6 @@ returns g c =
     let s = subst (λ (s : AcceptedValue). (entries : List Entry) × TellsEntries s.grammar c.deref.result.now entries × AreHeldOf s.grammar.core entries c.in_ok-store.store) c.accepted.ensures.accepted c.in_ok-store.ensures.store in
     let all : Result (List Entry) Stop = Ok s.0 in
     record {
-      obeys = labels_go h _ _ _ _ _ _ _ s.0 (reads_on g.H.Shelf.at_last (TellsEntries h) (λ es. es) (OfWhole (RefusesLabels h)) _ _ _ c.deref.result.now c.in_ok-bytes.ensures.reads c.deref.ensures.value all s.1 tt) (c.answer_queries.ensures.obeys s.0 s.2);
-      untouched = c.answer_queries.ensures.untouched;
+      obeys = labels_go h _ _ _ _ _ _ _ s.0 (reads_on g.H.Shelf.at_last (TellsEntries h) (λ es. es) (OfWhole (RefusesLabels h)) _ _ _ c.deref.result.now c.in_ok-bytes.ensures.reads c.deref.ensures.value all s.1 tt) (c.answer_queries-ended.ensures.obeys s.0 s.2);
+      untouched = c.answer_queries-ended.ensures.untouched;
     }

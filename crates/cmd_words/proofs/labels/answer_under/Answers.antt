@@ -24,6 +24,6 @@ returns g c =
             held = subst (λ (x : Grammar × Automaton). AreHeldOf x.0 entries c.args.store.now) (sym told) held;
           } in
           answered_by_same u entries (w.plain.grammar, w.automaton) (grammar, a) _ _ _ _ _ told
-          (c.queries_stage.ensures.obeys k (refl, refl, known) (one_word_told k store known));
-      untouched = c.queries_stage.ensures.untouched (λ e. e);
+          (c.queries_stage-ended.ensures.obeys k (refl, refl, known) (one_word_told k store known));
+      untouched = c.queries_stage-ended.ensures.untouched (λ e. e);
     }

@@ -1,5 +1,5 @@
 use Rattle.std.proofs.Common.{refl, subst, inl}
-use Rattle.std.specs.Prelude.{Result, Err, codes}
+use Rattle.std.specs.Prelude.{Result, Ok, Err, codes}
 use Rattle.std.proofs.lemmas.Result.{err_from_is_err_and}
 use Rattle.wf_spec.specs.Held.{HeldGrammar}
 use Rattle.words_model.specs.Automata.{Automaton}
@@ -12,6 +12,7 @@ use Rattle.wf_stage.proofs.Reading.{reads_on, reads_stop}
 use Rattle.wf_stage.proofs.Stages.{declines_by}
 use Rattle.cmd_words.specs.AutoTold.{TellsAuto, RefusesAutomaton, RefusesAuto}
 use Rattle.cmd_words.proofs.AutoTaking.{auto_stops}
+use Rattle.cmd_words.proofs.LiftedTaking.{auto_taken}
 use Rattle.cmd_words.proofs.words.WordsFilesUnderView.obey_under.Goals as goal
 
 pub returns-in_err-bytes : goal.returns-in_err-bytes
@@ -43,10 +44,14 @@ returns-in_err-automaton g c =
 
 pub returns : goal.returns
 returns g c =
+    let h = c.args.v.now.accepted.grammar in
     let a = c.in_ok-automaton.automaton in
     let held = c.deref.result.now in
+    let all : Result Automaton Stop = Ok a in
     let tells = subst (λ (x : HeldGrammar). TellsAutomaton x.core held a) c.grammar.ensures.grammar c.in_ok-automaton.ensures.tells in
     record {
-      obeys = c.answer_read.ensures.obeys _ _ held tells c.deref.ensures.value c.in_ok-bytes.ensures.reads;
-      untouched = λ wants held. c.answer_read.ensures.untouched wants;
+      obeys = auto_taken h c.args.v.now.view.core a _ _ _ _ _ _
+          (reads_on g.H.Shelf.at_last (TellsAutomaton h.core) (λ b. b) (OfWhole (RefusesAutomaton h.core)) _ _ _ held c.in_ok-bytes.ensures.reads c.deref.ensures.value all tells tt)
+          c.answer_read-ended.ensures.obeys;
+      untouched = λ wants held. c.answer_read-ended.ensures.untouched wants;
     }
