@@ -115,47 +115,56 @@ pub fits_byte : (x y k : ℕ) → x ≡ y → y < k → k ≤ 64 → Fits w8 x
 fits_byte x y k is below few = omega arith
 
 -- one move of a list, and a table of those before it
-module _ (k n : ℕ) (moves : List Move) (bounds : (v : Move) → IsIn v moves → (v.from < k) × (v.module_no < n) × (v.to < k)) (i : ℕ) (v : Move) (was : v ≡ get_or moves i v) (inside : i < length moves) where
-  pub bound : (v.from < k) × (v.module_no < n) × (v.to < k)
-  bound = bounds v (subst (λ w. IsIn w moves) (sym was) (get_in i moves v inside))
+module _ (k : ℕ) (moves : List Move) (bounds : (v : Move) → IsIn v moves → (v.from < k) × (v.to < k)) (i : ℕ) (v : Move) (was : v ≡ get_or moves i v) (inside : i < length moves) where
+  here : IsIn v moves
+  here = subst (λ w. IsIn w moves) (sym was) (get_in i moves v inside)
 
-  module _ (table : List (Option ℕ)) (size : length table ≡ n * k) (known : AreMovesOf k (take i moves) table) (before : (j : ℕ) → j < i → IsNewMoveAt moves j)
+  pub bound : (v.from < k) × (v.to < k)
+  bound = bounds v here
+
+  module _ (n : ℕ) (places : (w : Move) → IsIn w moves → in_state k w.from w.module_no < n) (table : List (Option ℕ)) (size : length table ≡ n) (known : AreMovesOf k (take i moves) table) (before : (j : ℕ) → j < i → IsNewMoveAt moves j)
       (place from m : ℕ) (is : place ≡ in_state k from m) (same_from : from ≡ v.from) (same_module : m ≡ v.module_no) where
     place_is : place ≡ in_state k v.from v.module_no
     place_is = is ∙ (ap (λ s. in_state k s m) same_from ∙ ap (in_state k v.from) same_module)
 
     pub place_within : place < length table
-    place_within = subst (λ s. place < s) (sym size) (subst (λ p. p < n * k) (sym place_is) (digits_lt bound.1 bound.0))
+    place_within = subst (λ s. place < s) (sym size) (subst (λ p. p < n) (sym place_is) (places v here))
 
-    module _ (slot : Option ℕ) (read : slot ≡ get_or table place slot) where
-      slot_is : get_or table (in_state k v.from v.module_no) None ≡ slot
-      slot_is = ap (λ p. get_or table p None) (sym place_is) ∙ (at_is (get_or table place slot) place table None (is_at place table slot place_within) ∙ sym read)
+    abbrev slot : Option ℕ
+    slot = get_or table place None
 
-      leads : moved_to (take i moves) v.from v.module_no ≡ slot
-      leads = sym (known v.from v.module_no bound.0) ∙ slot_is
+    slot_is : get_or table (in_state k v.from v.module_no) None ≡ slot
+    slot_is = ap (λ p. get_or table p None) (sym place_is)
 
-      pub taken : is_some slot ≡ true → FailsFirstAt (length moves) (IsNewMoveAt moves) i
-      taken full = record { is_place = inside; before = before; fails = by slot refl full }
-        where
-          by : (o : Option ℕ) → slot ≡ o → is_some o ≡ true → ¬ IsNewMoveAt moves i
-          by None e h = absurd (true≢false (sym h))
-          by (Some t) e h = not_new moves i v was inside t (leads ∙ e)
+    leads : moved_to (take i moves) v.from v.module_no ≡ slot
+    leads = sym (known v.from v.module_no bound.0) ∙ slot_is
 
-      free : is_some slot ≡ false → slot ≡ None
-      free empty = by slot empty
-        where
-          by : (o : Option ℕ) → is_some o ≡ false → o ≡ None
-          by None h = refl
-          by (Some t) h = absurd (true≢false h)
+    pub taken : is_some (get_or table place None) ≡ true → FailsFirstAt (length moves) (IsNewMoveAt moves) i
+    taken full = record { is_place = inside; before = before; fails = by slot refl full }
+      where
+        by : (o : Option ℕ) → slot ≡ o → is_some o ≡ true → ¬ IsNewMoveAt moves i
+        by None e h = absurd (true≢false (sym h))
+        by (Some t) e h = not_new moves i v was inside t (leads ∙ e)
 
-      pub new_more : is_some slot ≡ false → (j : ℕ) → j < i + 1 → IsNewMoveAt moves j
-      new_more empty = below_more (IsNewMoveAt moves) i before (is_new moves i v was inside (leads ∙ free empty))
+    free : is_some (get_or table place None) ≡ false → slot ≡ None
+    free empty = by slot empty
+      where
+        by : (o : Option ℕ) → is_some o ≡ false → o ≡ None
+        by None h = refl
+        by (Some t) h = absurd (true≢false h)
 
-      pub table_next : is_some slot ≡ false → (to : ℕ) → to ≡ v.to → AreMovesOf k (take (i + 1) moves) (set table place (Some to))
-      table_next empty to same =
-          subst (λ t. AreMovesOf k (take (i + 1) moves) (set table place (Some t))) (sym same)
-          (subst (λ p. AreMovesOf k (take (i + 1) moves) (set table p (Some v.to))) (sym place_is)
-          (table_more k moves table i v known was inside bound.0 (subst (λ p. p < length table) place_is place_within) (slot_is ∙ free empty)))
+    pub new_more : is_some (get_or table place None) ≡ false → (j : ℕ) → j < i + 1 → IsNewMoveAt moves j
+    new_more empty = below_more (IsNewMoveAt moves) i before (is_new moves i v was inside (leads ∙ free empty))
+
+    pub table_next : is_some (get_or table place None) ≡ false → (to : ℕ) → to ≡ v.to → AreMovesOf k (take (i + 1) moves) (set table place (Some to))
+    table_next empty to same =
+        subst (λ t. AreMovesOf k (take (i + 1) moves) (set table place (Some t))) (sym same)
+        (subst (λ p. AreMovesOf k (take (i + 1) moves) (set table p (Some v.to))) (sym place_is)
+        (table_more k moves table i v known was inside bound.0 (subst (λ p. p < length table) place_is place_within) (slot_is ∙ free empty)))
+
+-- a table with a place for each module and each state has one for each move
+pub places_within : (k n : ℕ) (moves : List Move) → ((v : Move) → IsIn v moves → (v.from < k) × (v.module_no < n) × (v.to < k)) → (v : Move) → IsIn v moves → in_state k v.from v.module_no < n * k
+places_within k n moves bounds v h = let b = bounds v h in digits_lt b.1 b.0
 
 -- the next state, as the table has it
 module _ (k : ℕ) (moves : List Move) (table : List (Option ℕ)) (known : AreMovesOf k moves table) (s m place : ℕ) (below : s < k) (is : place ≡ in_state k s m) where

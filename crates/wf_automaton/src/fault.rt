@@ -5,7 +5,7 @@ ghost use Rattle.std.specs.Prelude.{◌≡◌};
 use std::alloc::{AllocError, AllocFailed};
 
 /// A member of an automaton.
-#[derive(Clone, Copy, Debug, PartialEq, Eq)]
+#[derive(Clone, Copy)]
 pub enum AutoMember {
     /// The value itself, which is no object.
     Top,
@@ -20,7 +20,7 @@ pub enum AutoMember {
 }
 
 /// What a fault of an automaton is about: a member, or a move by its number, from 0.
-#[derive(Clone, Copy, Debug, PartialEq, Eq)]
+#[derive(Clone, Copy)]
 pub enum AutoSpot {
     InMember(AutoMember),
     MoveAt(u64),
@@ -29,7 +29,7 @@ pub enum AutoSpot {
 /// Why a text is no automaton over the modules of a grammar, in the order of trial.
 ///
 /// Each rule is tried over the whole text before the next one, and the first place that breaks it is told.
-#[derive(Clone, Copy, Debug, PartialEq, Eq)]
+#[derive(Clone, Copy)]
 pub enum AutoFault {
     /// The bytes are not UTF-8, or no JSON value.
     NotJson,
