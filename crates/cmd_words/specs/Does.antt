@@ -10,8 +10,7 @@ use Rattle.wf_stage.specs.Stages.{Stage, OfWhole}
 use Rattle.wf_inputs.specs.Inputs.{labels_kind, SpecStage, ViewStage}
 use Rattle.wf_inputs.specs.LabelsTold.{TellsEntries, RefusesLabels}
 use Rattle.wf_asking.specs.Queries.{QueriesStage}
-use Rattle.cmd_words.specs.declared.command.Command.{Command as CommandHeld}
-use Rattle.cmd_words.specs.declared.command.Command.TheVariants.{Words as WordsHeld}
+use Rattle.cmd_words.specs.declared.words.WordsFiles.{WordsFiles}
 use Rattle.cmd_words.specs.Words.{Command, Words}
 use Rattle.cmd_words.specs.AutoTold.{IsSafeLifted, RefusesLifted, AutoStage}
 
@@ -37,9 +36,9 @@ AnswersView h view auto labels queries = ViewStage h.core view (λ u. AnswersAut
 abbrev pub AnswersByWords : File → File → File → File → File → End → List ℕ → Type 0
 AnswersByWords spec view auto labels queries = SpecStage spec (λ h. AnswersView h view auto labels queries)
 
--- the command that a value is
-abbrev pub meant : CommandHeld → Command
-meant (WordsHeld w) = Words w.spec.now w.view.now w.automaton.now w.labels.now w.queries.now
+-- the command that the names of its files are
+abbrev pub meant : WordsFiles → Command
+meant w = Words w.spec.now w.view.now w.automaton.now w.labels.now w.queries.now
 
 -- what a command does over files
 abbrev pub Does : (List ℕ → File) → Command → End → List ℕ → Type 0

@@ -1,5 +1,6 @@
 // The family of `words`.
-use crate::command::Command;
+use crate::command::command_of;
+use crate::words::obey;
 use std::alloc::Global;
 use wf_io::{Shelf, Sink};
 use wf_message::{Ending, ending_after};
@@ -20,8 +21,8 @@ impl Commands for Family {
         shelf: &mut H,
         out: &mut O,
     ) -> Ending {
-        match Command::command_of(words) {
-            Some(command) => ending_after(command.obey(alloc, shelf, out)),
+        match command_of(words) {
+            Some(files) => ending_after(obey(alloc, &files, shelf, out)),
             None => Ending::Usage,
         }
     }

@@ -4,7 +4,8 @@ ghost use Rattle.words_model.specs.Laws.{Fits};
 ghost use Rattle.words_model.specs.Lifting.{lift};
 ghost use Rattle.wf_message.specs.Endings.{end_after, NoMemory};
 ghost use Rattle.wf_stage.specs.Promises.{Obeys};
-ghost use Rattle.cmd_words.specs.Does.{AnswersLifted, AnswersAuto, AnswersByWords};
+ghost use Rattle.cmd_words.specs.Words.{files_of};
+ghost use Rattle.cmd_words.specs.Does.{AnswersLifted, AnswersAuto, Does, meant};
 
 use crate::auto_input::{AUTO, automaton_of};
 use crate::labels::answer_labels;
@@ -109,16 +110,14 @@ impl UnderView for WordsFiles<'_> {
 /// Answers the queries on the items of a label file: whether a path leads from the first item to the second that passes modules in an order that an automaton accepts. It answers from the labels of the two items, a safe view and the lifted view alone, so that the answer holds however a run that has both is finished.
 ///
 /// Want of memory comes before the first answer is put: the labels of the two views and the room for verdicts are made before it, and an answer takes no memory.
-pub fn words<H: Shelf, O: Sink>(
+pub fn obey<H: Shelf, O: Sink>(
     alloc: Global,
     files: &WordsFiles<'_>,
     shelf: &mut H,
     out: &mut O,
 ) -> Result<(), Stop>
-    ensures obeys { Obeys H.files H.readings H.faults H.at_last O.put_bytes O.faults O.at_last
-        (files.now.spec.now ∷ files.now.view.now ∷ files.now.automaton.now ∷ files.now.labels.now ∷ files.now.queries.now ∷ []) []
-        (λ f. AnswersByWords (f files.now.spec.now) (f files.now.view.now) (f files.now.automaton.now) (f files.now.labels.now) (f files.now.queries.now))
-        shelf.old shelf.new out.old out.new (end_after result) }
+    ensures obeys { Obeys H.files H.readings H.faults H.at_last O.put_bytes O.faults O.at_last (files_of (meant files.now)) []
+        (λ f. Does f (meant files.now)) shelf.old shelf.new out.old out.new (end_after result) }
     ensures untouched { end_after result ≡ NoMemory → (O.put_bytes out.new ≡ O.put_bytes out.old) × (O.faults out.new ≡ O.faults out.old) }
 {
     under_view(alloc, files.spec, files.view, files, shelf, out)
