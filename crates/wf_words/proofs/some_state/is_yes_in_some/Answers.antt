@@ -8,6 +8,14 @@ pub returns-then-is_yes_in-clause-yes : goal.returns-then-is_yes_in-clause-yes
 returns-then-is_yes_in-clause-yes g c u x y of hx hy ex ey =
     yes_told ((t : ℕ) × IsYesIn c.args.words.now u x y t) (c.loop-state.state, (c.is_yes_in.ensures.yes u x y of hx hy ex ey).0 c.if-is_yes_in.true)
 
+pub loop-state-init : goal.loop-state-init
+loop-state-init g c = record {
+  none = λ u x y of hx hy ex ey t below. absurd (omega (arith, below));
+  room = refl;
+  label_room = refl;
+  cost = λ most few. omega arith;
+}
+
 pub loop-state-preserved : goal.loop-state-preserved
 loop-state-preserved g c = record {
   none = λ u x y of hx hy ex ey. none_more c.args.words.now u x y c.loop-state.state (c.loop-state.invariant.none u x y of hx hy ex ey) (λ h. true≢false (sym ((c.is_yes_in.ensures.yes u x y of hx hy ex ey).1 h) ∙ c.if-is_yes_in.false));
