@@ -13,10 +13,10 @@ ghost use Rattle.wf_asking.specs.Queries.{QueriesStage};
 ghost use Rattle.cmd_words.specs.LiftedViews.{IsLiftedView};
 ghost use Rattle.cmd_words.specs.Does.{AnswersLabels};
 
-use crate::let_go::let_go;
 use crate::prepared::Prepared;
 use label_file::{Guesses, Store};
 use std::alloc::Global;
+use std::mem::drop;
 use wf_asking::queries_stage;
 use wf_automaton::Automaton;
 use wf_inputs::{LABELS, store_of};
@@ -58,7 +58,7 @@ fn answer_under<H: Shelf, O: Sink>(
         guesses: Guesses::new(),
     };
     let ended = queries_stage(alloc, &mut prepared, shelf, name, out);
-    let_go(prepared);
+    drop(prepared);
     ended
 }
 
@@ -91,7 +91,7 @@ fn answer_over<H: Shelf, O: Sink>(
         return Err(Stop::NoMemory);
     };
     let ended = answer_under(alloc, automaton, plain, &raised, store, name, shelf, out);
-    let_go(raised);
+    drop(raised);
     ended
 }
 
@@ -119,7 +119,7 @@ fn answer_queries<H: Shelf, O: Sink>(
         return Err(Stop::NoMemory);
     };
     let ended = answer_over(alloc, v, automaton, &plain, lifted, store, name, shelf, out);
-    let_go(plain);
+    drop(plain);
     ended
 }
 
@@ -145,7 +145,7 @@ pub(crate) fn answer_labels<H: Shelf, O: Sink>(
     let key = shelf.hash_key();
     let store = store_of(alloc, key, v.accepted(), &bytes)?;
     let ended = answer_queries(alloc, v, automaton, lifted, &store, queries, shelf, out);
-    let_go(store);
-    let_go(bytes);
+    drop(store);
+    drop(bytes);
     ended
 }

@@ -6,7 +6,6 @@ mod auto_input;
 mod command;
 mod family;
 mod labels;
-mod let_go;
 mod lifted;
 mod prepared;
 mod words;

@@ -9,9 +9,9 @@ ghost use Rattle.cmd_words.specs.Does.{AnswersLifted, AnswersAuto, Does, meant};
 
 use crate::auto_input::{AUTO, automaton_of};
 use crate::labels::answer_labels;
-use crate::let_go::let_go;
 use crate::lifted::{lifted_grammar, lifted_view};
 use std::alloc::Global;
+use std::mem::drop;
 use wf_accept::Accepted;
 use wf_automaton::Automaton;
 use wf_inputs::{UnderView, under_view};
@@ -58,7 +58,7 @@ fn answer_lifted<H: Shelf, O: Sink>(
         shelf,
         out,
     );
-    let_go(lifted);
+    drop(lifted);
     ended
 }
 
@@ -79,7 +79,7 @@ fn answer_read<H: Shelf, O: Sink>(
 {
     let grammar = lifted_grammar(alloc, v, automaton)?;
     let ended = answer_lifted(alloc, v, automaton, &grammar, files, shelf, out);
-    let_go(grammar);
+    drop(grammar);
     ended
 }
 
@@ -101,8 +101,8 @@ impl UnderView for WordsFiles<'_> {
         let bytes = read_file(alloc, shelf, self.automaton, AUTO)?;
         let automaton = automaton_of(alloc, v.grammar(), &bytes)?;
         let ended = answer_read(alloc, v, &automaton, self, shelf, out);
-        let_go(automaton);
-        let_go(bytes);
+        drop(automaton);
+        drop(bytes);
         ended
     }
 }

@@ -46,7 +46,11 @@ returns-clause-kept c =
     let p = c.args.parts.now in
     let some : 0 < p.states = (let n = c.if-parts-eq0.false in omega arith) in (
       λ k h. (some, c.if-parts-gt64.false),
-      (λ k h. c.if-parts.false,
-      (subst (λ (l : List ℕ). HoldsThroughout (each l (λ s. s < p.states) (λ k. StateBad Accept))) c.items.ensures c.in_default.ensures,
-      (subst (λ (l : List MovePart). HoldsThroughout (each l (IsMoveBelow p.states) (λ k. StateBad Moves))) c.items-2.ensures c.in_default-first_move_past.ensures, tt))),
+      (
+        λ k h. c.if-parts.false,
+        (
+          subst (λ (l : List ℕ). HoldsThroughout (each l (λ s. s < p.states) (λ k. StateBad Accept))) c.items.ensures c.in_default.ensures,
+          (subst (λ (l : List MovePart). HoldsThroughout (each l (IsMoveBelow p.states) (λ k. StateBad Moves))) c.items-2.ensures c.in_default-first_move_past.ensures, tt),
+        ),
+      ),
     )
