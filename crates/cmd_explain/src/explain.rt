@@ -8,6 +8,7 @@ ghost use Rattle.cmd_explain.specs.Does.{ExplainsRun, Explains};
 
 use crate::reason::put_reason;
 use std::alloc::Global;
+use std::mem::drop;
 use wf_chain::ViewedRun;
 use wf_flat::PlainRun;
 use wf_inputs::{UnderView, events_stage, under_view};
@@ -41,13 +42,15 @@ fn explain_run<O: Sink>(
     let Ok(viewed) = ViewedRun::of(alloc, v, run) else {
         return Err(Stop::NoMemory);
     };
-    put_reason(
+    let ended = put_reason(
         alloc,
         &viewed,
         words.first.as_bytes(),
         words.second.as_bytes(),
         out,
-    )
+    );
+    drop(viewed);
+    ended
 }
 
 impl UnderView for ExplainWords<'_> {
@@ -65,7 +68,9 @@ impl UnderView for ExplainWords<'_> {
         out: &mut O,
     ) -> Result<(), Stop> {
         let run = events_stage(alloc, shelf, self.events, v.grammar())?;
-        explain_run(alloc, v, &run, self, out)
+        let ended = explain_run(alloc, v, &run, self, out);
+        drop(run);
+        ended
     }
 }
 

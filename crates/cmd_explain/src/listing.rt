@@ -6,6 +6,7 @@ ghost use Rattle.cmd_explain.specs.Does.{ListsLabels, Lists};
 
 use crate::put::put_listing;
 use std::alloc::Global;
+use std::mem::drop;
 use wf_inputs::{LABELS, UnderView, store_of, under_view};
 use wf_io::{Shelf, Sink};
 use wf_lineage::Direction;
@@ -46,14 +47,17 @@ impl UnderView for Listed<'_> {
         let bytes = read_file(alloc, shelf, self.words.labels, LABELS)?;
         let key = shelf.hash_key();
         let store = store_of(alloc, key, v.accepted(), &bytes)?;
-        put_listing(
+        let ended = put_listing(
             alloc,
             v,
             &store,
             self.direction,
             self.words.item.as_bytes(),
             out,
-        )
+        );
+        drop(store);
+        drop(bytes);
+        ended
     }
 }
 

@@ -18,6 +18,7 @@ use bool_mat::Steps;
 use label_file::Store;
 use std::alloc::Global;
 use std::marker::Brand;
+use std::mem::drop;
 use std::sync::ledger::{Blank, Ledger};
 use wf_decode::{HeldEnd, Scratch};
 use wf_io::Sink;
@@ -78,7 +79,10 @@ fn put_end<L: Ledger, O: Sink>(
     let Ok(mut due) = Due::new(alloc) else {
         return Err(Stop::NoMemory);
     };
-    put_listed(store, vl, &mut scratch, direction, of, steps, &mut due, out)
+    let ended = put_listed(store, vl, &mut scratch, direction, of, steps, &mut due, out);
+    drop(due);
+    drop(scratch);
+    ended
 }
 
 /// Reads a label, and puts what is listed for its item, with a counter of row products of its own.
@@ -103,7 +107,9 @@ fn put_counted<L: Ledger, O: Sink>(
     let Ok(of) = HeldEnd::read(alloc, vl, direction.side(), label, &mut steps) else {
         return Err(Stop::NoMemory);
     };
-    put_end(alloc, store, vl, direction, &of, &mut steps, out)
+    let ended = put_end(alloc, store, vl, direction, &of, &mut steps, out);
+    drop(of);
+    ended
 }
 
 /// Reads a label, and puts what is listed for its item.
@@ -145,5 +151,7 @@ pub(crate) fn put_listing<O: Sink>(
     let Ok(label) = ViewLabel::build(alloc, v) else {
         return Err(Stop::NoMemory);
     };
-    put_label(alloc, store, &label, direction, bits, out)
+    let ended = put_label(alloc, store, &label, direction, bits, out);
+    drop(label);
+    ended
 }

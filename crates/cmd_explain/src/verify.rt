@@ -9,6 +9,7 @@ ghost use Rattle.wf_reason.specs.Checked.{IsSaidOf};
 ghost use Rattle.cmd_explain.specs.Verifying.{VerifiesRun, Verifies};
 
 use std::alloc::Global;
+use std::mem::drop;
 use wf_chain::ViewedRun;
 use wf_flat::PlainRun;
 use wf_inputs::{UnderView, events_stage, under_view};
@@ -43,7 +44,9 @@ fn verify_run<H: Shelf, O: Sink>(
     let Ok(viewed) = ViewedRun::of(alloc, v, run) else {
         return Err(Stop::NoMemory);
     };
-    verify_chain(alloc, &viewed, shelf, name, out)
+    let ended = verify_chain(alloc, &viewed, shelf, name, out);
+    drop(viewed);
+    ended
 }
 
 impl UnderView for VerifyWords<'_> {
@@ -61,7 +64,9 @@ impl UnderView for VerifyWords<'_> {
         out: &mut O,
     ) -> Result<(), Stop> {
         let run = events_stage(alloc, shelf, self.events, v.grammar())?;
-        verify_run(alloc, v, &run, self.chain, shelf, out)
+        let ended = verify_run(alloc, v, &run, self.chain, shelf, out);
+        drop(run);
+        ended
     }
 }
 

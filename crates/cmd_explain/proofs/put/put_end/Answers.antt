@@ -10,4 +10,4 @@ pub returns-in_default-new : goal.returns-in_default-new
 returns-in_default-new g c = record { writes = λ u es y of held of_y y_is. writes_wanting [] _ (begins_nothing _) _ }
 
 pub returns : goal.returns
-returns g c = record { writes = c.put_listed.ensures.writes }
+returns g c = record { writes = c.put_listed-ended.ensures.writes }

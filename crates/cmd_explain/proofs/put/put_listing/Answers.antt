@@ -17,8 +17,8 @@ pub returns-in_default-build : goal.returns-in_default-build
 returns-in_default-build g c = record { writes = λ es held. writes_wanting [] _ (begins_nothing _) _ }
 
 -- the label of the view is of the same grammar
-pub put_label-requires : goal.put_label-requires
-put_label-requires g c = record {
+pub put_label-ended-requires : goal.put_label-ended-requires
+put_label-ended-requires g c = record {
   store = subst (λ (x : Grammar). IsStoreFor x c.args.store.now) (sym c.in-Ok.ensures.grammar) c.requires.store;
   label = subst (λ (x : Grammar). AreLabelBits x c.in-Some.bits) (sym c.in-Ok.ensures.grammar) (c.requires.store.labels _ c.in-Some.ensures.found);
 }
@@ -28,5 +28,5 @@ returns g c = record {
   writes = λ es held.
       item_put c.args.v.now.accepted.grammar.core c.args.v.now.view.core c.args.direction es c.args.store.now c.requires.store held c.args.item.now _ _ _
       c.in-Ok.label c.in-Ok.ensures.grammar c.in-Ok.ensures.label c.in-Some.bits c.in-Some.bits c.in-Some.ensures.found
-      refl c.put_label.ensures.writes;
+      refl c.put_label-ended.ensures.writes;
 }

@@ -13,5 +13,5 @@ returns-in_default g c =
 pub returns : goal.returns
 returns g c =
     record {
-      obeys = for_run _ _ _ _ _ _ _ c.in-Ok.viewed c.in-Ok.ensures.viewed c.in-Ok.ensures.run c.verify_chain.ensures.obeys;
+      obeys = for_run _ _ _ _ _ _ _ c.in-Ok.viewed c.in-Ok.ensures.viewed c.in-Ok.ensures.run c.verify_chain-ended.ensures.obeys;
     }

@@ -23,6 +23,6 @@ returns g c =
     record {
       obeys = with_grammar _ (λ f h. ExplainsRun h.core u (f c.args.self.now.events.now) c.args.self.now.first.now c.args.self.now.second.now) _ _ _ _ _ _ _ c.grammar.ensures.grammar
           (events_go c.grammar.result.now.core _ _ _ _ _ _ _ _ c.in_ok-run.ensures.reads
-          (with_grammar _ (λ f h. IsReason h.core u (events_of c.in_ok-run.run') c.args.self.now.first.now c.args.self.now.second.now) _ _ _ _ _ _ _ (sym c.grammar.ensures.grammar) (obeys_writing _ _ _ _ _ _ c.explain_run.ensures.writes)));
+          (with_grammar _ (λ f h. IsReason h.core u (events_of c.in_ok-run.run') c.args.self.now.first.now c.args.self.now.second.now) _ _ _ _ _ _ _ (sym c.grammar.ensures.grammar) (obeys_writing _ _ _ _ _ _ c.explain_run-ended.ensures.writes)));
       untouched = λ _ held. absurd held;
     }

@@ -40,8 +40,8 @@ returns-in_err-store g c =
       untouched = λ _ held. absurd held;
     }
 
-pub put_listing-requires : goal.put_listing-requires
-put_listing-requires g c =
+pub put_listing-ended-requires : goal.put_listing-ended-requires
+put_listing-ended-requires g c =
     let s = subst (λ (s : AcceptedValue). (entries : List Entry) × TellsEntries s.grammar c.deref.result.now entries × AreHeldOf s.grammar.core entries c.in_ok-store.store) c.accepted.ensures.accepted c.in_ok-store.ensures.store in
     record { store = store_of_held c.args.v.now.accepted.grammar.core s.0 c.in_ok-store.store s.2 (told_differ c.args.v.now.accepted.grammar c.deref.result.now s.0 s.1) }
 
@@ -52,6 +52,6 @@ returns g c =
     let all : Result (List Entry) Stop = Ok s.0 in
     record {
       obeys = labels_go h _ _ _ _ _ _ _ s.0 (reads_on g.H.Shelf.at_last (TellsEntries h) (λ es. es) (OfWhole (RefusesLabels h)) _ _ _ c.deref.result.now c.in_ok-bytes.ensures.reads c.deref.ensures.value all s.1 tt)
-          (obeys_writing _ _ _ _ _ _ (writes_same (ListsItem h.core c.args.v.now.view.core c.args.self.now.direction s.0) _ _ _ _ _ c.as_bytes.ensures.value (c.put_listing.ensures.writes s.0 s.2)));
+          (obeys_writing _ _ _ _ _ _ (writes_same (ListsItem h.core c.args.v.now.view.core c.args.self.now.direction s.0) _ _ _ _ _ c.as_bytes.ensures.value (c.put_listing-ended.ensures.writes s.0 s.2)));
       untouched = λ _ held. absurd held;
     }

@@ -25,6 +25,6 @@ returns g c =
     record {
       obeys = with_grammar _ (λ f h. VerifiesRun h.core u (f c.args.self.now.events.now) (f c.args.self.now.chain.now)) _ _ _ _ _ _ _ c.grammar.ensures.grammar
           (events_go c.grammar.result.now.core _ _ _ _ _ _ _ _ c.in_ok-run.ensures.reads
-          (with_grammar _ (λ f h. ChainStage (lines_in (f c.args.self.now.chain.now)) (IsSaidOf h.core u (events_of c.in_ok-run.run'))) _ _ _ _ _ _ _ (sym c.grammar.ensures.grammar) c.verify_run.ensures.obeys));
+          (with_grammar _ (λ f h. ChainStage (lines_in (f c.args.self.now.chain.now)) (IsSaidOf h.core u (events_of c.in_ok-run.run'))) _ _ _ _ _ _ _ (sym c.grammar.ensures.grammar) c.verify_run-ended.ensures.obeys));
       untouched = λ _ held. absurd held;
     }
