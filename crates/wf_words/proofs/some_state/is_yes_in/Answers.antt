@@ -1,4 +1,4 @@
-use Rattle.std.proofs.Common.{◌≡◌, ◌≤◌, ◌+◌, ◌∙◌, ℕ, length, refl, ap, sym, subst}
+use Rattle.std.proofs.Common.{◌≡◌, ◌≤◌, ◌+◌, ◌∙◌, ℕ, length, refl, ap, sym, subst, arith}
 use Rattle.wf_model.specs.Lists.{IsIn}
 use Rattle.decode_model.specs.Counts.{most_products}
 use Rattle.wf_recur.specs.Cycles.{round_at}
@@ -58,3 +58,9 @@ returns-in_default g c =
       idle = λ none. absurd (none (subst (λ (w : WordViewSeen). IsIn c.args.state w.automaton.accept) c.words.view_is (c.accepts.ensures.0 c.if-not-accepts.false)));
       cost = dear _ w c.words.view_is c.args.steps.now c.decide-verdict.new.steps c.decide-verdict.ensures.cost;
     }
+
+pub returns-then-not-accepts-clause-idle : goal.returns-then-not-accepts-clause-idle
+returns-then-not-accepts-clause-idle g c out = refl
+
+pub returns-then-not-accepts-clause-cost : goal.returns-then-not-accepts-clause-cost
+returns-then-not-accepts-clause-cost g c most few = omega arith
